@@ -1,0 +1,86 @@
+-- The instance that a table describes, what one unit sees of it, and where the bytes of a pair cost stand.
+-- Units count from 0 here: place k is document 01's unit k + 1. Values count from 1, as in document 01.
+-- Assumes nothing.
+use Prim.Native.Nat.{ℕ, zero, suc, _+_, _*_, _-_, pred}
+use mathlib.Core.Bool.{Bool, true, false, cond, not, _&&_}
+use mathlib.Core.List.{List}
+use lib.Dec.{ltb, leb, eqb}
+use lib.ListN.{getD, take, drop}
+use Rattle.base.specs.Bytes.{u16At}
+use Rattle.base.specs.Sums.{sumFrom, sumTo}
+
+-- ---- the instance
+
+-- n units with their domain sizes, and the cost of value u of unit i with value v of a later unit j
+pub record Instance : Type 0 where
+  pub n : ℕ
+  pub dom : ℕ → ℕ
+  pub cost : ℕ → ℕ → ℕ → ℕ → ℕ
+
+-- What one unit sees: its own place, and `pair j u v`, the cost of its own value v with value u of unit j.
+pub record View : Type 0 where
+  pub place : ℕ
+  pub n : ℕ
+  pub dom : ℕ → ℕ
+  pub pair : ℕ → ℕ → ℕ → ℕ
+
+abbrev pub viewOf : Instance → ℕ → View
+viewOf I k = record { place = k; n = I .n; dom = I .dom; pair = λ j u v. cond (ltb j k) (I .cost j u k v) (I .cost k v j u) }
+
+-- ---- where costs stand
+
+-- the domain sizes of the first n of a list of sizes, 0 for no unit
+abbrev pub domIn : ℕ → List ℕ → ℕ → ℕ
+domIn n sizes k = getD (take n sizes) k 0
+
+-- v is a value of a unit of d values
+abbrev pub isValue : ℕ → ℕ → Bool
+isValue d v = leb 1 v && leb v d
+
+-- how many costs a table has before those of the pairs of unit i, and of the pair (i, j)
+-- 01: "for pairs (1,2), (1,3) .. (n-1,n)"
+abbrev pub rowStart : (ℕ → ℕ) → ℕ → ℕ → ℕ
+rowStart dom n i = sumTo (λ a. dom a * sumFrom dom (suc a) (n - suc a)) i
+
+abbrev pub pairStart : (ℕ → ℕ) → ℕ → ℕ → ℕ → ℕ
+pairStart dom n i j = rowStart dom n i + dom i * sumFrom dom (suc i) (j - suc i)
+
+-- the place of a cost among those of its pair, 01: "by the value of the lower unit, then of the higher"
+abbrev pub inPair : ℕ → ℕ → ℕ → ℕ
+inPair d u v = (u - 1) * d + (v - 1)
+
+-- the 16-bit cost number k of a list of costs
+abbrev pub costNumber : List ℕ → ℕ → ℕ
+costNumber costs k = u16At costs (2 * k)
+
+-- A cost of a table, from all its costs; 0 where there is no such pair of values.
+abbrev pub tableCost : ℕ → (ℕ → ℕ) → List ℕ → ℕ → ℕ → ℕ → ℕ → ℕ
+tableCost n dom costs i u j v =
+    cond (ltb i j && ltb j n && isValue (dom i) u && isValue (dom j) v) (costNumber costs (pairStart dom n i j + inPair (dom j) u v)) 0
+
+-- The instance of a stream: n, then n sizes, then the costs.
+unfoldable pub instanceOf : List ℕ → Instance
+instanceOf s =
+    let n = getD s 0 0 in
+    let dom = domIn n (drop 1 s) in
+    record { n = n; dom = dom; cost = tableCost n dom (drop (1 + n) s) }
+
+-- ---- the costs that touch one unit, 01: "by the other unit ascending, each pair in the stream's order"
+
+-- how many of them stand before those with unit j
+abbrev pub otherStart : (ℕ → ℕ) → ℕ → ℕ → ℕ
+otherStart dom k j = dom k * sumTo (λ b. cond (eqb b k) 0 (dom b)) j
+
+-- the place of the cost of own value v with value u of unit j, among those with unit j
+abbrev pub inOther : (ℕ → ℕ) → ℕ → ℕ → ℕ → ℕ → ℕ
+inOther dom k j u v = cond (ltb j k) (inPair (dom k) u v) (inPair (dom j) v u)
+
+abbrev pub lentCost : ℕ → (ℕ → ℕ) → ℕ → List ℕ → ℕ → ℕ → ℕ → ℕ
+lentCost n dom k costs j u v =
+    cond (not (eqb j k) && ltb j n && isValue (dom j) u && isValue (dom k) v) (costNumber costs (otherStart dom k j + inOther dom k j u v)) 0
+
+-- What unit `own` (1 to n) sees in the costs lent with it.
+unfoldable pub lentView : ℕ → ℕ → List ℕ → List ℕ → View
+lentView own n sizes costs =
+    let dom = domIn n sizes in
+    record { place = pred own; n = n; dom = dom; pair = lentCost n dom (pred own) costs }

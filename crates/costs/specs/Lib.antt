@@ -1,0 +1,3 @@
+-- Pair costs and what is worked out from them, in reading order.
+pub mod Instance
+pub mod Bounds

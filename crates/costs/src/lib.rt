@@ -1,0 +1,1 @@
+// Pair costs, and what is worked out from them.
