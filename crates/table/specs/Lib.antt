@@ -1,0 +1,3 @@
+-- The stored table: the stream, a block, a file of blocks, and what reading and writing give.
+pub mod Stream
+pub mod StreamLaws

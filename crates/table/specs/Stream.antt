@@ -1,0 +1,52 @@
+-- The stream of a table: n, the n sizes, the costs of all pairs; and what is wrong with a list that is none.
+-- Document 01, "Stored table" and refusals 5, 6, 7. The facts about these are in StreamLaws.
+-- Assumes nothing.
+use Prim.Native.Nat.{ℕ, zero, suc, _+_, _*_}
+use mathlib.Core.Bool.{Bool, true, false, cond, _&&_}
+use mathlib.Core.List.{List, [], _∷_}
+use mathlib.Core.Path.{_≡_}
+use lib.Dec.{eqb, leb}
+use lib.ListN.{length, getD, take, drop}
+use Rattle.base.specs.Bytes.{u16At}
+use Rattle.base.specs.Shape.{shapeGood}
+
+-- 01: "n, then n sizes". In a shorter stream, the sizes that are present.
+abbrev pub unitsOf : List ℕ → ℕ
+unitsOf s = getD s 0 0
+
+abbrev pub sizesOf : List ℕ → List ℕ
+sizesOf s = take (unitsOf s) (drop 1 s)
+
+unfoldable pub sumList : List ℕ → ℕ
+sumList [] = 0
+sumList (d ∷ ds) = d + sumList ds
+
+-- 01: "Each pair i < j has a cost .. for each value of i and of j": how many costs these sizes need
+unfoldable pub pairsIn : List ℕ → ℕ
+pairsIn [] = 0
+pairsIn (d ∷ ds) = d * sumList ds + pairsIn ds
+
+-- how many bytes n and the sizes need
+abbrev pub needed : List ℕ → ℕ
+needed s = 1 + unitsOf s + 2 * pairsIn (sizesOf s)
+
+-- 01: "the costs as 16-bit numbers": cost number k, from 0
+abbrev pub costAt : List ℕ → ℕ → ℕ
+costAt s k = u16At s (1 + unitsOf s + 2 * k)
+
+-- the m costs from number k on are at most 60,000
+unfoldable pub costsGood : List ℕ → ℕ → ℕ → Bool
+costsGood s k zero = true
+costsGood s k (suc m) = leb (costAt s k) 60000 && costsGood s (suc k) m
+
+-- 01: "In a stream too short for n or the sizes, those present are checked by 5, then it is 6"
+unfoldable pub streamRefusal : List ℕ → ℕ
+streamRefusal s =
+    cond (eqb (length s) 0) 6
+    (cond (shapeGood (unitsOf s) (drop 1 s))
+    (cond (eqb (length s) (needed s)) (cond (costsGood s 0 (pairsIn (sizesOf s))) 0 7) 6)
+    5)
+
+-- the stream passes 5, 6 and 7
+unfoldable pub Accepted : List ℕ → Type 0
+Accepted s = streamRefusal s ≡ 0
