@@ -1,0 +1,133 @@
+-- What a message holds, and which fields go together. Document 01, 'Radio message, 64 bytes'.
+--     kindCode, refusalOf     01's number for each case of the two enums
+--     Packet, noMessage       a message with its kind; the message whose fields are all zero
+--     NONE, totalLimit, prefixLimit     the limits, each here alone
+--     filledTo                which places of a stamp or an assignment are filled
+--     boundGood, noneOrBound, noBound   a bound with its best assignment
+--     addressGood, wellFormed           01's checks 10 and 9 on the fields
+-- Assumes nothing.
+use Prim.Native.Nat.{ℕ, zero, suc, _+_, _*_, _-_}
+use mathlib.Core.Bool.{Bool, true, false, cond, not, _&&_, _||_}
+use mathlib.Core.List.{List, [], _∷_}
+use lib.Dec.{ltb, leb, eqb}
+use lib.ListN.{getD, replicate}
+use Rattle.message.specs.declared.Kind.{Kind}
+use Rattle.message.specs.declared.Kind.the-variants.{Cpa, Request, Estimate, Solution, Stop}
+use Rattle.message.specs.declared.Read.{Read}
+use Rattle.message.specs.declared.Read.the-variants.{Good, Refused}
+use Rattle.message.specs.declared.Message.{Message}
+
+-- 01: "1 paper, 2 copy, 3 estimate, 4 news, 5 stop"
+abbrev pub kindCode : Kind → ℕ
+kindCode Cpa = 1
+kindCode Request = 2
+kindCode Estimate = 3
+kindCode Solution = 4
+kindCode Stop = 5
+
+-- the refusal's number, 0 for a good message
+abbrev pub refusalOf : Read → ℕ
+refusalOf (Good k) = 0
+refusalOf (Refused r) = r
+
+-- a message with its kind
+pub record Packet : Type 0 where
+  pub kind : Kind
+  pub message : Message
+
+-- the message beside a refusal
+abbrev pub noMessage : Message
+noMessage = record { sender = 0; receiver = 0; stamp = replicate 16 0; values = replicate 16 0; cost = 0; bound = 0; best = replicate 16 0 }
+
+-- 01: "None as a bound is 4,294,967,295"
+abbrev pub NONE : ℕ
+NONE = 4294967295
+
+-- 01: "an estimate at most 7,200,000", "A bound is at most 7,200,000"
+abbrev pub totalLimit : ℕ
+totalLimit = 7200000
+
+-- 01: "A paper or copy with k filled units costs at most 30,000 × k × (k-1)"
+abbrev pub prefixLimit : ℕ → ℕ
+prefixLimit k = 30000 * k * (k - 1)
+
+-- whether p holds of 0, 1, .., m - 1
+abbrev pub every : (ℕ → Bool) → ℕ → Bool
+every p zero = true
+every p (suc m) = every p m && p m
+
+-- a place of a stamp or an assignment: 1 to the domain size where it is filled, else 0
+abbrev pub placeGood : Bool → ℕ → ℕ → Bool
+placeGood true d x = leb 1 x && leb x d
+placeGood false d x = eqb x 0
+
+-- 01: "Filled stamp and value bytes are 1 to d(k), others 0": units 1 to k are filled, and no others of the 16
+unfoldable pub filledTo : ℕ → List ℕ → List ℕ → Bool
+filledTo k sizes l = every (λ (j : ℕ). placeGood (ltb j k) (getD sizes j 0) (getD l j 0)) 16
+
+-- 01: "A bound is at most 7,200,000 with best filled for all n and zero after"
+unfoldable pub boundGood : ℕ → List ℕ → ℕ → List ℕ → Bool
+boundGood n sizes bound best = leb bound totalLimit && filledTo n sizes best
+
+-- 01: "or, on papers and stops only, none with best all zero"
+unfoldable pub noneOrBound : ℕ → List ℕ → ℕ → List ℕ → Bool
+noneOrBound n sizes bound best = cond (eqb bound NONE) (filledTo 0 sizes best) (boundGood n sizes bound best)
+
+-- 01: "Fields a kind lacks are zero, the bound included"
+unfoldable pub noBound : List ℕ → ℕ → List ℕ → Bool
+noBound sizes bound best = eqb bound 0 && filledTo 0 sizes best
+
+-- 01: "units 1 to receiver - 1, or 1 to receiver going back, are filled"; "units 1 to sender filled"; "stamp filled for units 1 to receiver"
+unfoldable pub stampCount : Kind → Message → ℕ
+stampCount Cpa m = cond (ltb (m .sender) (m .receiver)) (m .receiver - 1) (m .receiver)
+stampCount Request m = m .sender
+stampCount Estimate m = m .receiver
+stampCount Solution m = 0
+stampCount Stop m = 0
+
+-- the values are filled as far as the stamp; an estimate has none
+unfoldable pub valueCount : Kind → Message → ℕ
+valueCount Cpa m = stampCount Cpa m
+valueCount Request m = stampCount Request m
+valueCount Estimate m = 0
+valueCount Solution m = 0
+valueCount Stop m = 0
+
+-- the most that the cost may be; 0 where the kind has none
+unfoldable pub costLimit : Kind → Message → ℕ
+costLimit Cpa m = prefixLimit (stampCount Cpa m)
+costLimit Request m = prefixLimit (stampCount Request m)
+costLimit Estimate m = totalLimit
+costLimit Solution m = 0
+costLimit Stop m = 0
+
+-- which bounds a kind may carry
+unfoldable pub boundFits : ℕ → List ℕ → Kind → ℕ → List ℕ → Bool
+boundFits n sizes Cpa bound best = noneOrBound n sizes bound best
+boundFits n sizes Request bound best = noBound sizes bound best
+boundFits n sizes Estimate bound best = noBound sizes bound best
+boundFits n sizes Solution bound best = boundGood n sizes bound best
+boundFits n sizes Stop bound best = noneOrBound n sizes bound best
+
+-- 01: "receiver is sender + 1 (going down) or sender - 1 (going back)"; "Copy: sender < receiver"; "Estimate: sender > receiver";
+-- "News (from unit n) and stop (from unit 1), to another unit"
+unfoldable pub directionGood : ℕ → Kind → ℕ → ℕ → Bool
+directionGood n Cpa s r = eqb r (s + 1) || eqb s (r + 1)
+directionGood n Request s r = ltb s r
+directionGood n Estimate s r = ltb r s
+directionGood n Solution s r = eqb s n && not (eqb r s)
+directionGood n Stop s r = eqb s 1 && not (eqb r s)
+
+-- a unit number, 1 to n
+abbrev pub isUnit : ℕ → ℕ → Bool
+isUnit n i = leb 1 i && leb i n
+
+-- 01, refusal 10: "sender or receiver not 1 to n"
+unfoldable pub addressGood : ℕ → Message → Bool
+addressGood n m = isUnit n (m .sender) && isUnit n (m .receiver)
+
+-- 01, refusal 9: "a message field against its kind"
+unfoldable pub wellFormed : ℕ → List ℕ → Kind → Message → Bool
+wellFormed n sizes k m =
+    directionGood n k (m .sender) (m .receiver) && filledTo (stampCount k m) sizes (m .stamp) && filledTo (valueCount k m) sizes (m .values)
+    && leb (m .cost) (costLimit k m) && boundFits n sizes k (m .bound) (m .best)
