@@ -1,3 +1,4 @@
 -- Pair costs and what is worked out from them, in reading order.
 pub mod Instance
 pub mod Bounds
+pub mod Problem

@@ -1,0 +1,87 @@
+-- All that the protocol's proof knows of an instance: how many units and values there are, three functions of a prefix, and
+-- the laws that tie them together. A prefix (01: "beginning") is the list of its values, the LAST unit's first: `v ∷ b` is the
+-- prefix b followed by the value v of unit `length b`. Units count from 0.
+-- Assumes nothing.
+use Prim.Native.Nat.{ℕ, zero, suc, _+_, _-_, _≤_, _<_}
+use mathlib.Core.Path.{_≡_, sym, subst}
+use mathlib.Core.List.{List, [], _∷_}
+use native.Mathlib.Omega.{arith}
+use lib.ListN.{length}
+use Rattle.base.specs.Sums.{sumFrom}
+
+-- ---- the problem
+pub record Problem : Type 0 where
+  pub n : ℕ  -- how many units
+  pub dom : ℕ → ℕ  -- dom k: how many values unit k has
+  pub cost : List ℕ → ℕ  -- the cost of a prefix
+  pub low : List ℕ → ℕ  -- that and h of its last value
+  pub est : ℕ → List ℕ → ℕ  -- est j b: unit j's estimate for the prefix b
+
+module _ (P : Problem) where
+  -- each value is one of its unit's
+  abbrev pub InDom : List ℕ → Type 0
+  InDom [] = Unit {0}
+  InDom (v ∷ b) = (1 ≤ v) × (v ≤ P .dom (length b)) × InDom b
+
+  -- a full assignment, 01: "full lotting"
+  abbrev pub Full : List ℕ → Type 0
+  Full l = (length l ≡ P .n) × InDom l
+
+  -- every assignment that extends b by r more units costs at least B
+  abbrev pub ClosedBy : ℕ → List ℕ → ℕ → Type 0
+  ClosedBy zero b B = B ≤ P .cost b
+  ClosedBy (suc r) b B = (v : ℕ) → 1 ≤ v → v ≤ P .dom (length b) → ClosedBy r (v ∷ b) B
+
+  -- every full assignment that extends b costs at least B
+  abbrev pub Closed : List ℕ → ℕ → Type 0
+  Closed b B = ClosedBy (P .n - length b) b B
+
+-- ---- what the protocol asks of the costs
+pub record Laws (P : Problem) : Type 0 where
+  pub dom16 : (k : ℕ) → P .dom k ≤ 16
+  pub cost-low : (b : List ℕ) → P .cost b ≤ P .low b
+  pub by-low : (b : List ℕ) (B : ℕ) → length b ≤ P .n → B ≤ P .low b → Closed P b B
+  pub by-cost : (b : List ℕ) (B : ℕ) → length b ≤ P .n → B ≤ P .cost b → Closed P b B
+  pub by-ests : (b : List ℕ) (B : ℕ) → length b ≤ P .n → B ≤ P .cost b + sumFrom (λ j. P .est j b) (length b) (P .n - length b) → Closed P b B
+
+-- ---- what follows of Closed for any problem
+module _ (P : Problem) where
+  closedBy-mono : (r : ℕ) (b : List ℕ) {B C : ℕ} → C ≤ B → ClosedBy P r b B → ClosedBy P r b C
+  closedBy-mono zero b h p = omega arith
+  closedBy-mono (suc r) b h p = λ v lo hi. closedBy-mono r (v ∷ b) h (p v lo hi)
+
+  -- a lower bound is reached too
+  pub closed-mono : (b : List ℕ) (B C : ℕ) → C ≤ B → Closed P b B → Closed P b C
+  closed-mono b B C h p = closedBy-mono (P .n - length b) b h p
+
+  -- a prefix is closed if each value after it is
+  pub closed-all : (b : List ℕ) (B : ℕ) → length b < P .n → ((v : ℕ) → 1 ≤ v → v ≤ P .dom (length b) → Closed P (v ∷ b) B) → Closed P b B
+  closed-all b B h f = subst (λ r. ClosedBy P r b B) (sym e) (λ v lo hi. f v lo hi)
+    where
+      e : P .n - length b ≡ suc (P .n - suc (length b))
+      e = omega arith
+
+  -- a full assignment is closed by its own cost
+  pub closed-full : (b : List ℕ) → length b ≡ P .n → Closed P b (P .cost b)
+  closed-full b h = subst (λ r. ClosedBy P r b (P .cost b)) (sym e) (omega arith)
+    where
+      e : P .n - length b ≡ 0
+      e = omega arith
+
+  -- each value after a closed prefix is closed
+  pub closed-next : (b : List ℕ) (v B : ℕ) → length b < P .n → 1 ≤ v → v ≤ P .dom (length b) → Closed P b B → Closed P (v ∷ b) B
+  closed-next b v B h lo hi p = subst (λ r. ClosedBy P r b B) e p v lo hi
+    where
+      e : P .n - length b ≡ suc (P .n - suc (length b))
+      e = omega arith
+
+  closed-from-empty : (B : ℕ) → Closed P [] B → (b : List ℕ) → length b ≤ P .n → InDom P b → Closed P b B
+  closed-from-empty B p [] l d = p
+  closed-from-empty B p (v ∷ b) l d = closed-next b v B l (d .0) (d .1) (closed-from-empty B p b (omega arith) (d .2))
+
+  -- once the empty prefix is closed, no full assignment costs less
+  pub closed-empty : (B : ℕ) → Closed P [] B → (l : List ℕ) → Full P l → B ≤ P .cost l
+  closed-empty B p l f = subst (λ r. ClosedBy P r l B) e (closed-from-empty B p l (omega (arith, f .0)) (f .1))
+    where
+      e : P .n - length l ≡ 0
+      e = omega (arith, f .0)
