@@ -1,0 +1,122 @@
+//! Pair costs, as a whole table and as one unit sees them; units and values count from 1.
+
+use super::Places;
+use std::cell::Cell;
+
+/// How many costs the whole table has.
+pub fn pairs_in_table(n: usize, sizes: &Places) -> usize {
+    let d = |k: usize| sizes[k - 1] as usize;
+    (1..=n).map(|i| (i + 1..=n).map(|j| d(i) * d(j)).sum::<usize>()).sum()
+}
+
+/// How many costs touch a unit.
+pub fn pairs_of_unit(own: usize, n: usize, sizes: &Places) -> usize {
+    let d = |k: usize| sizes[k - 1] as usize;
+    (1..=n).filter(|j| *j != own).map(|j| d(own) * d(j)).sum()
+}
+
+/// The costs that touch a unit, out of the stream of a table.
+/// 01: "by the other unit ascending, each pair in the stream's order".
+pub fn of_unit(stream: &[u8], own: usize) -> Vec<u8> {
+    let n = stream[0] as usize;
+    let d = |k: usize| stream[k] as usize;
+    let mut costs = Vec::new();
+    let mut at = 1 + n;
+    for i in 1..=n {
+        for j in i + 1..=n {
+            let end = at + 2 * d(i) * d(j);
+            if i == own || j == own {
+                costs.extend_from_slice(&stream[at..end]);
+            }
+            at = end;
+        }
+    }
+    costs
+}
+
+/// The cost of a full assignment: the sum over all pairs.
+pub fn total(stream: &[u8], assignment: &[u8]) -> u32 {
+    let n = stream[0] as usize;
+    let d = |k: usize| stream[k] as usize;
+    let mut sum = 0;
+    let mut at = 1 + n;
+    for i in 1..=n {
+        for j in i + 1..=n {
+            let place = at + 2 * ((assignment[i - 1] as usize - 1) * d(j) + assignment[j - 1] as usize - 1);
+            sum += u32::from(u16::from_le_bytes([stream[place], stream[place + 1]]));
+            at += 2 * d(i) * d(j);
+        }
+    }
+    sum
+}
+
+/// The table as one unit sees it.
+pub struct View<'a> {
+    pub own: usize,
+    pub n: usize,
+    pub sizes: Places,
+    costs: &'a [u8],
+    /// Where the costs with each other unit begin.
+    starts: [usize; 16],
+    /// h of each own value.
+    h: [u32; 16],
+    /// How often a cost with each other unit was looked up, those for h left out. For the experiment only.
+    pub checks: [Cell<u64>; 16],
+}
+
+impl<'a> View<'a> {
+    /// All of it has been checked: n, sizes, own number and the number of costs.
+    pub fn new(own: usize, n: usize, sizes: &Places, costs: &'a [u8]) -> View<'a> {
+        let mut view =
+            View { own, n, sizes: *sizes, costs, starts: [0; 16], h: [0; 16], checks: Default::default() };
+        let mut at = 0;
+        for j in (1..=n).filter(|j| *j != own) {
+            view.starts[j - 1] = at;
+            at += 2 * view.size(own) * view.size(j);
+        }
+        for v in 1..=view.size(own) {
+            view.h[v - 1] = (own + 1..=n).map(|j| view.least_with(j, v)).sum();
+        }
+        view
+    }
+
+    pub fn size(&self, unit: usize) -> usize {
+        self.sizes[unit - 1] as usize
+    }
+
+    /// The cost of own value v with unit j's value u.
+    pub fn pair(&self, j: usize, u: usize, v: usize) -> u32 {
+        let place = if j < self.own {
+            (u - 1) * self.size(self.own) + v - 1
+        } else {
+            (v - 1) * self.size(j) + u - 1
+        };
+        let at = self.starts[j - 1] + 2 * place;
+        u32::from(u16::from_le_bytes([self.costs[at], self.costs[at + 1]]))
+    }
+
+    fn least_with(&self, j: usize, v: usize) -> u32 {
+        (1..=self.size(j)).map(|u| self.pair(j, u, v)).min().unwrap_or(0)
+    }
+
+    /// 01: "h(v) is the sum, over later units, of the least cost of v with any value of that unit".
+    pub fn h(&self, v: usize) -> u32 {
+        self.h[v - 1]
+    }
+
+    /// What own value v costs with the values of units 1 to `count`.
+    pub fn with_first(&self, values: &Places, count: usize, v: usize) -> u32 {
+        let mut sum = 0;
+        for j in 1..=count {
+            self.checks[j - 1].set(self.checks[j - 1].get() + 1);
+            sum += self.pair(j, values[j - 1] as usize, v);
+        }
+        sum
+    }
+
+    /// 01: "the least, over own values v, of costs to the filled units plus h(v)".
+    pub fn estimate(&self, values: &Places, count: usize) -> u32 {
+        let values_tried = 1..=self.size(self.own);
+        values_tried.map(|v| self.with_first(values, count, v) + self.h(v)).min().unwrap_or(0)
+    }
+}

@@ -1,0 +1,117 @@
+//! The shed: n units, a pool of waiting messages and two counts.
+
+use super::costs::{self, View};
+use super::message::{self, SIZE};
+use super::table;
+use super::unit::{self, Unit};
+use super::{Places, Refusal};
+
+pub const CELLS: usize = 1_024;
+pub const POOL: usize = CELLS * SIZE;
+
+#[derive(Clone, PartialEq, Eq, Debug, Default)]
+pub struct Network {
+    /// Those past n are neither looked at nor changed.
+    pub units: [Unit; 16],
+    /// Cells in use.
+    pub count: u64,
+    pub records: u128,
+    pub deliveries: u128,
+}
+
+/// Refusals 5, 6, 7, 13.
+pub fn make(stream: &[u8], pool: &mut [u8]) -> Result<Network, Refusal> {
+    table::check_stream(stream)?;
+    if pool.len() < POOL {
+        return Err(13);
+    }
+    let (n, sizes) = table::head(stream);
+    let mut network = Network::default();
+    for own in 1..=n as usize {
+        let costs = costs::of_unit(stream, own);
+        let made = unit::start(&View::new(own, n as usize, &sizes, &costs));
+        network.units[own - 1] = made.unit;
+        network.records += u128::from(made.records);
+        append(&mut network, pool, &made.sent);
+    }
+    Ok(network)
+}
+
+/// Refusals 13, 5, 6, 7, 5 (states, pool count), 12, 15, the step's from 8 on, 14. Refused: nothing changes.
+pub fn deliver(network: &mut Network, stream: &[u8], pool: &mut [u8], cell: u64) -> Result<(), Refusal> {
+    if pool.len() < POOL {
+        return Err(13);
+    }
+    table::check_stream(stream)?;
+    let (n, sizes) = table::head(stream);
+    check_states(network, stream, n, &sizes)?;
+    if network.units[0].stopped {
+        return Err(12);
+    }
+    if cell >= network.count {
+        return Err(15);
+    }
+    let cell = cell as usize;
+    let packet = &pool[SIZE * cell..SIZE * (cell + 1)];
+    let own = receiver_of(packet, n);
+    let costs = costs::of_unit(stream, own);
+    let view = View::new(own, n as usize, &sizes, &costs);
+    let decision = unit::step_packet(&view, &network.units[own - 1], packet)?;
+    if network.count as usize - 1 + decision.sent.len() > CELLS {
+        return Err(14);
+    }
+    network.units[own - 1] = decision.unit;
+    network.records = network.records.wrapping_add(u128::from(decision.records));
+    network.deliveries = network.deliveries.wrapping_add(1);
+    take(network, pool, cell);
+    append(network, pool, &decision.sent);
+    Ok(())
+}
+
+/// Making, then cell 0 each time until unit 1 has stopped.
+pub fn settle(stream: &[u8], pool: &mut [u8]) -> Result<Network, Refusal> {
+    let mut network = make(stream, pool)?;
+    while !network.units[0].stopped {
+        deliver(&mut network, stream, pool, 0)?;
+    }
+    Ok(network)
+}
+
+/// Refusal 5 for any unit's state or the pool count.
+fn check_states(network: &Network, stream: &[u8], n: u8, sizes: &Places) -> Result<(), Refusal> {
+    for own in 1..=n as usize {
+        let costs = costs::of_unit(stream, own);
+        if !unit::in_range(&View::new(own, n as usize, sizes, &costs), &network.units[own - 1]) {
+            return Err(5);
+        }
+    }
+    if network.count > CELLS as u64 {
+        return Err(5);
+    }
+    Ok(())
+}
+
+/// The unit that a packet names as its receiver; unit 1 where it names none, whose step then refuses it by 8 or 10.
+fn receiver_of(packet: &[u8], n: u8) -> usize {
+    if (1..=n).contains(&packet[2]) {
+        packet[2] as usize
+    } else {
+        1
+    }
+}
+
+/// 01: "closes the gap by moving later cells down one".
+fn take(network: &mut Network, pool: &mut [u8], cell: usize) {
+    let end = SIZE * network.count as usize;
+    pool.copy_within(SIZE * (cell + 1)..end, SIZE * cell);
+    network.count -= 1;
+}
+
+/// 01: "adds what the step sends at the end".
+fn append(network: &mut Network, pool: &mut [u8], sent: &[(u8, message::Message)]) {
+    for (kind, message) in sent {
+        let at = SIZE * network.count as usize;
+        pool[at..at + SIZE].copy_from_slice(&message::encode(*kind, message));
+        network.count += 1;
+    }
+}

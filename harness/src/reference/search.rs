@@ -1,0 +1,64 @@
+//! The bench's exhaustive search.
+
+use super::{table, Places, Refusal};
+
+pub const MAX_ASSIGNMENTS: u128 = 1_048_576;
+
+/// The least total with its first assignment in ascending order, places past n zero. Refusals 5, 6, 7, 16.
+pub fn exhaustive(stream: &[u8]) -> Result<(u32, Places), Refusal> {
+    table::check_stream(stream)?;
+    let (n, sizes) = table::head(stream);
+    let assignments: u128 = sizes[..n as usize].iter().map(|d| u128::from(*d)).product();
+    if assignments > MAX_ASSIGNMENTS {
+        return Err(16);
+    }
+    let mut search = Search { n: n as usize, sizes, pairs: pair_tables(stream), values: [0; 16], best: None };
+    search.from_unit(0, 0);
+    Ok(search.best.expect("some assignment"))
+}
+
+/// The costs of each pair (i, j), i < j, units from 0.
+fn pair_tables(stream: &[u8]) -> Vec<Vec<Vec<u32>>> {
+    let n = stream[0] as usize;
+    let mut at = 1 + n;
+    let mut tables = vec![vec![Vec::new(); n]; n];
+    for i in 0..n {
+        for j in i + 1..n {
+            let count = stream[1 + i] as usize * stream[1 + j] as usize;
+            let bytes = &stream[at..at + 2 * count];
+            tables[i][j] = bytes.chunks(2).map(|c| u32::from(u16::from_le_bytes([c[0], c[1]]))).collect();
+            at += 2 * count;
+        }
+    }
+    tables
+}
+
+struct Search {
+    n: usize,
+    sizes: Places,
+    pairs: Vec<Vec<Vec<u32>>>,
+    values: Places,
+    best: Option<(u32, Places)>,
+}
+
+impl Search {
+    /// 01: "The bench search goes unit by unit, each choice handing on to the next unit's".
+    fn from_unit(&mut self, unit: usize, cost: u32) {
+        if unit == self.n {
+            if self.best.is_none_or(|(least, _)| cost < least) {
+                self.best = Some((cost, self.values));
+            }
+            return;
+        }
+        for value in 1..=self.sizes[unit] {
+            self.values[unit] = value;
+            let added: u32 = (0..unit).map(|before| self.pair(before, unit)).sum();
+            self.from_unit(unit + 1, cost + added);
+        }
+    }
+
+    fn pair(&self, i: usize, j: usize) -> u32 {
+        let place = (self.values[i] as usize - 1) * self.sizes[j] as usize + self.values[j] as usize - 1;
+        self.pairs[i][j][place]
+    }
+}

@@ -1,0 +1,377 @@
+//! One unit: making and step.
+
+use super::costs::{self, View};
+use super::message::{self, Message};
+use super::{bound_in_range, check_sizes, cost_limit, filled, table, Places, Refusal, MAX_TOTAL, NONE};
+use std::cmp::Ordering;
+
+/// Bytes that a buffer for sending must have.
+pub const OUT: usize = 1_024;
+
+#[derive(Clone, Copy, PartialEq, Eq, Debug, Default)]
+pub struct Unit {
+    pub threshold: Places,
+    pub bound: u32,
+    pub best: Places,
+    pub estimates: [u32; 16],
+    /// stamp, values and cost are the CPA out; all zero with none out.
+    pub stamp: Places,
+    pub values: Places,
+    pub cost: u32,
+    pub counter: u8,
+    pub stopped: bool,
+}
+
+/// What making or a step gives beside the bytes sent.
+#[derive(Clone, Copy, PartialEq, Eq, Debug)]
+pub struct Answer {
+    pub refusal: Refusal,
+    pub unit: Unit,
+    pub sent: u8,
+    pub records: u64,
+}
+
+/// A step that was decided, its messages not yet written out.
+#[derive(Clone, Debug)]
+pub struct Decision {
+    pub unit: Unit,
+    pub sent: Vec<(u8, Message)>,
+    pub records: u64,
+}
+
+/// Refusals 5, 10, 6, 7, 13. A refused making gives an all-zero unit.
+pub fn make(own: u8, n: u8, sizes: &Places, costs: &[u8], out: &mut [u8]) -> Answer {
+    match try_make(own, n, sizes, costs, out.len()) {
+        Ok(decision) => send(decision, out),
+        Err(refusal) => Answer { refusal, unit: Unit::default(), sent: 0, records: 0 },
+    }
+}
+
+fn try_make(own: u8, n: u8, sizes: &Places, costs: &[u8], out: usize) -> Result<Decision, Refusal> {
+    check_sizes(n, sizes)?;
+    check_own(own, n)?;
+    check_costs(own, n, sizes, costs)?;
+    if out < OUT {
+        return Err(13);
+    }
+    Ok(start(&View::new(own as usize, n as usize, sizes, costs)))
+}
+
+/// Refusals 13, 5 (n, sizes), 10 (own number), 6, 7, 5 (state), 8, 10, 9, 12, 11. A refused step gives the unit as lent.
+pub fn step(unit: &Unit, own: u8, n: u8, sizes: &Places, costs: &[u8], packet: &[u8], out: &mut [u8]) -> Answer {
+    match try_step(unit, own, n, sizes, costs, packet, out.len()) {
+        Ok(decision) => send(decision, out),
+        Err(refusal) => Answer { refusal, unit: *unit, sent: 0, records: 0 },
+    }
+}
+
+fn try_step(
+    unit: &Unit,
+    own: u8,
+    n: u8,
+    sizes: &Places,
+    costs: &[u8],
+    packet: &[u8],
+    out: usize,
+) -> Result<Decision, Refusal> {
+    if out < OUT {
+        return Err(13);
+    }
+    check_sizes(n, sizes)?;
+    check_own(own, n)?;
+    check_costs(own, n, sizes, costs)?;
+    let view = View::new(own as usize, n as usize, sizes, costs);
+    if !in_range(&view, unit) {
+        return Err(5);
+    }
+    step_packet(&view, unit, packet)
+}
+
+/// The part of a step that a delivery shares: refusals 8, 10, 9, 12, 11.
+pub fn step_packet(view: &View, unit: &Unit, packet: &[u8]) -> Result<Decision, Refusal> {
+    let (kind, message) = message::parse_for(view.n as u8, &view.sizes, packet, Some(view.own as u8))?;
+    if unit.stopped {
+        return Err(12);
+    }
+    decide(view, unit, kind, &message)
+}
+
+fn send(decision: Decision, out: &mut [u8]) -> Answer {
+    for (k, (kind, message)) in decision.sent.iter().enumerate() {
+        out[64 * k..64 * (k + 1)].copy_from_slice(&message::encode(*kind, message));
+    }
+    Answer { refusal: 0, unit: decision.unit, sent: decision.sent.len() as u8, records: decision.records }
+}
+
+/// Refusal 10 for the own number.
+fn check_own(own: u8, n: u8) -> Result<(), Refusal> {
+    if (1..=n).contains(&own) {
+        Ok(())
+    } else {
+        Err(10)
+    }
+}
+
+/// Refusals 6 and 7 for the costs lent to a unit.
+fn check_costs(own: u8, n: u8, sizes: &Places, costs: &[u8]) -> Result<(), Refusal> {
+    if costs.len() != 2 * costs::pairs_of_unit(own as usize, n as usize, sizes) {
+        return Err(6);
+    }
+    table::check_costs(costs)
+}
+
+/// 01: "A lent state is in range when ..".
+pub fn in_range(view: &View, unit: &Unit) -> bool {
+    let limits = unit.threshold.iter().all(|byte| *byte <= 17)
+        && unit.estimates.iter().all(|estimate| *estimate <= MAX_TOTAL)
+        && bound_in_range(unit.bound, &unit.best, view.n, &view.sizes);
+    limits && cpa_in_range(view, unit)
+}
+
+fn cpa_in_range(view: &View, unit: &Unit) -> bool {
+    let own = view.own;
+    let value = unit.values[own - 1];
+    if value == 0 {
+        return unit.stamp == [0; 16] && unit.values == [0; 16] && unit.cost == 0;
+    }
+    let message_limits = filled(&unit.stamp, own, &view.sizes)
+        && filled(&unit.values, own, &view.sizes)
+        && unit.cost <= cost_limit(own);
+    if !message_limits {
+        return false;
+    }
+    let counted = unit.counter == unit.stamp[own - 1] && unit.counter <= value;
+    let fresh = compare(&unit.threshold, &unit.stamp, own) != Ordering::Less;
+    let own_costs = view.with_first(&unit.values, own - 1, value as usize);
+    let before = unit.cost.checked_sub(own_costs);
+    counted && fresh && before.is_some_and(|cost| cost <= cost_limit(own - 1))
+}
+
+/// 01: "Stamps compare from unit 1 on", here on the first `count` units.
+fn compare(left: &Places, right: &Places, count: usize) -> Ordering {
+    left[..count].cmp(&right[..count])
+}
+
+/// 01: "It starts with bound *none*, all else zero"; "Making unit 1 assigns".
+pub fn start(view: &View) -> Decision {
+    let mut work = Work::new(view, &Unit { bound: NONE, ..Unit::default() });
+    if view.own == 1 {
+        work.assign();
+    }
+    work.decision()
+}
+
+/// What an unstopped unit in range does with a message that was read. Refusal 11.
+pub fn decide(view: &View, unit: &Unit, kind: u8, message: &Message) -> Result<Decision, Refusal> {
+    let mut work = Work::new(view, unit);
+    match kind {
+        message::CPA => work.on_cpa(message)?,
+        message::REQUEST => work.on_request(message),
+        message::ESTIMATE => work.on_estimate(message)?,
+        message::SOLUTION => work.take_if_lower(message),
+        _ => {
+            work.take_if_lower(message);
+            work.unit.stopped = true;
+        }
+    }
+    Ok(work.decision())
+}
+
+/// A unit at work: its state, and what it has sent and recorded in this step.
+struct Work<'a> {
+    view: &'a View<'a>,
+    unit: Unit,
+    cpa_sent: Option<(u8, Message)>,
+    others_sent: Vec<(u8, Message)>,
+    improved: bool,
+    records: u64,
+}
+
+impl<'a> Work<'a> {
+    fn new(view: &'a View<'a>, unit: &Unit) -> Work<'a> {
+        Work { view, unit: *unit, cpa_sent: None, others_sent: Vec::new(), improved: false, records: 0 }
+    }
+
+    /// 01: "unit n sends one news, after its last improvement in a step, to all others";
+    /// "Outgoing order: paper first, the rest by receiver ascending".
+    fn decision(mut self) -> Decision {
+        if self.improved {
+            for receiver in (1..=self.view.n).filter(|j| *j != self.view.own) {
+                let news = self.solution(receiver);
+                self.others_sent.push((message::SOLUTION, news));
+            }
+        }
+        let mut sent: Vec<_> = self.cpa_sent.into_iter().collect();
+        sent.extend(self.others_sent);
+        Decision { unit: self.unit, sent, records: self.records }
+    }
+
+    // Messages
+
+    fn on_cpa(&mut self, m: &Message) -> Result<(), Refusal> {
+        let down = (m.sender as usize) < self.view.own;
+        match compare(&m.stamp, &self.unit.threshold, self.view.own) {
+            Ordering::Less => return Ok(()),
+            Ordering::Greater if down => self.unit.threshold = m.stamp,
+            _ => {}
+        }
+        let same = m.stamp == self.unit.stamp && m.values == self.unit.values && m.cost == self.unit.cost;
+        if !down && !same {
+            return Err(11);
+        }
+        self.unit.stamp = m.stamp;
+        self.unit.values = m.values;
+        self.unit.cost = m.cost;
+        self.take_if_lower(m);
+        if self.cost_without_own() >= self.unit.bound {
+            self.back_up();
+        } else {
+            self.assign();
+        }
+        Ok(())
+    }
+
+    fn on_request(&mut self, m: &Message) {
+        match compare(&m.stamp, &self.unit.threshold, self.view.own - 1) {
+            Ordering::Less => return,
+            Ordering::Greater => self.unit.threshold = m.stamp,
+            Ordering::Equal => {}
+        }
+        let reply = Message {
+            sender: self.view.own as u8,
+            receiver: m.sender,
+            stamp: m.stamp,
+            cost: self.view.estimate(&m.values, m.sender as usize),
+            ..Message::default()
+        };
+        self.others_sent.push((message::ESTIMATE, reply));
+    }
+
+    fn on_estimate(&mut self, m: &Message) -> Result<(), Refusal> {
+        let own = self.view.own;
+        let order = compare(&m.stamp, &self.unit.threshold, own);
+        if order == Ordering::Less {
+            return Ok(());
+        }
+        let out = self.unit.values[own - 1] != 0 && m.stamp[..own] == self.unit.stamp[..own];
+        if order == Ordering::Greater || !out {
+            return Err(11);
+        }
+        self.unit.estimates[m.sender as usize - 1] = m.cost;
+        let estimated: u32 = self.unit.estimates[own..self.view.n].iter().sum();
+        if self.unit.cost + estimated >= self.unit.bound {
+            self.assign();
+        }
+        Ok(())
+    }
+
+    fn take_if_lower(&mut self, m: &Message) {
+        if m.bound < self.unit.bound {
+            self.unit.bound = m.bound;
+            self.unit.best = m.best;
+        }
+    }
+
+    // What they lead to
+
+    fn own_value(&self) -> usize {
+        self.unit.values[self.view.own - 1] as usize
+    }
+
+    fn cost_without_own(&self) -> u32 {
+        let value = self.own_value();
+        if value == 0 {
+            return self.unit.cost;
+        }
+        self.unit.cost - self.view.with_first(&self.unit.values, self.view.own - 1, value)
+    }
+
+    fn assign(&mut self) {
+        let own = self.view.own;
+        loop {
+            self.unit.estimates = [0; 16];
+            if self.own_value() == 0 {
+                self.unit.counter = 0;
+            }
+            let Some((value, cost)) = self.next_value() else { return self.back_up() };
+            self.unit.counter += 1;
+            self.unit.stamp[own - 1] = self.unit.counter;
+            self.unit.values[own - 1] = value as u8;
+            self.unit.cost = cost;
+            self.unit.threshold = self.unit.stamp;
+            self.records += 1;
+            if own < self.view.n {
+                return self.send_down();
+            }
+            self.unit.bound = self.unit.cost;
+            self.unit.best = self.unit.values;
+            self.improved = true;
+        }
+    }
+
+    /// The first value after the current one with cost + h(v) below the bound, and that cost.
+    fn next_value(&self) -> Option<(usize, u32)> {
+        let own = self.view.own;
+        let before = self.cost_without_own();
+        for v in self.own_value() + 1..=self.view.size(own) {
+            let cost = before + self.view.with_first(&self.unit.values, own - 1, v);
+            if cost + self.view.h(v) < self.unit.bound {
+                return Some((v, cost));
+            }
+        }
+        None
+    }
+
+    fn back_up(&mut self) {
+        let own = self.view.own;
+        self.unit.cost = self.cost_without_own();
+        self.unit.values[own - 1] = 0;
+        self.unit.threshold[own - 1] += 1;
+        self.unit.stamp[own - 1] = 0;
+        self.unit.estimates = [0; 16];
+        if own == 1 {
+            self.unit.stopped = true;
+            for receiver in 2..=self.view.n {
+                let stop = self.solution(receiver);
+                self.others_sent.push((message::STOP, stop));
+            }
+        } else {
+            self.cpa_sent = Some((message::CPA, self.cpa(own - 1)));
+        }
+        self.unit.stamp = [0; 16];
+        self.unit.values = [0; 16];
+        self.unit.cost = 0;
+    }
+
+    fn send_down(&mut self) {
+        let own = self.view.own;
+        self.cpa_sent = Some((message::CPA, self.cpa(own + 1)));
+        for receiver in own + 1..=self.view.n {
+            let request = Message { bound: 0, best: [0; 16], ..self.cpa(receiver) };
+            self.others_sent.push((message::REQUEST, request));
+        }
+    }
+
+    fn cpa(&self, receiver: usize) -> Message {
+        Message {
+            sender: self.view.own as u8,
+            receiver: receiver as u8,
+            stamp: self.unit.stamp,
+            values: self.unit.values,
+            cost: self.unit.cost,
+            bound: self.unit.bound,
+            best: self.unit.best,
+        }
+    }
+
+    /// News and stop carry only bound and best.
+    fn solution(&self, receiver: usize) -> Message {
+        Message {
+            sender: self.view.own as u8,
+            receiver: receiver as u8,
+            bound: self.unit.bound,
+            best: self.unit.best,
+            ..Message::default()
+        }
+    }
+}

@@ -1,0 +1,57 @@
+//! Tables for tests and programs, and what the two programs print of them.
+
+use crate::reference::{network, search, table};
+
+/// A stream out of its sizes and its costs in the stream's order.
+pub fn stream(sizes: &[u8], costs: &[u16]) -> Vec<u8> {
+    let mut bytes = vec![sizes.len() as u8];
+    bytes.extend_from_slice(sizes);
+    for cost in costs {
+        bytes.extend_from_slice(&cost.to_le_bytes());
+    }
+    bytes
+}
+
+/// 01: "Table T: n = 2, sizes 2 and 2, costs 5, 3, 2, 4".
+pub fn t() -> Vec<u8> {
+    stream(&[2, 2], &[5, 3, 2, 4])
+}
+
+/// The stream of a table's file, or the refusal.
+pub fn read(file: &[u8]) -> Result<Vec<u8>, u8> {
+    let mut buffer = vec![0; table::MAX_STREAM];
+    let length = table::read(file, &mut buffer)?;
+    buffer.truncate(length);
+    Ok(buffer)
+}
+
+fn report(total: u32, values: &[u8]) -> String {
+    let mut text = format!("total {total}\n");
+    for (k, value) in values.iter().enumerate() {
+        text += &format!("unit {} value {value}\n", k + 1);
+    }
+    text
+}
+
+/// What the shed program prints on a table's file.
+pub fn shed(file: &[u8]) -> String {
+    let mut pool = vec![0; network::POOL];
+    let settled = read(file).and_then(|stream| Ok((stream[0] as usize, network::settle(&stream, &mut pool)?)));
+    match settled {
+        Ok((n, network)) => {
+            let unit = &network.units[0];
+            let counts = format!("records {} deliveries {}\n", network.records, network.deliveries);
+            report(unit.bound, &unit.best[..n]) + &counts
+        }
+        Err(refusal) => format!("refused {refusal}\n"),
+    }
+}
+
+/// What the bench program prints on a table's file.
+pub fn bench(file: &[u8]) -> String {
+    let found = read(file).and_then(|stream| Ok((stream[0] as usize, search::exhaustive(&stream)?)));
+    match found {
+        Ok((n, (total, values))) => report(total, &values[..n]),
+        Err(refusal) => format!("refused {refusal}\n"),
+    }
+}
