@@ -1,0 +1,2 @@
+-- The check of blocks and packets, and what it finds.
+pub mod Sum
