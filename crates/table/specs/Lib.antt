@@ -1,3 +1,5 @@
 -- The stored table: the stream, a block, a file of blocks, and what reading and writing give.
 pub mod Stream
 pub mod StreamLaws
+pub mod Block
+pub mod File

@@ -1,0 +1,61 @@
+-- A block of the stored table, read alone and written alone. The facts about these are in BlockLaws.
+-- Document 01: "Blocks of 512 bytes. 0-1 block number from 0; 2-3 payload count; 4-509 payload; 510-511 check."
+-- Assumes nothing.
+use Prim.Native.Nat.{ℕ, _+_, _-_}
+use mathlib.Core.Bool.{Bool, true, false, cond, _&&_}
+use mathlib.Core.List.{List, [], _∷_, _++_}
+use lib.Dec.{eqb, leb}
+use lib.ListN.{length, take, drop, replicate}
+use Rattle.base.specs.Bytes.{u16At, le16}
+use Rattle.checksum.specs.Sum.{sumOf}
+
+-- ---- the fields
+
+abbrev pub numberOf : List ℕ → ℕ
+numberOf b = u16At b 0
+
+abbrev pub countOf : List ℕ → ℕ
+countOf b = u16At b 2
+
+abbrev pub payloadOf : List ℕ → List ℕ
+payloadOf b = take (countOf b) (drop 4 b)
+
+-- the payload bytes after the count
+abbrev pub unusedOf : List ℕ → List ℕ
+unusedOf b = drop (4 + countOf b) (take 510 b)
+
+abbrev pub checkOf : List ℕ → ℕ
+checkOf b = u16At b 510
+
+-- ---- read
+
+-- 01: "Every block but the last carries 506 payload bytes, the last 1 to 506"
+abbrev pub countGood : Bool → ℕ → Bool
+countGood last c = cond last (leb 1 c && leb c 506) (eqb c 506)
+
+-- 01: "unused payload is zero"
+unfoldable pub allZero : List ℕ → Bool
+allZero [] = true
+allZero (x ∷ l) = eqb x 0 && allZero l
+
+-- 01: "if it isn't 512 bytes it is 1"; "then each block 4, 2, 3"
+unfoldable pub blockRefusal : ℕ → Bool → List ℕ → ℕ
+blockRefusal number last b =
+    cond (eqb (length b) 512)
+    (cond (eqb (checkOf b) (sumOf (take 510 b)))
+    (cond (eqb (numberOf b) number) (cond (countGood last (countOf b) && allZero (unusedOf b)) 0 3) 2)
+    4)
+    1
+
+-- the payload of an accepted block; the empty list, which no payload is, of a refused one
+unfoldable pub readBlockOf : ℕ → Bool → List ℕ → List ℕ
+readBlockOf number last b = cond (eqb (blockRefusal number last b) 0) (payloadOf b) []
+
+-- ---- written
+
+-- the first 510 bytes of block number k that carries p
+abbrev pub bodyOf : ℕ → List ℕ → List ℕ
+bodyOf k p = le16 k ++ le16 (length p) ++ p ++ replicate (506 - length p) 0
+
+unfoldable pub blockOf : ℕ → List ℕ → List ℕ
+blockOf k p = bodyOf k p ++ le16 (sumOf (bodyOf k p))
