@@ -11,33 +11,8 @@ use lib.Dec.{eqb, leb, ltb}
 use lib.ListN.{length, getD, take, drop, length-take, length-drop, length-append}
 use lib.Seq.{take-suc, length-take-le, getD-take, getD-drop}
 use borrow.Author.Tests.{eqb-true, leb-true, eq-eqb, ne-eqb, le-leb, lt-leb}
-use Rattle.base.specs.Shape.{inSixteen, allInSixteen, shapeGood}
+use Rattle.base.specs.Shape.{inSixteen, allInSixteen, shapeGood, and-left, and-right, in-range, shape-n, shape-size}
 use Rattle.table.specs.Stream.{unitsOf, sizesOf, sumList, pairsIn, needed, costAt, costsGood, streamRefusal, Accepted}
-
--- ---- tests that passed
-
--- both halves of a conjunction that holds
-pub and-left : (a b : Bool) → (a && b) ≡ true → a ≡ true
-and-left true b e = refl
-and-left false b e = e
-
-pub and-right : (a b : Bool) → (a && b) ≡ true → b ≡ true
-and-right true b e = e
-and-right false b e = let z : _≡_ {A = Bool} true false = sym e in cc
-
--- a number that passes inSixteen is 1 to 16
-pub sixteen-low : (x : ℕ) → inSixteen x ≡ true → 1 ≤ x
-sixteen-low x e = leb-true 1 x (and-left (leb 1 x) (leb x 16) e)
-
-pub sixteen-high : (x : ℕ) → inSixteen x ≡ true → x ≤ 16
-sixteen-high x e = leb-true x 16 (and-right (leb 1 x) (leb x 16) e)
-
--- every place of a list that passes allInSixteen passes inSixteen
-pub all-at : (l : List ℕ) (k : ℕ) → allInSixteen l ≡ true → k < length l → inSixteen (getD l k 0) ≡ true
-unfolding allInSixteen
-all-at [] k e h = absurd (not-suc-le-zero h)
-all-at (x ∷ l) zero e h = and-left (inSixteen x) (allInSixteen l) e
-all-at (x ∷ l) (suc k) e h = all-at l k (and-right (inSixteen x) (allInSixteen l) e) (le-of-suc-le-suc h)
 
 -- ---- how pairsIn and costsGood grow
 
@@ -58,7 +33,7 @@ unfolding sumList allInSixteen
 sum-most [] e = omega arith
 sum-most (x ∷ l) e =
     let r = sum-most l (and-right (inSixteen x) (allInSixteen l) e) in
-    let h = sixteen-high x (and-left (inSixteen x) (allInSixteen l) e) in
+    let h = in-range x (and-left (inSixteen x) (allInSixteen l) e) .1 in
     omega arith
 
 -- and need at most 256 costs for each pair of units
@@ -68,7 +43,7 @@ pairs-most [] e = omega arith
 pairs-most (x ∷ l) e =
     let g = and-right (inSixteen x) (allInSixteen l) e in
     let r = pairs-most l g in
-    let h = sixteen-high x (and-left (inSixteen x) (allInSixteen l) e) in
+    let h = in-range x (and-left (inSixteen x) (allInSixteen l) e) .1 in
     let p : x * sumList l ≤ 16 * (16 * length l) = mul-le-mul h (sum-most l g) in
     let q : suc (length l) * suc (length l) ≡ length l * length l + 2 * length l + 1 = simp (suc-mul, mul-suc) (omega arith) in
     rw q (omega arith)
@@ -105,13 +80,9 @@ module _ (s : List ℕ) (ok : Accepted s) where
   unfolding shapeGood
   accepted-all = and-right (inSixteen (unitsOf s)) (allInSixteen (take (unitsOf s) (drop 1 s))) (tests .1)
 
-  pub accepted-unit : inSixteen (unitsOf s) ≡ true
-  unfolding shapeGood
-  accepted-unit = and-left (inSixteen (unitsOf s)) (allInSixteen (take (unitsOf s) (drop 1 s))) (tests .1)
-
   -- n is 1 to 16
   pub accepted-units : (1 ≤ unitsOf s) × (unitsOf s ≤ 16)
-  accepted-units = (sixteen-low (unitsOf s) accepted-unit, sixteen-high (unitsOf s) accepted-unit)
+  accepted-units = shape-n (unitsOf s) (drop 1 s) (tests .1)
 
   -- the stream is as long as n and the sizes need
   pub accepted-length : length s ≡ needed s
@@ -124,9 +95,8 @@ module _ (s : List ℕ) (ok : Accepted s) where
   -- the size of unit k + 1 is 1 to 16
   pub accepted-size : (k : ℕ) → k < unitsOf s → (1 ≤ getD s (1 + k) 0) × (getD s (1 + k) 0 ≤ 16)
   accepted-size k h =
-      let e : getD (sizesOf s) k 0 ≡ getD s (1 + k) 0 = getD-take (unitsOf s) (drop 1 s) k 0 h ∙ getD-drop 1 s k 0 in
-      let g : inSixteen (getD s (1 + k) 0) ≡ true = rw e at (all-at (sizesOf s) k accepted-all (rw accepted-sizes-length h)) in
-      (sixteen-low (getD s (1 + k) 0) g, sixteen-high (getD s (1 + k) 0) g)
+      let l : unitsOf s ≤ length (drop 1 s) = simp length-drop (omega (arith, accepted-length)) in
+      rw (← getD-drop 1 s k 0) (shape-size (unitsOf s) (drop 1 s) (tests .1) l k h)
 
   -- each cost is at most 60,000
   pub accepted-cost : (k : ℕ) → k < pairsIn (sizesOf s) → costAt s k ≤ 60000
