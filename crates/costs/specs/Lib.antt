@@ -2,3 +2,4 @@
 pub mod Instance
 pub mod Bounds
 pub mod Problem
+pub mod Laws

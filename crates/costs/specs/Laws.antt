@@ -1,0 +1,146 @@
+-- The problem of an instance, that its bounds are bounds (L1 to L6 of the protocol's proof), and the limits of its costs.
+-- In order: `Sound`, what holds of the instance of an accepted stream; the functions of a prefix, last unit first; the
+-- laws; the limits. How these functions are specs/Bounds' is in Laws/Prefix. The laws go by one fact, `bound`: the cost so far
+-- and all estimates bound every full assignment, as one value more counts each pair of unassigned units once.
+-- Assumes nothing.
+use Prim.Native.Nat.{ℕ, zero, suc, _+_, _*_, _-_, _≤_, _<_}
+use mathlib.Core.Path.{_≡_, refl, ap}
+use mathlib.Core.List.{List, [], _∷_}
+use native.Mathlib.Omega.{arith}
+use native.Mathlib.Nat.{mul-le-mul, le-refl}
+use lib.ListN.{length}
+use Rattle.base.specs.Sums.{sumFrom, least}
+use Rattle.costs.specs.Instance.{Instance}
+use Rattle.costs.specs.Problem.{Problem, InDom, Full, ClosedBy, Closed, Laws, closed-empty}
+use Rattle.costs.specs.Laws.Sums.{sumFrom-le, sumFrom-add-le, least-le, least-add, least-bound}
+pub mod Sums
+pub mod Prefix
+
+-- ---- an instance as accepted
+
+pub record Sound (I : Instance) : Type 0 where
+  pub n1 : 1 ≤ I .n
+  pub n16 : I .n ≤ 16
+  pub dom1 : (k : ℕ) → k < I .n → 1 ≤ I .dom k
+  pub dom16 : (k : ℕ) → I .dom k ≤ 16
+  pub small : (i u j v : ℕ) → I .cost i u j v ≤ 60000
+
+-- ---- functions of a prefix
+
+module _ (I : Instance) where
+  -- the cost of unit j's value v with the values of the prefix b
+  abbrev pub against : ℕ → ℕ → List ℕ → ℕ
+  against j v [] = 0
+  against j v (u ∷ b) = I .cost (length b) u j v + against j v b
+
+  -- the sum over the pairs inside a prefix
+  abbrev pub costOf : List ℕ → ℕ
+  costOf [] = 0
+  costOf (v ∷ b) = costOf b + against (length b) v b
+
+  -- h of unit i's value u
+  abbrev pub hOf : ℕ → ℕ → ℕ
+  hOf i u = sumFrom (λ j. least (λ v. I .cost i u j v) (I .dom j)) (suc i) (I .n - suc i)
+
+  -- the cost of a prefix and h of its last value
+  abbrev pub lowOf : List ℕ → ℕ
+  lowOf [] = 0
+  lowOf (v ∷ b) = costOf (v ∷ b) + hOf (length b) v
+
+  -- unit j's estimate for a prefix
+  abbrev pub estOf : ℕ → List ℕ → ℕ
+  estOf j b = least (λ v. against j v b + hOf j v) (I .dom j)
+
+  abbrev pub problemOf : Problem
+  problemOf = record { n = I .n; dom = I .dom; cost = costOf; low = lowOf; est = estOf }
+
+-- ---- the laws
+
+module _ (I : Instance) where
+  -- one value more counts each pair of unassigned units once: h of the value, and the estimates without it
+  est-step : (b : List ℕ) (v j : ℕ) → least (λ w. I .cost (length b) v j w) (I .dom j) + estOf I j b ≤ estOf I j (v ∷ b)
+  est-step b v j = least-add (λ w. I .cost (length b) v j w) (λ w. against I j w b + hOf I j w) (λ w. against I j w (v ∷ b) + hOf I j w) (λ w. omega arith) (I .dom j)
+
+  est-steps : (b : List ℕ) (v lo m : ℕ)
+      → sumFrom (λ j. least (λ w. I .cost (length b) v j w) (I .dom j)) lo m + sumFrom (λ j. estOf I j b) lo m ≤ sumFrom (λ j. estOf I j (v ∷ b)) lo m
+  est-steps b v lo m = sumFrom-add-le (λ j. least (λ w. I .cost (length b) v j w) (I .dom j)) (λ j. estOf I j b) (λ j. estOf I j (v ∷ b)) (est-step b v) lo m
+
+  -- the cost so far and all estimates bound every full assignment
+  bound : (r : ℕ) (b : List ℕ) → length b + r ≡ I .n → (B : ℕ) → B ≤ costOf I b + sumFrom (λ j. estOf I j b) (length b) r → ClosedBy (problemOf I) r b B
+  bound zero b e B le = omega arith
+  bound (suc r) b e B le = λ v lo hi.
+      bound r (v ∷ b) (omega arith) B
+      (let q : I .n - suc (length b) ≡ r = omega arith in
+      let a : hOf I (length b) v ≡ sumFrom (λ j. least (λ w. I .cost (length b) v j w) (I .dom j)) (suc (length b)) r = rw q in
+      omega (arith, a, est-steps b v (suc (length b)) r, least-le (λ w. against I (length b) w b + hOf I (length b) w) (I .dom (length b)) v lo hi))
+
+  closed-by-estimates : (b : List ℕ) (B : ℕ) → length b ≤ I .n → B ≤ costOf I b + sumFrom (λ j. estOf I j b) (length b) (I .n - length b) → Closed (problemOf I) b B
+  closed-by-estimates b B l le = bound (I .n - length b) b (omega arith) B le
+
+  closed-by-low : (b : List ℕ) (B : ℕ) → length b ≤ I .n → B ≤ lowOf I b → Closed (problemOf I) b B
+  closed-by-low [] B l le = closed-by-estimates [] B l (omega arith)
+  closed-by-low (v ∷ b) B l le = closed-by-estimates (v ∷ b) B l (omega (arith, est-steps b v (suc (length b)) (I .n - suc (length b))))
+
+  pub cost-le-low : (b : List ℕ) → costOf I b ≤ lowOf I b
+  cost-le-low [] = omega arith
+  cost-le-low (v ∷ b) = omega arith
+
+  pub laws-of : Sound I → Laws (problemOf I)
+  laws-of s =
+      record {
+        dom16 = s .dom16;
+        cost-low = cost-le-low;
+        by-low = closed-by-low;
+        by-cost = λ b B l le. closed-by-estimates b B l (omega arith);
+        by-ests = closed-by-estimates;
+      }
+
+-- ---- the limits. 01: "A paper or copy with k filled units costs at most 30,000 × k × (k-1), an estimate at most 7,200,000"
+
+module _ (I : Instance) (s : Sound I) where
+  pub against-limit : (j v : ℕ) (b : List ℕ) → against I j v b ≤ 60000 * length b
+  against-limit j v [] = omega arith
+  against-limit j v (u ∷ b) = omega (arith, s .small (length b) u j v, against-limit j v b)
+
+  cost-and-more : (b : List ℕ) → costOf I b + 30000 * length b ≤ 30000 * (length b * length b)
+  cost-and-more [] = omega arith
+  cost-and-more (v ∷ b) = omega (arith, cost-and-more b, against-limit (length b) v b)
+
+  pub cost-limit : (b : List ℕ) → costOf I b ≤ 30000 * length b * (length b - 1)
+  cost-limit [] = omega arith
+  cost-limit (v ∷ b) = let e : suc (length b) - 1 ≡ length b = omega arith in rw e (omega (arith, cost-and-more b, against-limit (length b) v b))
+
+  -- of a full assignment
+  pub full-limit : (b : List ℕ) → length b ≤ I .n → costOf I b ≤ 7200000
+  full-limit b l = let k : length b ≤ 16 = omega (arith, s .n16) in omega (arith, cost-and-more b, mul-le-mul k (le-refl (length b)))
+
+  pub h-limit : (k v : ℕ) → hOf I k v ≤ 60000 * (I .n - suc k)
+  h-limit k v = sumFrom-le (λ j. least (λ u. I .cost k v j u) (I .dom j)) 60000 (suc k) (I .n - suc k) (λ j. least-bound (λ u. I .cost k v j u) (I .dom j) 60000 (λ u. s .small k v j u))
+
+  -- an estimate is over one value's pairs only
+  pub est-limit : (k : ℕ) (b : List ℕ) → k < I .n → length b ≤ k → estOf I k b ≤ 900000
+  est-limit k b h l = least-bound (λ v. against I k v b + hOf I k v) (I .dom k) 900000 (λ v. omega (arith, against-limit k v b, h-limit k v, s .n16))
+
+-- ---- there is a full assignment: each unit's first value
+
+ones : ℕ → List ℕ
+ones zero = []
+ones (suc k) = 1 ∷ ones k
+
+length-ones : (k : ℕ) → length (ones k) ≡ k
+unfolding ones
+length-ones zero = refl
+length-ones (suc k) = ap suc (length-ones k)
+
+module _ (I : Instance) (s : Sound I) where
+  ones-in-dom : (k : ℕ) → k ≤ I .n → InDom (problemOf I) (ones k)
+  unfolding ones
+  ones-in-dom zero le = tt
+  ones-in-dom (suc k) le = (omega arith, s .dom1 (length (ones k)) (omega (arith, length-ones k)), ones-in-dom k (omega arith))
+
+  ones-full : Full (problemOf I) (ones (I .n))
+  ones-full = (length-ones (I .n), ones-in-dom (I .n) (omega arith))
+
+  -- so what bounds every full assignment is a number within the limit
+  pub closed-limit : (B : ℕ) → Closed (problemOf I) [] B → B ≤ 7200000
+  closed-limit B c = omega (arith, closed-empty (problemOf I) B c (ones (I .n)) ones-full, full-limit I s (ones (I .n)) (omega (arith, length-ones (I .n))))
