@@ -1,8 +1,6 @@
--- Finite sums and least values over numbers, and the laws that their users share.
+-- Finite sums and least values over numbers. Their laws are in crate costs, specs/Laws/Sums.antt.
 -- Assumes nothing.
-use Prim.Native.Nat.{ℕ, zero, suc, _+_, _*_, _-_, _≤_, _<_, min}
-use mathlib.Core.Path.{_≡_, refl, sym, ap, _∙_}
-use native.Mathlib.Omega.{arith}
+use Prim.Native.Nat.{ℕ, zero, suc, _+_, min}
 
 -- f lo + f (lo + 1) + .., m of them
 abbrev pub sumFrom : (ℕ → ℕ) → ℕ → ℕ → ℕ

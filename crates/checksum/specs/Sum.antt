@@ -1,14 +1,14 @@
 -- The check. Document 01: "The check is the sum of (k+1) × byte k for k from 0 to 509, modulo 65,521"; of a message "the same sum".
 -- Definitions, then laws: the sum is below the modulus, of two lists joined, and of one byte more.
 -- Assumes nothing.
-use Prim.Native.Nat.{ℕ, suc, _+_, _*_, _/_, _%_, _≤_, _<_}
-use mathlib.Core.Path.{_≡_, refl, sym, ap, _∙_}
+use Prim.Native.Nat.{ℕ, suc, _+_, _*_, _/_, _%_, _<_}
+use mathlib.Core.Path.{_≡_, refl, ap, _∙_}
 use mathlib.Core.List.{List, [], _∷_, _++_}
-use native.Mathlib.Nat.{add-assoc, add-zero, zero-add, add-mul, mul-assoc, mod-lt}
+use native.Mathlib.Nat.{add-assoc, add-zero, zero-add, add-mul, mul-assoc}
 use native.Mathlib.Numerals.{add-one}
 use native.Mathlib.Omega.{arith}
 use lib.ListN.{getD, length, take}
-use lib.Seq.{length-take-le, take-all, take-suc}
+use lib.Seq.{length-take-le, take-suc}
 
 -- the sum of (k + 1) × byte k, where the first byte of the list is byte k
 abbrev pub weigh : ℕ → List ℕ → ℕ

@@ -1,6 +1,6 @@
 -- `sum` meets its contract. The loop's invariant: the total is the check of the bytes passed, and below 65,521.
 -- Each product is at most 65,521 × 255, so nothing wraps. Assumes nothing.
-use Prim.Native.Nat.{_+_, _*_, _-_, _%_, _≤_, _<_}
+use Prim.Native.Nat.{_+_, _-_, _%_, _≤_, _<_}
 use mathlib.Core.Path.{_≡_, sym, ap, _∙_}
 use native.Mathlib.Nat.{mul-le-mul}
 use native.Mathlib.Omega.{arith}
