@@ -1,0 +1,47 @@
+-- Demand 3 as one statement about a network that a run has come to. Theorem.antt proves it of every list of cells:
+--
+--     demand3  : Laws P → 0 < P .n → (room : ℕ) (cells : List ℕ) → Demand3 P (run P room (make P) cells)
+--     two-runs : of any two lists after which unit 1 has stopped, the bounds are equal
+--
+-- Read first: Problem.antt (what is asked of costs), Machine.antt (the rules), and this. The rest is proof:
+-- Lists, Tests, Closed, Walk    small facts; the ways through a step, a delivery and a run
+-- Safety                        facts that only grow: about records written and messages ever sent, whatever the pool does
+-- Liveness                      until unit 1 stops its CPA waits somewhere; the pool is any predicate on messages
+-- Count                         each record pays for the deliveries that follow from it
+-- Theorem                       the three together
+-- Assumes nothing.
+use Prim.Native.Nat.{ℕ, zero, suc, _*_, _-_, _≤_}
+use mathlib.Core.Path.{_≡_}
+use mathlib.Core.Logic.{_≢_}
+use mathlib.Core.Bool.{true, false}
+use mathlib.Core.List.{List, [], _∷_, _++_, map}
+use Rattle.protocol.specs.Problem.{Problem, Full, ValidBound, N}
+use Rattle.protocol.specs.Machine.{Msg, to, valuesOf, Agent, refused, step, Network}
+use Rattle.protocol.specs.Lists.{In}
+
+-- the prefixes that units 0 to k - 1 have written. 01: "At each record unit i writes a beginning"
+abbrev pub written : (ℕ → Agent) → ℕ → List (List ℕ)
+written us zero = []
+written us (suc k) = map valuesOf (us k .log) ++ written us k
+
+abbrev pub Distinct : List (List ℕ) → Type 0
+Distinct [] = Unit {0}
+Distinct (x ∷ xs) = (In x xs → ⊥) × Distinct xs
+
+-- the most deliveries that a run accepts
+abbrev pub most : Problem → ℕ
+most P = (3 * P .n - 1) * N P
+
+pub record Demand3 (P : Problem) (S : Network) : Type 0 where
+  -- no prefix is written twice
+  pub distinct : Distinct (written (S .units) (P .n))
+  -- at most (3n - 1) × N deliveries are accepted, and with that many unit 1 has stopped
+  pub bounded : S .accepted ≤ most P
+  pub ends : S .accepted ≡ most P → S .units 0 .stopped ≡ true
+  -- until unit 1 stops a message waits
+  pub waits : S .units 0 .stopped ≡ false → (m : Msg) × In m (S .pool)
+  -- once it has stopped it reports a least total: none, or that of its best assignment
+  pub report : S .units 0 .stopped ≡ true → ValidBound P (S .units 0 .bound) (S .units 0 .best)
+  pub least : S .units 0 .stopped ≡ true → (l : List ℕ) → Full P l → S .units 0 .bound ≤ P .cost l
+  -- no unit refuses a message that waits
+  pub honest : (m : Msg) → In m (S .pool) → step P (S .units (to m)) m ≢ refused

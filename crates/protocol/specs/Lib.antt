@@ -1,0 +1,11 @@
+pub mod Problem
+pub mod Machine
+pub mod Demand3
+pub mod Lists
+pub mod Tests
+pub mod Closed
+pub mod Walk
+pub mod Safety
+pub mod Liveness
+pub mod Count
+pub mod Theorem

@@ -1,0 +1,53 @@
+-- Membership in a list, what holds of every element, and lists of messages to a run of units.
+-- Membership is the library's `List·Memᴰ`, a place in the list and not merely its existence, under short names.
+-- Assumes nothing.
+use Prim.Native.Nat.{ℕ, zero, suc, _+_, _≤_, _<_}
+use mathlib.Core.Path.{_≡_, sym, subst}
+use mathlib.Core.Logic.{_⊎_, inl, inr}
+use mathlib.Core.List.{List, [], _∷_, _++_}
+use native.Mathlib.Omega.{arith}
+use Rattle.protocol.specs.Machine.{Msg, toEach}
+pub use mathlib.Core.List.{List·Memᴰ as In, List·Memᴰ·head as here, List·Memᴰ·tail as there, List·Memᴰ·cases-cons as in-cases, List·Memᴰ·not-nil as not-in-nil, Memᴰ·append-left as in-left, Memᴰ·append-right as in-right, List·Memᴰ·append-cases as append-cases}
+
+module _ {A : Type 0} where
+  pub in-append : {a : A} (l m : List A) → In a (l ++ m) → In a l ⊎ In a m
+  in-append l m i = append-cases l i
+
+  -- one element taken out of the middle
+  pub in-middle : {a : A} (l : List A) (x : A) (m : List A) → In a (l ++ (x ∷ m)) → (a ≡ x) ⊎ In a (l ++ m)
+  in-middle [] x m i = in-cases i
+  in-middle {a} (y ∷ ys) x m i = go (λ j. in-middle ys x m j) (in-cases i)
+    where
+      next : (a ≡ x) ⊎ In a (ys ++ m) → (a ≡ x) ⊎ In a (y ∷ (ys ++ m))
+      next (inl e) = inl e
+      next (inr j) = inr (there j)
+
+      go : (In a (ys ++ (x ∷ m)) → (a ≡ x) ⊎ In a (ys ++ m)) → (a ≡ y) ⊎ In a (ys ++ (x ∷ m)) → (a ≡ x) ⊎ In a (y ∷ (ys ++ m))
+      go below (inl e) = inr (here e)
+      go below (inr j) = next (below j)
+
+  -- what holds of every element
+  abbrev pub Every : (A → Type 0) → List A → Type 0
+  Every Q l = (x : A) → In x l → Q x
+
+  pub every-nil : (Q : A → Type 0) → Every Q []
+  every-nil Q x i = absurd (not-in-nil i)
+
+  pub every-cons : (Q : A → Type 0) (y : A) (l : List A) → Q y → Every Q l → Every Q (y ∷ l)
+  every-cons Q y l q h x i = go (in-cases i)
+    where
+      go : (x ≡ y) ⊎ In x l → Q x
+      go (inl e) = subst Q (sym e) q
+      go (inr j) = h x j
+
+  pub every-append : (Q : A → Type 0) (l m : List A) → Every Q l → Every Q m → Every Q (l ++ m)
+  every-append Q l m h g x i = go (in-append l m i)
+    where
+      go : In x l ⊎ In x m → Q x
+      go (inl j) = h x j
+      go (inr j) = g x j
+
+pub every-each : (Q : Msg → Type 0) (g : ℕ → Msg) (lo m : ℕ) → ((j : ℕ) → lo ≤ j → j < lo + m → Q (g j)) → Every Q (toEach g lo m)
+every-each Q g lo zero f = every-nil Q
+every-each Q g lo (suc m) f =
+    every-cons Q (g lo) (toEach g (suc lo) m) (f lo (omega arith) (omega arith)) (every-each Q g (suc lo) m (λ j a b. f j (omega arith) (omega arith)))
