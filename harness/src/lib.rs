@@ -2,6 +2,8 @@
 //!
 //! `reference` is written from the document alone. Nothing here is proved: it is the other opinion.
 
+pub mod calls;
+pub mod generate;
 pub mod random;
 pub mod reference;
 pub mod sample;

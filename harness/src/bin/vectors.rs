@@ -3,14 +3,16 @@
 //! vectors stream TABLE            the stream, one line
 //! vectors packets TABLE [LIMIT]   the packets of a run in the order delivered (cell 0 each time), one a line
 //! vectors steps TABLE [LIMIT]     each step of that run: own number, unit before, packet, refusal, unit after, records, packets sent
+//! vectors messages TABLE COUNT    messages good and bad, each after the number that reading it gives (0 accepted)
 //!
 //! A unit is 138 bytes, its fields in the order of 01's state: threshold (16 bytes), bound (4), best (16), estimates (16 × 4),
 //! stamp (16), values (16), cost (4), counter (1), stopped (1); numbers little-endian.
 
-use harness::reference::costs;
+use harness::generate;
+use harness::random::Random;
 use harness::reference::network::{self, Network};
-use harness::reference::table;
 use harness::reference::unit::{self, Unit};
+use harness::reference::{costs, message, table};
 use harness::sample;
 use std::process::exit;
 
@@ -62,13 +64,23 @@ fn print_step(stream: &[u8], shed: &Network, packet: &[u8]) {
     println!();
 }
 
+/// The same ones every time.
+fn print_messages(stream: &[u8], count: usize) {
+    let (n, sizes) = table::head(stream);
+    let mut random = Random::new(u64::from(n));
+    for _ in 0..count {
+        let packet = generate::packet(&mut random, n, &sizes);
+        println!("{} {}", message::parse(n, &sizes, &packet).err().unwrap_or(0), hex(&packet));
+    }
+}
+
 fn refused<T>(refusal: u8) -> T {
     eprintln!("refused {refusal}");
     exit(1)
 }
 
 fn usage<T>() -> T {
-    eprintln!("vectors stream|packets|steps TABLE [LIMIT]");
+    eprintln!("vectors stream|packets|steps|messages TABLE [LIMIT]");
     exit(2)
 }
 
@@ -85,6 +97,7 @@ fn main() {
         "stream" => println!("{}", hex(&stream)),
         "packets" => run(&stream, limit, |_, packet| println!("{}", hex(packet))),
         "steps" => run(&stream, limit, |shed, packet| print_step(&stream, shed, packet)),
+        "messages" if !rest.is_empty() => print_messages(&stream, limit),
         _ => usage(),
     }
 }

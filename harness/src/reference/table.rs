@@ -62,7 +62,8 @@ pub fn write(stream: &[u8], file: &mut [u8]) -> Result<usize, Refusal> {
     Ok(blocks * BLOCK)
 }
 
-fn make_block(number: u16, payload: &[u8]) -> [u8; BLOCK] {
+/// One block with its checksum. The payload has at most 506 bytes.
+pub fn make_block(number: u16, payload: &[u8]) -> [u8; BLOCK] {
     let mut block = [0; BLOCK];
     block[0..2].copy_from_slice(&number.to_le_bytes());
     block[2..4].copy_from_slice(&(payload.len() as u16).to_le_bytes());

@@ -1,0 +1,59 @@
+//! The generators reach every refusal of every call, and a refused call of the reference leaves what it was lent.
+
+use harness::calls::{self, Call, Input, CALLS};
+use harness::generate;
+use harness::random::Random;
+
+fn inputs(call: Call) -> u32 {
+    match call {
+        Call::Deliver | Call::Settle | Call::Search => 4_000,
+        _ => 20_000,
+    }
+}
+
+/// The buffer that a call may write, before it.
+fn lent(input: &Input) -> Option<Vec<u8>> {
+    match input {
+        Input::Read { stream: lent, .. }
+        | Input::Write { file: lent, .. }
+        | Input::Encode { out: lent, .. }
+        | Input::Make { out: lent, .. }
+        | Input::Step { out: lent, .. }
+        | Input::MakeNetwork { pool: lent, .. }
+        | Input::Deliver { pool: lent, .. }
+        | Input::Settle { pool: lent, .. } => Some(lent.clone()),
+        _ => None,
+    }
+}
+
+#[test]
+fn every_refusal_is_reached_and_leaves_what_was_lent() {
+    for (call, name, refusals) in CALLS {
+        let mut random = Random::new(1);
+        let mut reached = [0u32; 17];
+        for _ in 0..inputs(call) {
+            let input = generate::input(&mut random, call);
+            let before = input.clone();
+            let outcome = calls::reference(input);
+            reached[outcome.refusal as usize] += 1;
+            if outcome.refusal == 0 {
+                continue;
+            }
+            if let Some(bytes) = lent(&before) {
+                assert_eq!(outcome.lent, bytes, "{name} refused by {} wrote", outcome.refusal);
+            }
+            match before {
+                Input::Step { unit, .. } => assert_eq!(outcome.units, [unit], "{name}"),
+                Input::Deliver { network, .. } => assert_eq!(outcome.units, network.units, "{name}"),
+                _ => {}
+            }
+        }
+        println!("{name}: accepted {}, refused {:?}", reached[0], &reached[1..]);
+        assert!(reached[0] > 100, "{name} was accepted {} times", reached[0]);
+        for refusal in 1..=16u8 {
+            let times = reached[refusal as usize];
+            let can = refusals.contains(&refusal);
+            assert!(can == (times > 0), "{name}: refusal {refusal} came {times} times");
+        }
+    }
+}
