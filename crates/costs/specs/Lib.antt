@@ -1,5 +1,6 @@
 -- Pair costs and what is worked out from them, in reading order.
 pub mod Instance
 pub mod Bounds
+pub mod Lent
 pub mod Problem
 pub mod Laws

@@ -1,0 +1,43 @@
+-- `lent_refusal` meets its contract: each way out fixes the tests of the definition.
+-- Assumes nothing.
+use mathlib.Core.Path.{_≡_, sym, _∙_}
+use mathlib.Core.Bool.{Bool, true, false}
+use borrow.Author.Needs.{needs}
+use borrow.Author.Tests.{not-true, not-false}
+use Rattle.costs.specs.Lent.Checks.{refusal-length, refusal-costs}
+use Rattle.costs.proofs.lent_refusal.Statement.{statement}
+use Rattle.costs.proofs.lent_refusal.Tie as tie
+
+lent-count-requires : tie.Need-lent-count-requires
+lent-count-requires c κs = search needs
+
+mul-if1 : tie.Need-mul-if1
+mul-if1 c = search needs
+
+returns : tie.Need-returns
+returns c =
+    let a = c .before .before .before .args in
+    let m = c .before .lent-count in
+    sym (refusal-length (a .own) (a .n) (a .sizes) (a .costs .now) (m .result) (m .ensures .0) (c .if1 .taken))
+
+costs-good-requires : tie.Need-costs-good-requires
+costs-good-requires c κs = search needs
+
+returns-2 : tie.Need-returns-2
+returns-2 c =
+    let a = c .before .before .before .before .before .args in
+    let m = c .before .before .before .lent-count in
+    let g = sym (c .before .costs-good .ensures) ∙ not-true _ (c .if2 .taken) in
+    sym (refusal-costs (a .own) (a .n) (a .sizes) (a .costs .now) (m .result) (m .ensures .0) (c .before .before .if1 .left) false g)
+
+returns-3 : tie.Need-returns-3
+returns-3 c =
+    let a = c .before .before .before .before .before .args in
+    let m = c .before .before .before .lent-count in
+    let g = sym (c .before .costs-good .ensures) ∙ not-false _ (c .if2 .left) in
+    sym (refusal-costs (a .own) (a .n) (a .sizes) (a .costs .now) (m .result) (m .ensures .0) (c .before .before .if1 .left) true g)
+
+pub lent-refusal-spec : {M : Type 1} → statement M
+lent-refusal-spec =
+    tie.close
+    (tie.spec lent-count-requires mul-if1 returns costs-good-requires returns-2 returns-3)

@@ -1,0 +1,39 @@
+-- `size_of` meets its contract: past the array or the count there is no size, and below both it is the array's.
+-- Assumes nothing.
+use mathlib.Core.Path.{sym, _∙_}
+use native.Mathlib.Omega.{arith}
+use borrow.Author.Needs.{needs}
+use lib.ListN.{length}
+use mathlib.Core.Path.{_≡_}
+use Rattle.costs.specs.Lent.Steps.{dom-past-count, dom-past-list, dom-at}
+use Rattle.costs.proofs.size_of.Statement.{statement}
+use Rattle.costs.proofs.size_of.Tie as tie
+
+returns : tie.Need-returns
+returns c =
+    let a = c .before .args in
+    let h : length (a .t2) ≡ 16 = search needs in
+    (sym (dom-past-list (a .n) (a .t2) (a .b) (omega arith)), omega arith)
+
+wide-requires : tie.Need-wide-requires
+wide-requires c κs = search needs
+
+returns-2 : tie.Need-returns-2
+returns-2 c =
+    let a = c .before .before .before .args in
+    (sym (dom-past-count (a .n) (a .t2) (a .b) (omega arith)), omega arith)
+
+array-read-wide : tie.Need-array-read-wide
+array-read-wide c = search needs
+
+wide-requires-2 : tie.Need-wide-requires-2
+wide-requires-2 c κs = search needs
+
+returns-3 : tie.Need-returns-3
+returns-3 c =
+    let a = c .before .before .before .before .args in
+    (c .wide2 .ensures .0 ∙ sym (dom-at (a .n) (a .t2) (a .b) (omega arith)), c .wide2 .ensures .1)
+
+pub size-of-spec : {M : Type 1} → statement M
+size-of-spec =
+    tie.close (tie.spec returns wide-requires returns-2 array-read-wide wide-requires-2 returns-3)
