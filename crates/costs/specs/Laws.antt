@@ -15,6 +15,7 @@ use Rattle.costs.specs.Problem.{Problem, InDom, Full, ClosedBy, Closed, 
 use Rattle.costs.specs.Laws.Sums.{sumFrom-le, sumFrom-add-le, least-le, least-add, least-bound}
 pub mod Sums
 pub mod Prefix
+pub mod Stream
 
 -- ---- an instance as accepted
 

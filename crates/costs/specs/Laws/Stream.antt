@@ -1,0 +1,151 @@
+-- The instance of an accepted stream is sound. How many costs stand before a pair's is counted unit by unit, as the stream's length is,
+-- so each cost of a pair of values is one of the stream's, and those are at most 60,000.
+-- Assumes nothing.
+use Prim.Native.Nat.{ℕ, zero, suc, _+_, _*_, _-_, _≤_, _<_}
+use mathlib.Core.Path.{_≡_, refl, sym, ap, _∙_, subst}
+use mathlib.Core.Bool.{Bool, true, false, cond, _&&_, false≢true}
+use mathlib.Core.List.{List, [], _∷_}
+use native.Mathlib.Omega.{arith}
+use native.Mathlib.Nat.{mul-le-mul, mul-add, le-refl, zero-add}
+use lib.Dec.{ltb, leb, eqb}
+use lib.ListN.{length, getD, take, drop, List·getD-eq-default}
+use lib.Seq.{getD-drop, getD-take}
+use borrow.Author.Tests.{leb-true, ltb-true, ltb-false}
+use Rattle.base.specs.Bytes.{u16At}
+use Rattle.base.specs.Sums.{sumFrom, sumTo}
+use Rattle.base.specs.Shape.{and-left, and-right}
+use Rattle.table.specs.Stream.{unitsOf, sizesOf, sumList, pairsIn, needed, costAt, Accepted}
+use Rattle.table.specs.StreamLaws.{accepted-units, accepted-size, accepted-length, accepted-sizes-length, accepted-cost}
+use Rattle.costs.specs.Instance.{Instance, domIn, isValue, rowStart, pairStart, inPair, costNumber, tableCost, instanceOf}
+use Rattle.costs.specs.Laws.Sums.{sumTo-mono, sumTo-sumFrom, sumFrom-last, sumFrom-split}
+use Rattle.costs.specs.Laws.{Sound}
+
+-- ---- a cost's place
+
+-- among the costs of its pair
+pub in-pair-lt : (c d u v : ℕ) → 1 ≤ u → u ≤ c → 1 ≤ v → v ≤ d → inPair d u v < c * d
+in-pair-lt c d u v u1 uc v1 vd =
+    let w : suc (u - 1) ≤ c = omega arith in
+    omega (arith, mul-le-mul w (le-refl d))
+
+module _ (dom : ℕ → ℕ) (n i j : ℕ) (lt : i < j) (in-n : j < n) where
+  sizes-to : sumFrom dom (suc i) (j - suc i) + dom j ≤ sumFrom dom (suc i) (n - suc i)
+  sizes-to =
+      let e : n - suc i ≡ suc (j - suc i) + (n - suc j) = omega arith in
+      let q : dom (suc i + (j - suc i)) ≡ dom j = ap dom (omega arith) in
+      rw e (omega (arith, sumFrom-split dom (suc i) (suc (j - suc i)) (n - suc j), sumFrom-last dom (suc i) (j - suc i)))
+
+  -- the costs of the pair (i, j) end within those of unit i
+  pub pair-end : pairStart dom n i j + dom i * dom j ≤ rowStart dom n (suc i)
+  pair-end = omega (arith, mul-le-mul (le-refl (dom i)) sizes-to, mul-add (dom i) (sumFrom dom (suc i) (j - suc i)) (dom j))
+
+  -- and these within all costs
+  pub pair-inside : pairStart dom n i j + dom i * dom j ≤ rowStart dom n n
+  pair-inside = omega (arith, pair-end, sumTo-mono (λ a. dom a * sumFrom dom (suc a) (n - suc a)) (suc i) n (omega arith))
+
+-- ---- how many costs there are
+
+module _ (f : ℕ → ℕ) where
+  sum-of-list : (l : List ℕ) (lo : ℕ) → ((k : ℕ) → k < length l → f (lo + k) ≡ getD l k 0) → sumFrom f lo (length l) ≡ sumList l
+  unfolding sumList
+  sum-of-list [] lo e = refl
+  sum-of-list (x ∷ l) lo e =
+      let a : f lo ≡ x = ap f (omega arith) ∙ e 0 (omega arith) in
+      omega (arith, a, sum-of-list l (suc lo) (λ k h. ap f (omega arith) ∙ e (suc k) (omega arith)))
+
+  pairs-of-list : (l : List ℕ) (lo n : ℕ) → n ≡ lo + length l → ((k : ℕ) → k < length l → f (lo + k) ≡ getD l k 0)
+      → sumFrom (λ a. f a * sumFrom f (suc a) (n - suc a)) lo (length l) ≡ pairsIn l
+  unfolding pairsIn
+  pairs-of-list [] lo n q e = refl
+  pairs-of-list (x ∷ l) lo n q e =
+      let a : f lo ≡ x = ap f (omega arith) ∙ e 0 (omega arith) in
+      let more : (k : ℕ) → k < length l → f (suc lo + k) ≡ getD l k 0 = λ k h. ap f (omega arith) ∙ e (suc k) (omega arith) in
+      let r : n - suc lo ≡ length l = omega arith in
+      rw (r, a, sum-of-list l (suc lo) more, pairs-of-list l (suc lo) n (omega arith) more)
+
+-- as many as table counts
+pub costs-count : (l : List ℕ) → rowStart (λ k. getD l k 0) (length l) (length l) ≡ pairsIn l
+costs-count l = sumTo-sumFrom _ (length l) ∙ pairs-of-list (λ k. getD l k 0) l 0 (length l) (omega arith) (λ k h. rw (zero-add k) refl)
+
+-- ---- tests taken apart
+
+pub all-four : (a b c d : Bool) → (a && b && c && d) ≡ true → (a ≡ true) × (b ≡ true) × (c ≡ true) × (d ≡ true)
+all-four true true true true e = (refl, refl, refl, refl)
+all-four true true true false e = absurd (false≢true e)
+all-four true true false d e = absurd (false≢true e)
+all-four true false c d e = absurd (false≢true e)
+all-four false b c d e = absurd (false≢true e)
+
+-- a value is one of its unit's
+pub value-range : (d v : ℕ) → isValue d v ≡ true → (1 ≤ v) × (v ≤ d)
+value-range d v e = (leb-true 1 v (and-left (leb 1 v) (leb v d) e), leb-true v d (and-right (leb 1 v) (leb v d) e))
+
+-- ---- an accepted stream
+
+-- its domain sizes
+abbrev pub domOf : List ℕ → ℕ → ℕ
+domOf s = domIn (unitsOf s) (drop 1 s)
+
+-- its costs
+abbrev pub costsOf : List ℕ → List ℕ
+costsOf s = drop (1 + unitsOf s) s
+
+-- cost number k of all costs
+pub cost-number-at : (s : List ℕ) (k : ℕ) → costNumber (costsOf s) k ≡ costAt s k
+cost-number-at s k =
+    let e : 1 + unitsOf s + (2 * k + 1) ≡ 1 + unitsOf s + 2 * k + 1 = omega arith in
+    rw (getD-drop (1 + unitsOf s) s (2 * k) 0, getD-drop (1 + unitsOf s) s (2 * k + 1) 0, e)
+
+-- the instance's parts
+pub instance-units : (s : List ℕ) → instanceOf s .n ≡ unitsOf s
+unfolding instanceOf
+instance-units s = refl
+
+pub instance-dom : (s : List ℕ) → instanceOf s .dom ≡ domOf s
+unfolding instanceOf
+instance-dom s = refl
+
+module _ (s : List ℕ) (ok : Accepted s) where
+  pub dom-inside : (k : ℕ) → k < unitsOf s → (1 ≤ domOf s k) × (domOf s k ≤ 16)
+  dom-inside k h = rw (getD-take (unitsOf s) (drop 1 s) k 0 h, getD-drop 1 s k 0) (accepted-size s ok k h)
+
+  dom-outside : (k : ℕ) → unitsOf s ≤ k → domOf s k ≡ 0
+  dom-outside k h = List·getD-eq-default (sizesOf s) 0 (omega (arith, accepted-sizes-length s ok))
+
+  pub dom-most : (k : ℕ) → domOf s k ≤ 16
+  dom-most k = go (ltb k (unitsOf s)) refl
+    where
+      go : (t : Bool) → ltb k (unitsOf s) ≡ t → domOf s k ≤ 16
+      go true e = dom-inside k (ltb-true k (unitsOf s) e) .1
+      go false e = omega (arith, dom-outside k (ltb-false k (unitsOf s) e))
+
+  pub costs-in-stream : rowStart (domOf s) (unitsOf s) (unitsOf s) ≡ pairsIn (sizesOf s)
+  costs-in-stream = subst (λ m. rowStart (domOf s) m m ≡ pairsIn (sizesOf s)) (accepted-sizes-length s ok) (costs-count (sizesOf s))
+
+  -- the costs of a pair are among them
+  pub pair-costs : (i j : ℕ) → i < j → j < unitsOf s → pairStart (domOf s) (unitsOf s) i j + domOf s i * domOf s j ≤ pairsIn (sizesOf s)
+  pair-costs i j a b = rw (← costs-in-stream) (pair-inside (domOf s) (unitsOf s) i j a b)
+
+  table-cost-small : (i u j v : ℕ) → tableCost (unitsOf s) (domOf s) (costsOf s) i u j v ≤ 60000
+  table-cost-small i u j v = go (ltb i j && ltb j (unitsOf s) && isValue (domOf s i) u && isValue (domOf s j) v) refl
+    where
+      go : (t : Bool) → (ltb i j && ltb j (unitsOf s) && isValue (domOf s i) u && isValue (domOf s j) v) ≡ t → cond t (costNumber (costsOf s) (pairStart (domOf s) (unitsOf s) i j + inPair (domOf s j) u v)) 0 ≤ 60000
+      go true e =
+          let q = all-four (ltb i j) (ltb j (unitsOf s)) (isValue (domOf s i) u) (isValue (domOf s j) v) e in
+          let hu = value-range (domOf s i) u (q .2) in
+          let hv = value-range (domOf s j) v (q .3) in
+          let p = pair-costs i j (ltb-true i j (q .0)) (ltb-true j (unitsOf s) (q .1)) in
+          let r = in-pair-lt (domOf s i) (domOf s j) u v (hu .0) (hu .1) (hv .0) (hv .1) in
+          rw (cost-number-at s (pairStart (domOf s) (unitsOf s) i j + inPair (domOf s j) u v)) (accepted-cost s ok (pairStart (domOf s) (unitsOf s) i j + inPair (domOf s j) u v) (omega arith))
+      go false e = omega arith
+
+  pub sound-of : Sound (instanceOf s)
+  unfolding instanceOf
+  sound-of =
+      record {
+        n1 = accepted-units s ok .0;
+        n16 = accepted-units s ok .1;
+        dom1 = λ k h. dom-inside k h .0;
+        dom16 = dom-most;
+        small = table-cost-small;
+      }
