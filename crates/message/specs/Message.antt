@@ -61,9 +61,13 @@ abbrev pub placeGood : Bool → ℕ → ℕ → Bool
 placeGood true d x = leb 1 x && leb x d
 placeGood false d x = eqb x 0
 
+-- place j of l, where the first k are filled
+abbrev pub placeAt : ℕ → List ℕ → List ℕ → ℕ → Bool
+placeAt k sizes l j = placeGood (ltb j k) (getD sizes j 0) (getD l j 0)
+
 -- 01: "Filled stamp and value bytes are 1 to d(k), others 0": units 1 to k are filled, and no others of the 16
 unfoldable pub filledTo : ℕ → List ℕ → List ℕ → Bool
-filledTo k sizes l = every (λ (j : ℕ). placeGood (ltb j k) (getD sizes j 0) (getD l j 0)) 16
+filledTo k sizes l = every (placeAt k sizes l) 16
 
 -- 01: "A bound is at most 7,200,000 with best filled for all n and zero after"
 unfoldable pub boundGood : ℕ → List ℕ → ℕ → List ℕ → Bool
@@ -77,46 +81,57 @@ noneOrBound n sizes bound best = cond (eqb bound NONE) (filledTo 0 sizes best) (
 unfoldable pub noBound : List ℕ → ℕ → List ℕ → Bool
 noBound sizes bound best = eqb bound 0 && filledTo 0 sizes best
 
--- 01: "units 1 to receiver - 1, or 1 to receiver going back, are filled"; "units 1 to sender filled"; "stamp filled for units 1 to receiver"
-unfoldable pub stampCount : Kind → Message → ℕ
-stampCount Cpa m = cond (ltb (m .sender) (m .receiver)) (m .receiver - 1) (m .receiver)
+-- 01: "units 1 to receiver - 1, or 1 to receiver going back, are filled"
+abbrev pub cpaCount : ℕ → ℕ → ℕ
+cpaCount s r = cond (ltb s r) (r - 1) r
+
+-- how many units' stamps are filled; 01: "units 1 to sender filled", "stamp filled for units 1 to receiver"
+abbrev pub stampCount : Kind → Message → ℕ
+stampCount Cpa m = cpaCount (m .sender) (m .receiver)
 stampCount Request m = m .sender
 stampCount Estimate m = m .receiver
 stampCount Solution m = 0
 stampCount Stop m = 0
 
 -- the values are filled as far as the stamp; an estimate has none
-unfoldable pub valueCount : Kind → Message → ℕ
-valueCount Cpa m = stampCount Cpa m
-valueCount Request m = stampCount Request m
+abbrev pub valueCount : Kind → Message → ℕ
+valueCount Cpa m = cpaCount (m .sender) (m .receiver)
+valueCount Request m = m .sender
 valueCount Estimate m = 0
 valueCount Solution m = 0
 valueCount Stop m = 0
 
 -- the most that the cost may be; 0 where the kind has none
-unfoldable pub costLimit : Kind → Message → ℕ
-costLimit Cpa m = prefixLimit (stampCount Cpa m)
-costLimit Request m = prefixLimit (stampCount Request m)
+abbrev pub costLimit : Kind → Message → ℕ
+costLimit Cpa m = prefixLimit (cpaCount (m .sender) (m .receiver))
+costLimit Request m = prefixLimit (m .sender)
 costLimit Estimate m = totalLimit
 costLimit Solution m = 0
 costLimit Stop m = 0
 
 -- which bounds a kind may carry
-unfoldable pub boundFits : ℕ → List ℕ → Kind → ℕ → List ℕ → Bool
+abbrev pub boundFits : ℕ → List ℕ → Kind → ℕ → List ℕ → Bool
 boundFits n sizes Cpa bound best = noneOrBound n sizes bound best
 boundFits n sizes Request bound best = noBound sizes bound best
 boundFits n sizes Estimate bound best = noBound sizes bound best
 boundFits n sizes Solution bound best = boundGood n sizes bound best
 boundFits n sizes Stop bound best = noneOrBound n sizes bound best
 
--- 01: "receiver is sender + 1 (going down) or sender - 1 (going back)"; "Copy: sender < receiver"; "Estimate: sender > receiver";
--- "News (from unit n) and stop (from unit 1), to another unit"
-unfoldable pub directionGood : ℕ → Kind → ℕ → ℕ → Bool
-directionGood n Cpa s r = eqb r (s + 1) || eqb s (r + 1)
+-- 01: "receiver is sender + 1 (going down) or sender - 1 (going back)"
+abbrev pub beside : ℕ → ℕ → Bool
+beside s r = eqb r (s + 1) || eqb s (r + 1)
+
+-- 01: "from unit n", "from unit 1", "to another unit"
+abbrev pub fromTo : ℕ → ℕ → ℕ → Bool
+fromTo home s r = eqb s home && not (eqb r s)
+
+-- who may send to whom; 01: "Copy: sender < receiver", "Estimate: sender > receiver"
+abbrev pub directionGood : ℕ → Kind → ℕ → ℕ → Bool
+directionGood n Cpa s r = beside s r
 directionGood n Request s r = ltb s r
 directionGood n Estimate s r = ltb r s
-directionGood n Solution s r = eqb s n && not (eqb r s)
-directionGood n Stop s r = eqb s 1 && not (eqb r s)
+directionGood n Solution s r = fromTo n s r
+directionGood n Stop s r = fromTo 1 s r
 
 -- a unit number, 1 to n
 abbrev pub isUnit : ℕ → ℕ → Bool

@@ -1,0 +1,76 @@
+-- A message read from bytes and written into a lent buffer, with the refusals in 01's order. Document 01, 'Refusals':
+-- "Reading a message: 5, 8, 10, 9. Writing one: 5, 10, 9, 13."
+-- Assumes nothing.
+use Prim.Native.Nat.{ℕ, _+_}
+use mathlib.Core.Bool.{Bool, true, false, cond, not, _&&_, _||_}
+use mathlib.Core.List.{List}
+use lib.Dec.{ltb, eqb}
+use lib.ListN.{length, take, drop, getD}
+use Rattle.base.specs.Bytes.{u16At, u32At}
+use Rattle.base.specs.Shape.{shapeGood}
+use Rattle.checksum.specs.Sum.{sumOf}
+use Rattle.message.specs.declared.Kind.{Kind}
+use Rattle.message.specs.declared.Kind.the-variants.{Cpa, Request, Estimate, Solution, Stop}
+use Rattle.message.specs.declared.Read.{Read}
+use Rattle.message.specs.declared.Read.the-variants.{Good, Refused}
+use Rattle.message.specs.declared.Message.{Message}
+use Rattle.message.specs.declared.Parsed.{Parsed}
+use Rattle.message.specs.Message.{noMessage, addressGood, wellFormed}
+use Rattle.message.specs.Encode.{putOf}
+
+-- the fields of 64 bytes
+unfoldable pub messageIn : List ℕ → Message
+messageIn s = record {
+  sender = getD s 1 0;
+  receiver = getD s 2 0;
+  stamp = take 16 (drop 4 s);
+  values = take 16 (drop 20 s);
+  cost = u32At s 36;
+  bound = u32At s 40;
+  best = take 16 (drop 44 s);
+}
+
+-- the kind of a byte; 01, refusal 9: no kind has another number
+unfoldable pub kindOf : ℕ → Read
+kindOf b = cond (eqb b 1) (Good Cpa) (cond (eqb b 2) (Good Request) (cond (eqb b 3) (Good Estimate) (cond (eqb b 4) (Good Solution) (cond (eqb b 5) (Good Stop) (Refused 9)))))
+
+-- 01, refusal 8: "message not 64 bytes, or check wrong"
+unfoldable pub checkGood : List ℕ → Bool
+checkGood s = eqb (length s) 64 && eqb (u16At s 62) (sumOf (take 62 s))
+
+-- 01: "3 zero", "60-61 zero"
+unfoldable pub restZero : List ℕ → Bool
+restZero s = eqb (getD s 3 0) 0 && eqb (u16At s 60) 0
+
+-- 01, refusal 10: "in a step, message for another unit"; own is 0 where any receiver will do
+unfoldable pub forUnit : ℕ → Message → Bool
+forUnit own m = eqb own 0 || eqb (m .receiver) own
+
+-- the answer with a refusal: every field beside the number is zero
+abbrev pub refused : ℕ → Parsed
+refused r = record { answer = Refused r; message = noMessage }
+
+-- check 9, by the kind read
+unfoldable pub parseKind : ℕ → List ℕ → List ℕ → Read → Parsed
+parseKind n sizes s (Good k) = cond (restZero s && wellFormed n sizes k (messageIn s)) (record { answer = Good k; message = messageIn s }) (refused 9)
+parseKind n sizes s (Refused r) = refused r
+
+-- 01: "5, 8, 10, 9"
+unfoldable pub parseFor : ℕ → List ℕ → ℕ → List ℕ → Parsed
+parseFor n sizes own s =
+    cond (not (shapeGood n sizes)) (refused 5)
+    (cond (not (checkGood s)) (refused 8)
+    (cond (not (addressGood n (messageIn s) && forUnit own (messageIn s))) (refused 10)
+    (parseKind n sizes s (kindOf (getD s 0 0)))))
+
+-- 01: "5, 10, 9, 13", the last for a lent output of `room` bytes; 0 where the message is written
+unfoldable pub writeRefusal : ℕ → List ℕ → Kind → Message → ℕ → ℕ
+writeRefusal n sizes k m room =
+    cond (not (shapeGood n sizes)) 5
+    (cond (not (addressGood n m)) 10
+    (cond (not (wellFormed n sizes k m)) 9
+    (cond (ltb room 64) 13 0)))
+
+-- what writing leaves in the lent output: the 64 bytes first, or all as it was
+unfoldable pub writeOf : ℕ → List ℕ → Kind → Message → List ℕ → List ℕ
+writeOf n sizes k m out = cond (eqb (writeRefusal n sizes k m (length out)) 0) (putOf k m out 0) out

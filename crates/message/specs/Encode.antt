@@ -1,0 +1,28 @@
+-- A message as its 64 bytes. Document 01, 'Radio message, 64 bytes'.
+-- Assumes nothing.
+use Prim.Native.Nat.{ℕ, _+_}
+use mathlib.Core.Bool.{Bool, cond}
+use mathlib.Core.List.{List, [], _∷_, _++_}
+use lib.Dec.{leb}
+use lib.ListN.{length, take, drop}
+use Rattle.base.specs.Bytes.{le16, le32}
+use Rattle.checksum.specs.Sum.{sumOf}
+use Rattle.message.specs.declared.Kind.{Kind}
+use Rattle.message.specs.declared.Message.{Message}
+use Rattle.message.specs.Message.{kindCode}
+
+-- 01: "0 kind; 1 sender; 2 receiver; 3 zero; 4-19 stamp; 20-35 values; 36-39 cost; 40-43 bound; 44-59 best lotting; 60-61 zero"
+unfoldable pub body : Kind → Message → List ℕ
+body k m = (kindCode k ∷ m .sender ∷ m .receiver ∷ 0 ∷ []) ++ m .stamp ++ m .values ++ le32 (m .cost) ++ le32 (m .bound) ++ m .best ++ 0 ∷ 0 ∷ []
+
+-- 01: "62-63 check, the same sum over bytes 0 to 61"
+unfoldable pub encode : Kind → Message → List ℕ
+encode k m = body k m ++ le16 (sumOf (body k m))
+
+-- the bytes s written over l from `at` on
+abbrev pub putAt : List ℕ → ℕ → List ℕ → List ℕ
+putAt l at s = take at l ++ s ++ drop (at + length s) l
+
+-- a message put into a lent buffer: its 64 bytes from `at` on where they fit, else nothing
+unfoldable pub putOf : Kind → Message → List ℕ → ℕ → List ℕ
+putOf k m l at = cond (leb (at + 64) (length l)) (putAt l at (encode k m)) l
