@@ -11,7 +11,7 @@ use native.Mathlib.Nat.{mul-le-mul, le-refl}
 use lib.ListN.{length}
 use Rattle.base.specs.Sums.{sumFrom, least}
 use Rattle.costs.specs.Instance.{Instance}
-use Rattle.costs.specs.Problem.{Problem, InDom, Full, ClosedBy, Closed, Laws, closed-empty}
+use Rattle.costs.specs.Problem.{Problem, InDomains, Full, ClosedBy, Closed, Laws, closed-least}
 use Rattle.costs.specs.Laws.Sums.{sumFrom-le, sumFrom-add-le, least-le, least-add, least-bound}
 pub mod Sums
 pub mod Prefix
@@ -44,56 +44,56 @@ module _ (I : Instance) where
   hOf i u = sumFrom (λ j. least (λ v. I .cost i u j v) (I .dom j)) (suc i) (I .n - suc i)
 
   -- the cost of a prefix and h of its last value
-  abbrev pub lowOf : List ℕ → ℕ
-  lowOf [] = 0
-  lowOf (v ∷ b) = costOf (v ∷ b) + hOf (length b) v
+  abbrev pub lookaheadOf : List ℕ → ℕ
+  lookaheadOf [] = 0
+  lookaheadOf (v ∷ b) = costOf (v ∷ b) + hOf (length b) v
 
   -- unit j's estimate for a prefix
-  abbrev pub estOf : ℕ → List ℕ → ℕ
-  estOf j b = least (λ v. against j v b + hOf j v) (I .dom j)
+  abbrev pub estimateOf : ℕ → List ℕ → ℕ
+  estimateOf j b = least (λ v. against j v b + hOf j v) (I .dom j)
 
   abbrev pub problemOf : Problem
-  problemOf = record { n = I .n; dom = I .dom; cost = costOf; low = lowOf; est = estOf }
+  problemOf = record { n = I .n; size = I .dom; cost = costOf; lookahead = lookaheadOf; estimate = estimateOf }
 
 -- ---- the laws
 
 module _ (I : Instance) where
   -- one value more counts each pair of unassigned units once: h of the value, and the estimates without it
-  est-step : (b : List ℕ) (v j : ℕ) → least (λ w. I .cost (length b) v j w) (I .dom j) + estOf I j b ≤ estOf I j (v ∷ b)
-  est-step b v j = least-add (λ w. I .cost (length b) v j w) (λ w. against I j w b + hOf I j w) (λ w. against I j w (v ∷ b) + hOf I j w) (λ w. omega arith) (I .dom j)
+  estimate-step : (b : List ℕ) (v j : ℕ) → least (λ w. I .cost (length b) v j w) (I .dom j) + estimateOf I j b ≤ estimateOf I j (v ∷ b)
+  estimate-step b v j = least-add (λ w. I .cost (length b) v j w) (λ w. against I j w b + hOf I j w) (λ w. against I j w (v ∷ b) + hOf I j w) (λ w. omega arith) (I .dom j)
 
-  est-steps : (b : List ℕ) (v lo m : ℕ)
-      → sumFrom (λ j. least (λ w. I .cost (length b) v j w) (I .dom j)) lo m + sumFrom (λ j. estOf I j b) lo m ≤ sumFrom (λ j. estOf I j (v ∷ b)) lo m
-  est-steps b v lo m = sumFrom-add-le (λ j. least (λ w. I .cost (length b) v j w) (I .dom j)) (λ j. estOf I j b) (λ j. estOf I j (v ∷ b)) (est-step b v) lo m
+  estimate-steps : (b : List ℕ) (v lo m : ℕ)
+      → sumFrom (λ j. least (λ w. I .cost (length b) v j w) (I .dom j)) lo m + sumFrom (λ j. estimateOf I j b) lo m ≤ sumFrom (λ j. estimateOf I j (v ∷ b)) lo m
+  estimate-steps b v lo m = sumFrom-add-le (λ j. least (λ w. I .cost (length b) v j w) (I .dom j)) (λ j. estimateOf I j b) (λ j. estimateOf I j (v ∷ b)) (estimate-step b v) lo m
 
   -- the cost so far and all estimates bound every full assignment
-  bound : (r : ℕ) (b : List ℕ) → length b + r ≡ I .n → (B : ℕ) → B ≤ costOf I b + sumFrom (λ j. estOf I j b) (length b) r → ClosedBy (problemOf I) r b B
+  bound : (r : ℕ) (b : List ℕ) → length b + r ≡ I .n → (B : ℕ) → B ≤ costOf I b + sumFrom (λ j. estimateOf I j b) (length b) r → ClosedBy (problemOf I) r b B
   bound zero b e B le = omega arith
   bound (suc r) b e B le = λ v lo hi.
       bound r (v ∷ b) (omega arith) B
       (let q : I .n - suc (length b) ≡ r = omega arith in
       let a : hOf I (length b) v ≡ sumFrom (λ j. least (λ w. I .cost (length b) v j w) (I .dom j)) (suc (length b)) r = rw q in
-      omega (arith, a, est-steps b v (suc (length b)) r, least-le (λ w. against I (length b) w b + hOf I (length b) w) (I .dom (length b)) v lo hi))
+      omega (arith, a, estimate-steps b v (suc (length b)) r, least-le (λ w. against I (length b) w b + hOf I (length b) w) (I .dom (length b)) v lo hi))
 
-  closed-by-estimates : (b : List ℕ) (B : ℕ) → length b ≤ I .n → B ≤ costOf I b + sumFrom (λ j. estOf I j b) (length b) (I .n - length b) → Closed (problemOf I) b B
-  closed-by-estimates b B l le = bound (I .n - length b) b (omega arith) B le
+  by-estimates : (b : List ℕ) (B : ℕ) → length b ≤ I .n → B ≤ costOf I b + sumFrom (λ j. estimateOf I j b) (length b) (I .n - length b) → Closed (problemOf I) b B
+  by-estimates b B l le = bound (I .n - length b) b (omega arith) B le
 
-  closed-by-low : (b : List ℕ) (B : ℕ) → length b ≤ I .n → B ≤ lowOf I b → Closed (problemOf I) b B
-  closed-by-low [] B l le = closed-by-estimates [] B l (omega arith)
-  closed-by-low (v ∷ b) B l le = closed-by-estimates (v ∷ b) B l (omega (arith, est-steps b v (suc (length b)) (I .n - suc (length b))))
+  by-lookahead : (b : List ℕ) (B : ℕ) → length b ≤ I .n → B ≤ lookaheadOf I b → Closed (problemOf I) b B
+  by-lookahead [] B l le = by-estimates [] B l (omega arith)
+  by-lookahead (v ∷ b) B l le = by-estimates (v ∷ b) B l (omega (arith, estimate-steps b v (suc (length b)) (I .n - suc (length b))))
 
-  pub cost-le-low : (b : List ℕ) → costOf I b ≤ lowOf I b
-  cost-le-low [] = omega arith
-  cost-le-low (v ∷ b) = omega arith
+  pub cost-le-lookahead : (b : List ℕ) → costOf I b ≤ lookaheadOf I b
+  cost-le-lookahead [] = omega arith
+  cost-le-lookahead (v ∷ b) = omega arith
 
   pub laws-of : Sound I → Laws (problemOf I)
   laws-of s =
       record {
-        dom16 = s .dom16;
-        cost-low = cost-le-low;
-        by-low = closed-by-low;
-        by-cost = λ b B l le. closed-by-estimates b B l (omega arith);
-        by-ests = closed-by-estimates;
+        size-le-16 = s .dom16;
+        cost-le-lookahead = cost-le-lookahead;
+        closed-by-lookahead = by-lookahead;
+        closed-by-cost = λ b B l le. by-estimates b B l (omega arith);
+        closed-by-estimates = by-estimates;
       }
 
 -- ---- the limits. 01: "A paper or copy with k filled units costs at most 30,000 × k × (k-1), an estimate at most 7,200,000"
@@ -119,8 +119,8 @@ module _ (I : Instance) (s : Sound I) where
   h-limit k v = sumFrom-le (λ j. least (λ u. I .cost k v j u) (I .dom j)) 60000 (suc k) (I .n - suc k) (λ j. least-bound (λ u. I .cost k v j u) (I .dom j) 60000 (λ u. s .small k v j u))
 
   -- an estimate is over one value's pairs only
-  pub est-limit : (k : ℕ) (b : List ℕ) → k < I .n → length b ≤ k → estOf I k b ≤ 900000
-  est-limit k b h l = least-bound (λ v. against I k v b + hOf I k v) (I .dom k) 900000 (λ v. omega (arith, against-limit k v b, h-limit k v, s .n16))
+  pub estimate-limit : (k : ℕ) (b : List ℕ) → k < I .n → length b ≤ k → estimateOf I k b ≤ 900000
+  estimate-limit k b h l = least-bound (λ v. against I k v b + hOf I k v) (I .dom k) 900000 (λ v. omega (arith, against-limit k v b, h-limit k v, s .n16))
 
 -- ---- there is a full assignment: each unit's first value
 
@@ -134,7 +134,7 @@ length-ones zero = refl
 length-ones (suc k) = ap suc (length-ones k)
 
 module _ (I : Instance) (s : Sound I) where
-  ones-in-dom : (k : ℕ) → k ≤ I .n → InDom (problemOf I) (ones k)
+  ones-in-dom : (k : ℕ) → k ≤ I .n → InDomains (problemOf I) (ones k)
   unfolding ones
   ones-in-dom zero le = tt
   ones-in-dom (suc k) le = (omega arith, s .dom1 (length (ones k)) (omega (arith, length-ones k)), ones-in-dom k (omega arith))
@@ -144,4 +144,4 @@ module _ (I : Instance) (s : Sound I) where
 
   -- so what bounds every full assignment is a number within the limit
   pub closed-limit : (B : ℕ) → Closed (problemOf I) [] B → B ≤ 7200000
-  closed-limit B c = omega (arith, closed-empty (problemOf I) B c (ones (I .n)) ones-full, full-limit I s (ones (I .n)) (omega (arith, length-ones (I .n))))
+  closed-limit B c = omega (arith, closed-least (problemOf I) B c (ones (I .n)) ones-full, full-limit I s (ones (I .n)) (omega (arith, length-ones (I .n))))

@@ -12,39 +12,43 @@ use Rattle.base.specs.Sums.{sumFrom}
 -- ---- the problem
 pub record Problem : Type 0 where
   pub n : ℕ  -- how many units
-  pub dom : ℕ → ℕ  -- dom k: how many values unit k has
+  pub size : ℕ → ℕ  -- unit k's domain size
   pub cost : List ℕ → ℕ  -- the cost of a prefix
-  pub low : List ℕ → ℕ  -- that and h of its last value
-  pub est : ℕ → List ℕ → ℕ  -- est j b: unit j's estimate for the prefix b
+  pub lookahead : List ℕ → ℕ  -- that cost and h of the last value
+  pub estimate : ℕ → List ℕ → ℕ  -- unit j's estimate for a prefix
 
 module _ (P : Problem) where
   -- each value is one of its unit's
-  abbrev pub InDom : List ℕ → Type 0
-  InDom [] = Unit {0}
-  InDom (v ∷ b) = (1 ≤ v) × (v ≤ P .dom (length b)) × InDom b
+  abbrev pub InDomains : List ℕ → Type 0
+  InDomains [] = Unit {0}
+  InDomains (v ∷ b) = (1 ≤ v) × (v ≤ P .size (length b)) × InDomains b
 
   -- a full assignment, 01: "full lotting"
   abbrev pub Full : List ℕ → Type 0
-  Full l = (length l ≡ P .n) × InDom l
+  Full l = (length l ≡ P .n) × InDomains l
 
   -- every assignment that extends b by r more units costs at least B
   abbrev pub ClosedBy : ℕ → List ℕ → ℕ → Type 0
   ClosedBy zero b B = B ≤ P .cost b
-  ClosedBy (suc r) b B = (v : ℕ) → 1 ≤ v → v ≤ P .dom (length b) → ClosedBy r (v ∷ b) B
+  ClosedBy (suc r) b B = (v : ℕ) → 1 ≤ v → v ≤ P .size (length b) → ClosedBy r (v ∷ b) B
 
   -- every full assignment that extends b costs at least B
   abbrev pub Closed : List ℕ → ℕ → Type 0
   Closed b B = ClosedBy (P .n - length b) b B
 
--- ---- what the protocol asks of the costs
+-- What the protocol asks of the costs. That a full prefix's cost is its total, that a prefix is closed where each value after it is, and that
+-- a closed prefix is closed for less (L4, L5, L6 of the proof) need no law: they follow from what `Closed` says, as shown below.
 pub record Laws (P : Problem) : Type 0 where
-  pub dom16 : (k : ℕ) → P .dom k ≤ 16
-  pub cost-low : (b : List ℕ) → P .cost b ≤ P .low b
-  pub by-low : (b : List ℕ) (B : ℕ) → length b ≤ P .n → B ≤ P .low b → Closed P b B
-  pub by-cost : (b : List ℕ) (B : ℕ) → length b ≤ P .n → B ≤ P .cost b → Closed P b B
-  pub by-ests : (b : List ℕ) (B : ℕ) → length b ≤ P .n → B ≤ P .cost b + sumFrom (λ j. P .est j b) (length b) (P .n - length b) → Closed P b B
+  pub size-le-16 : (k : ℕ) → P .size k ≤ 16
+  pub cost-le-lookahead : (b : List ℕ) → P .cost b ≤ P .lookahead b
+  -- L1
+  pub closed-by-lookahead : (b : List ℕ) (B : ℕ) → length b ≤ P .n → B ≤ P .lookahead b → Closed P b B
+  -- L3
+  pub closed-by-cost : (b : List ℕ) (B : ℕ) → length b ≤ P .n → B ≤ P .cost b → Closed P b B
+  -- L2
+  pub closed-by-estimates : (b : List ℕ) (B : ℕ) → length b ≤ P .n → B ≤ P .cost b + sumFrom (λ j. P .estimate j b) (length b) (P .n - length b) → Closed P b B
 
--- ---- what follows of Closed for any problem
+-- ---- what follows from the meaning of `Closed`
 module _ (P : Problem) where
   closedBy-mono : (r : ℕ) (b : List ℕ) {B C : ℕ} → C ≤ B → ClosedBy P r b B → ClosedBy P r b C
   closedBy-mono zero b h p = omega arith
@@ -55,8 +59,8 @@ module _ (P : Problem) where
   closed-mono b B C h p = closedBy-mono (P .n - length b) b h p
 
   -- a prefix is closed if each value after it is
-  pub closed-all : (b : List ℕ) (B : ℕ) → length b < P .n → ((v : ℕ) → 1 ≤ v → v ≤ P .dom (length b) → Closed P (v ∷ b) B) → Closed P b B
-  closed-all b B h f = subst (λ r. ClosedBy P r b B) (sym e) (λ v lo hi. f v lo hi)
+  pub closed-by-values : (b : List ℕ) (B : ℕ) → length b < P .n → ((v : ℕ) → 1 ≤ v → v ≤ P .size (length b) → Closed P (v ∷ b) B) → Closed P b B
+  closed-by-values b B h f = subst (λ r. ClosedBy P r b B) (sym e) (λ v lo hi. f v lo hi)
     where
       e : P .n - length b ≡ suc (P .n - suc (length b))
       e = omega arith
@@ -69,19 +73,19 @@ module _ (P : Problem) where
       e = omega arith
 
   -- each value after a closed prefix is closed
-  pub closed-next : (b : List ℕ) (v B : ℕ) → length b < P .n → 1 ≤ v → v ≤ P .dom (length b) → Closed P b B → Closed P (v ∷ b) B
+  pub closed-next : (b : List ℕ) (v B : ℕ) → length b < P .n → 1 ≤ v → v ≤ P .size (length b) → Closed P b B → Closed P (v ∷ b) B
   closed-next b v B h lo hi p = subst (λ r. ClosedBy P r b B) e p v lo hi
     where
       e : P .n - length b ≡ suc (P .n - suc (length b))
       e = omega arith
 
-  closed-from-empty : (B : ℕ) → Closed P [] B → (b : List ℕ) → length b ≤ P .n → InDom P b → Closed P b B
+  closed-from-empty : (B : ℕ) → Closed P [] B → (b : List ℕ) → length b ≤ P .n → InDomains P b → Closed P b B
   closed-from-empty B p [] l d = p
   closed-from-empty B p (v ∷ b) l d = closed-next b v B l (d .0) (d .1) (closed-from-empty B p b (omega arith) (d .2))
 
   -- once the empty prefix is closed, no full assignment costs less
-  pub closed-empty : (B : ℕ) → Closed P [] B → (l : List ℕ) → Full P l → B ≤ P .cost l
-  closed-empty B p l f = subst (λ r. ClosedBy P r l B) e (closed-from-empty B p l (omega (arith, f .0)) (f .1))
+  pub closed-least : (B : ℕ) → Closed P [] B → (l : List ℕ) → Full P l → B ≤ P .cost l
+  closed-least B p l f = subst (λ r. ClosedBy P r l B) e (closed-from-empty B p l (omega (arith, f .0)) (f .1))
     where
       e : P .n - length l ≡ 0
       e = omega (arith, f .0)

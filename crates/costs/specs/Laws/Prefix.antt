@@ -13,9 +13,9 @@ use borrow.Author.Tests.{lt-ltb, le-ltb, eqb-true, eqb-false}
 use Rattle.base.specs.Sums.{sumFrom, sumTo, least}
 use Rattle.costs.specs.Instance.{Instance, View, viewOf}
 use Rattle.costs.specs.Bounds.{costWith, h, estimate, Assignment, total}
-use Rattle.costs.specs.Problem.{Problem, InDom, Full, Closed, closed-empty}
+use Rattle.costs.specs.Problem.{Problem, InDomains, Full, Closed, closed-least}
 use Rattle.costs.specs.Laws.Sums.{sumFrom-cong, sumTo-cong, least-cong}
-use Rattle.costs.specs.Laws.{Sound, against, costOf, hOf, lowOf, estOf, problemOf, against-limit, cost-limit, full-limit, h-limit, est-limit}
+use Rattle.costs.specs.Laws.{Sound, against, costOf, hOf, lookaheadOf, estimateOf, problemOf, against-limit, cost-limit, full-limit, h-limit, estimate-limit}
 
 -- ---- the first k places, the last first
 
@@ -76,7 +76,7 @@ module _ (I : Instance) (k : ℕ) where
       sumFrom-cong (λ j. least (λ u. viewOf I k .pair j u v) (I .dom j)) (λ j. least (λ u. I .cost k v j u) (I .dom j)) (suc k) (I .n - suc k)
       (λ j l m. least-cong (λ u. viewOf I k .pair j u v) (λ u. I .cost k v j u) (I .dom j) (λ u. pair-after j u v l))
 
-  pub estimate-prefix : (values : List ℕ) (m : ℕ) → m ≤ k → estimate (viewOf I k) values m ≡ estOf I k (pre m values)
+  pub estimate-prefix : (values : List ℕ) (m : ℕ) → m ≤ k → estimate (viewOf I k) values m ≡ estimateOf I k (pre m values)
   unfolding estimate
   estimate-prefix values m le =
       least-cong (λ v. costWith (viewOf I k) values m v + h (viewOf I k) v) (λ v. against I k v (pre m values) + hOf I k v) (I .dom k)
@@ -86,8 +86,8 @@ module _ (I : Instance) (k : ℕ) where
   pub cost-next : (values : List ℕ) (v : ℕ) → costOf I (pre k values) + costWith (viewOf I k) values k v ≡ costOf I (v ∷ pre k values)
   cost-next values v = rw (length-pre k values) (omega (arith, cost-with-prefix values k v (omega arith)))
 
-  pub low-next : (values : List ℕ) (v : ℕ) → costOf I (pre k values) + costWith (viewOf I k) values k v + h (viewOf I k) v ≡ lowOf I (v ∷ pre k values)
-  low-next values v = rw (length-pre k values) (omega (arith, cost-with-prefix values k v (omega arith), h-of-view v))
+  pub lookahead-next : (values : List ℕ) (v : ℕ) → costOf I (pre k values) + costWith (viewOf I k) values k v + h (viewOf I k) v ≡ lookaheadOf I (v ∷ pre k values)
+  lookahead-next values v = rw (length-pre k values) (omega (arith, cost-with-prefix values k v (omega arith), h-of-view v))
 
 -- ---- assignments
 
@@ -100,11 +100,11 @@ module _ (I : Instance) where
   unfolding total
   total-prefix l = sum-of-prefix (I .n) l
 
-  pub prefix-in-dom : (k : ℕ) (l : List ℕ) → ((i : ℕ) → i < k → (1 ≤ getD l i 0) × (getD l i 0 ≤ I .dom i)) → InDom (problemOf I) (pre k l)
+  pub prefix-in-dom : (k : ℕ) (l : List ℕ) → ((i : ℕ) → i < k → (1 ≤ getD l i 0) × (getD l i 0 ≤ I .dom i)) → InDomains (problemOf I) (pre k l)
   prefix-in-dom zero l a = tt
   prefix-in-dom (suc k) l a = (a k (omega arith) .0, rw (length-pre k l) (a k (omega arith) .1), prefix-in-dom k l (λ i h. a i (omega arith)))
 
-  pub in-dom-prefix : (k : ℕ) (l : List ℕ) → InDom (problemOf I) (pre k l) → (i : ℕ) → i < k → (1 ≤ getD l i 0) × (getD l i 0 ≤ I .dom i)
+  pub in-dom-prefix : (k : ℕ) (l : List ℕ) → InDomains (problemOf I) (pre k l) → (i : ℕ) → i < k → (1 ≤ getD l i 0) × (getD l i 0 ≤ I .dom i)
   in-dom-prefix zero l d i h = absurd (omega arith)
   in-dom-prefix (suc k) l d i h = go (eqb i k) refl (λ q. in-dom-prefix k l (d .2) i q)
     where
@@ -120,7 +120,7 @@ module _ (I : Instance) where
 
   -- once the empty prefix is closed, every assignment totals at least that
   pub closed-total : (B : ℕ) → Closed (problemOf I) [] B → (l : List ℕ) → Assignment I l → B ≤ total I l
-  closed-total B c l a = rw (total-prefix l) (closed-empty (problemOf I) B c (pre (I .n) l) (assignment-full l a))
+  closed-total B c l a = rw (total-prefix l) (closed-least (problemOf I) B c (pre (I .n) l) (assignment-full l a))
 
 -- ---- the limits, of arrays
 
@@ -131,5 +131,5 @@ module _ (I : Instance) (s : Sound I) where
   pub prefix-limit : (k : ℕ) (l : List ℕ) → costOf I (pre k l) ≤ 30000 * k * (k - 1)
   prefix-limit k l = subst (λ m. costOf I (pre k l) ≤ 30000 * m * (m - 1)) (length-pre k l) (cost-limit I s (pre k l))
 
-  pub estimate-limit : (k : ℕ) (values : List ℕ) (m : ℕ) → k < I .n → m ≤ k → estimate (viewOf I k) values m ≤ 900000
-  estimate-limit k values m h le = rw (estimate-prefix I k values m le) (est-limit I s k (pre m values) h (omega (arith, length-pre m values)))
+  pub estimate-of-view-limit : (k : ℕ) (values : List ℕ) (m : ℕ) → k < I .n → m ≤ k → estimate (viewOf I k) values m ≤ 900000
+  estimate-of-view-limit k values m h le = rw (estimate-prefix I k values m le) (estimate-limit I s k (pre m values) h (omega (arith, length-pre m values)))
