@@ -3,3 +3,4 @@ pub mod Stream
 pub mod StreamLaws
 pub mod Block
 pub mod File
+pub mod View

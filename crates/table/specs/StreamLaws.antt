@@ -1,6 +1,6 @@
 -- What holds of an accepted stream, each by taking streamRefusal's tests apart; and how pairsIn and costsGood grow,
 -- which the loops over sizes and costs go by. Assumes nothing.
-use Prim.Native.Nat.{ℕ, zero, suc, _+_, _*_, _-_, _≤_, _<_}
+use Prim.Native.Nat.{ℕ, zero, suc, _+_, _*_, _-_, _≤_, _<_, min}
 use native.Mathlib.Nat.{mul-le-mul, zero-add, add-zero, add-assoc, le-of-suc-le-suc, not-suc-le-zero, mul-add, add-mul, le-refl, suc-mul, mul-suc}
 use native.Mathlib.Numerals.{add-one}
 use native.Mathlib.Omega.{arith}
@@ -8,9 +8,10 @@ use mathlib.Core.Bool.{Bool, true, false, cond, _&&_}
 use mathlib.Core.List.{List, [], _∷_, _++_}
 use mathlib.Core.Path.{_≡_, refl, sym, ap, _∙_}
 use lib.Dec.{eqb, leb, ltb}
-use lib.ListN.{length, getD, take, drop, length-take, length-drop, length-append}
-use lib.Seq.{take-suc, length-take-le, getD-take, getD-drop}
+use lib.ListN.{length, getD, take, drop, length-take, length-drop, length-append, drop-of-length-le}
+use lib.Seq.{take-suc, drop-cons, length-take-le, getD-take, getD-drop}
 use borrow.Author.Tests.{eqb-true, leb-true, eq-eqb, ne-eqb, le-leb, lt-leb}
+use Rattle.base.specs.Bytes.{u16At}
 use Rattle.base.specs.Shape.{inSixteen, allInSixteen, shapeGood, and-left, and-right, in-range, shape-n, shape-size}
 use Rattle.table.specs.Stream.{unitsOf, sizesOf, sumList, pairsIn, needed, costAt, costsGood, streamRefusal, Accepted}
 
@@ -56,6 +57,104 @@ costs-at s k (suc m) e zero h = rw add-zero (leb-true (costAt s k) 60000 (and-le
 costs-at s k (suc m) e (suc j) h =
     let i : k + suc j ≡ suc k + j = omega arith in
     rw i (costs-at s (suc k) m (and-right (leb (costAt s k) 60000) (costsGood s (suc k) m) e) j (le-of-suc-le-suc h))
+
+-- ---- a turn of a loop over the sizes or the costs, and its end: w is what the whole test gives
+
+pub below-range : (x : ℕ) → x < 1 → inSixteen x ≡ false
+below-range x h = rw (lt-leb 1 x h)
+
+pub above-range : (x : ℕ) → 16 < x → inSixteen x ≡ false
+above-range x h = let l : 1 ≤ x = omega arith in simp (le-leb 1 x l, lt-leb x 16 h)
+
+module _ {w : Bool} (s : List ℕ) (n i : ℕ) (inv : w ≡ allInSixteen (drop i (take n (drop 1 s)))) where
+  sizes-step : i < n → 1 + i < length s → w ≡ (inSixteen (getD s (1 + i) 0) && allInSixteen (drop (i + 1) (take n (drop 1 s))))
+  unfolding allInSixteen
+  sizes-step h l =
+      let b : i < length (take n (drop 1 s)) = simp (length-take, length-drop) (omega arith) in
+      inv ∙ rw (drop-cons (take n (drop 1 s)) i 0 b, getD-take n (drop 1 s) i 0 h, getD-drop 1 s i 0, add-one)
+
+  pub sizes-bad : i < n → 1 + i < length s → inSixteen (getD s (1 + i) 0) ≡ false → false ≡ w
+  sizes-bad h l e = sym (sizes-step h l ∙ rw e)
+
+  pub sizes-next : i < n → 1 + i < length s → inSixteen (getD s (1 + i) 0) ≡ true → w ≡ allInSixteen (drop (i + 1) (take n (drop 1 s)))
+  sizes-next h l e = sizes-step h l ∙ rw e
+
+  pub sizes-end : min n (length s - 1) ≤ i → true ≡ w
+  unfolding allInSixteen
+  sizes-end h =
+      let b : length (take n (drop 1 s)) ≤ i = simp (length-take, length-drop) h in
+      sym (inv ∙ rw (drop-of-length-le (take n (drop 1 s)) b))
+
+module _ {w : Bool} (s : List ℕ) (k m : ℕ) (inv : w ≡ costsGood s k (m - k)) where
+  costs-step : k < m → w ≡ (leb (costAt s k) 60000 && costsGood s (k + 1) (m - (k + 1)))
+  unfolding costsGood
+  costs-step h = let e : m - k ≡ suc (m - (k + 1)) = omega arith in inv ∙ rw (e, add-one k)
+
+  pub costs-bad : (n : ℕ) → n ≡ unitsOf s → k < m → 60000 < u16At s (1 + n + 2 * k) → false ≡ w
+  costs-bad n e h l = let g : 60000 < costAt s k = rw e at l in sym (costs-step h ∙ rw (lt-leb (costAt s k) 60000 g))
+
+  pub costs-next : (n : ℕ) → n ≡ unitsOf s → k < m → u16At s (1 + n + 2 * k) ≤ 60000 → w ≡ costsGood s (k + 1) (m - (k + 1))
+  costs-next n e h l = let g : costAt s k ≤ 60000 = rw e at l in costs-step h ∙ rw (le-leb (costAt s k) 60000 g)
+
+  pub costs-end : m ≤ k → true ≡ w
+  unfolding costsGood
+  costs-end h = let e : m - k ≡ 0 = omega arith in sym (inv ∙ rw e)
+
+module _ (s : List ℕ) (n i : ℕ) (h : i < n) (l : 1 + i < length s) where
+  sizes-more : take (i + 1) (take n (drop 1 s)) ≡ take i (take n (drop 1 s)) ++ (getD s (1 + i) 0 ∷ [])
+  sizes-more =
+      let b : i < length (take n (drop 1 s)) = simp (length-take, length-drop) (omega arith) in
+      rw (add-one, take-suc (take n (drop 1 s)) i 0 b, getD-take n (drop 1 s) i 0 h, getD-drop 1 s i 0)
+
+  pub sum-more : sumList (take (i + 1) (take n (drop 1 s))) ≡ sumList (take i (take n (drop 1 s))) + getD s (1 + i) 0
+  sum-more = rw (sizes-more, sum-snoc (take i (take n (drop 1 s))) (getD s (1 + i) 0))
+
+  pub pairs-more : pairsIn (take (i + 1) (take n (drop 1 s))) ≡ pairsIn (take i (take n (drop 1 s))) + sumList (take i (take n (drop 1 s))) * getD s (1 + i) 0
+  pairs-more = rw (sizes-more, pairs-snoc (take i (take n (drop 1 s))) (getD s (1 + i) 0))
+
+-- ---- the answers of streamRefusal, in their order
+
+pub refused-empty : (s : List ℕ) → length s ≡ 0 → 6 ≡ streamRefusal s
+unfolding streamRefusal
+refused-empty s e = rw (eq-eqb (length s) 0 e)
+
+pub nonempty : (s : List ℕ) (count : ℕ) → length s ≡ count → (count ≡ 0 → ⊥) → eqb (length s) 0 ≡ false
+nonempty s count e h = ne-eqb (length s) 0 (λ z. h (sym e ∙ z))
+
+module _ (s : List ℕ) (n : ℕ) (e : n ≡ unitsOf s) (some : eqb (length s) 0 ≡ false) where
+  pub refused-units : inSixteen n ≡ false → 5 ≡ streamRefusal s
+  unfolding streamRefusal shapeGood
+  refused-units a = let u : inSixteen (unitsOf s) ≡ false = rw e at a in simp (some, u)
+
+  module _ (a : inSixteen n ≡ true) where
+    units : inSixteen (unitsOf s) ≡ true
+    units = rw e at a
+
+    pub refused-sizes : allInSixteen (take n (drop 1 s)) ≡ false → 5 ≡ streamRefusal s
+    unfolding streamRefusal shapeGood
+    refused-sizes b = let z : allInSixteen (sizesOf s) ≡ false = rw e at b in simp (some, units, z)
+
+    module _ (b : allInSixteen (take n (drop 1 s)) ≡ true) where
+      sizes : allInSixteen (sizesOf s) ≡ true
+      sizes = rw e at b
+
+      pub refused-length : (length s ≡ 1 + n + 2 * pairsIn (take n (drop 1 s)) → ⊥) → 6 ≡ streamRefusal s
+      unfolding streamRefusal shapeGood
+      refused-length x =
+          let y : eqb (length s) (needed s) ≡ false = ne-eqb (length s) (needed s) (rw e at x) in
+          simp (some, units, sizes, y)
+
+      module _ (l : length s ≡ 1 + n + 2 * pairsIn (take n (drop 1 s))) where
+        long : eqb (length s) (needed s) ≡ true
+        long = eq-eqb (length s) (needed s) (rw e at l)
+
+        pub refused-cost : costsGood s 0 (pairsIn (take n (drop 1 s))) ≡ false → 7 ≡ streamRefusal s
+        unfolding streamRefusal shapeGood
+        refused-cost g = let f : costsGood s 0 (pairsIn (sizesOf s)) ≡ false = rw e at g in simp (some, units, sizes, long, f)
+
+        pub accepted-all-of : costsGood s 0 (pairsIn (take n (drop 1 s))) ≡ true → 0 ≡ streamRefusal s
+        unfolding streamRefusal shapeGood
+        accepted-all-of g = let f : costsGood s 0 (pairsIn (sizesOf s)) ≡ true = rw e at g in simp (some, units, sizes, long, f)
 
 -- ---- an accepted stream
 

@@ -1,5 +1,13 @@
 // The stored table: blocks of 512 bytes, and the stream that their payloads join to.
 
+ghost use mathlib.Core.Path.{_≡_};
+ghost use Prim.Native.Nat.{ℕ, _+_, _*_, _≤_, _<_};
+ghost use lib.ListN.{length, getD, take, drop};
+ghost use Rattle.base.specs.Bytes.{u16At};
+ghost use Rattle.base.specs.Shape.{allInSixteen};
+ghost use Rattle.table.specs.Stream.{unitsOf, sizesOf, pairsIn, costsGood, streamRefusal};
+ghost use Rattle.table.specs.View.{viewOf, Viewed};
+
 // The answer of a reading: the refusal, or 0 and the stream's length.
 pub struct ReadTable {
     pub refusal: u8,
@@ -10,4 +18,115 @@ pub struct ReadTable {
 pub struct Written {
     pub refusal: u8,
     pub length: usize,
+}
+
+// The refusal 5, 6 or 7 of a stream, or 0: one pass, nothing copied.
+pub fn stream_refusal(stream: &[u8]) -> u8
+    ensures { λ r. ⌜ r ≡ streamRefusal (now (stream .entry)) ⌝ }
+{
+    view_refusal(stream, false, stream.len())
+}
+
+// The refusal 5, 6 or 7 of the stream of `count` bytes that lies in `bytes`, plain or in blocks.
+fn view_refusal(bytes: &[u8], blocked: bool, count: usize) -> u8
+    requires { ⌜ Viewed blocked (now bytes) count ⌝ }
+    ensures { λ r. ⌜ r ≡ streamRefusal (viewOf blocked (now (bytes .entry))) ⌝ }
+{
+    if count == 0 {
+        return 6;
+    }
+    let n = view_byte(bytes, blocked, count, 0);
+    if n < 1 {
+        return 5;
+    }
+    if 16 < n {
+        return 5;
+    }
+    if !sizes_good(bytes, blocked, count, n) {
+        return 5;
+    }
+    if count < 1 + n {
+        return 6;
+    }
+    let pairs = pairs_in(bytes, blocked, count, n);
+    if count != 1 + n + 2 * pairs {
+        return 6;
+    }
+    if !costs_good(bytes, blocked, count, n, pairs) {
+        return 7;
+    }
+    0
+}
+
+// Whether the sizes that are present, of n, are 1 to 16.
+fn sizes_good(bytes: &[u8], blocked: bool, count: usize, n: usize) -> bool
+    requires { ⌜ Viewed blocked (now bytes) count × (n ≤ 16) ⌝ }
+    ensures { λ r. ⌜ r ≡ allInSixteen (take n (drop 1 (viewOf blocked (now (bytes .entry))))) ⌝ }
+{
+    let mut i = 0;
+    while i < n {
+        if count <= 1 + i {
+            return true;
+        }
+        let size = view_byte(bytes, blocked, count, 1 + i);
+        if size < 1 {
+            return false;
+        }
+        if 16 < size {
+            return false;
+        }
+        i += 1;
+    }
+    true
+}
+
+// How many costs the n sizes need.
+fn pairs_in(bytes: &[u8], blocked: bool, count: usize, n: usize) -> usize
+    requires { ⌜ Viewed blocked (now bytes) count × (n ≤ 16) × (1 + n ≤ count) ⌝ }
+    ensures { λ r. ⌜ (r ≡ pairsIn (take n (drop 1 (viewOf blocked (now (bytes .entry)))))) × (r < 33554432) ⌝ }
+{
+    let mut earlier: usize = 0;
+    let mut pairs: usize = 0;
+    let mut i = 0;
+    while i < n {
+        let size = view_byte(bytes, blocked, count, 1 + i);
+        pairs += earlier * size;
+        earlier += size;
+        i += 1;
+    }
+    pairs
+}
+
+// Whether all costs are at most 60,000.
+fn costs_good(bytes: &[u8], blocked: bool, count: usize, n: usize, pairs: usize) -> bool
+    requires { ⌜ Viewed blocked (now bytes) count × (n ≡ unitsOf (viewOf blocked (now bytes))) × (n ≤ 16) × (count ≡ 1 + n + 2 * pairs) × (pairs < 33554432) ⌝ }
+    ensures { λ r. ⌜ r ≡ costsGood (viewOf blocked (now (bytes .entry))) 0 pairs ⌝ }
+{
+    let mut k = 0;
+    while k < pairs {
+        if 60000 < view_u16(bytes, blocked, count, 1 + n + 2 * k) {
+            return false;
+        }
+        k += 1;
+    }
+    true
+}
+
+// The 16-bit number at byte k of the stream.
+fn view_u16(bytes: &[u8], blocked: bool, count: usize, k: usize) -> usize
+    requires { ⌜ Viewed blocked (now bytes) count × (k + 1 < count) × (k < 134217728) ⌝ }
+    ensures { λ r. ⌜ (r ≡ u16At (viewOf blocked (now (bytes .entry))) k) × (r < 65536) ⌝ }
+{
+    view_byte(bytes, blocked, count, k) + 256 * view_byte(bytes, blocked, count, k + 1)
+}
+
+// Byte k of the stream: where it stands in the lent bytes is known here alone.
+fn view_byte(bytes: &[u8], blocked: bool, count: usize, k: usize) -> usize
+    requires { ⌜ Viewed blocked (now bytes) count × (k < count) × (k < 268435456) ⌝ }
+    ensures { λ r. ⌜ (r ≡ getD (viewOf blocked (now (bytes .entry))) k 0) × (r < 256) ⌝ }
+{
+    if blocked {
+        return base::wide_at(bytes, 512 * (k / 506) + 4 + k % 506) as usize;
+    }
+    base::wide_at(bytes, k) as usize
 }

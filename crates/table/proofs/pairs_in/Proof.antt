@@ -1,0 +1,95 @@
+-- `pairs_in` meets its contract. The loop's invariant: the sum and the pairs of the first i sizes; bytes are small, so nothing wraps.
+-- Assumes nothing.
+use Prim.Native.Nat.{_<_, _≤_, _-_, _+_, _*_}
+use mathlib.Core.Path.{_≡_, refl, sym, _∙_, ap}
+use native.Mathlib.Nat.{mul-le-mul, le-refl}
+use native.Mathlib.Omega.{arith}
+use borrow.Author.Needs.{needs}
+use lib.ListN.{length, take, drop, getD}
+use lib.Seq.{take-take}
+use Rattle.table.specs.Stream.{sumList, pairsIn}
+use Rattle.table.specs.View.{viewOf}
+use Rattle.table.specs.StreamLaws.{sum-more, pairs-more}
+use Rattle.table.proofs.pairs_in.Statement.{statement}
+use Rattle.table.proofs.pairs_in.Tie as tie
+
+abbrev Inv-loop : tie.InvT-loop
+Inv-loop bytes blocked count n earlier₀ pairs₀ i₀ earlier pairs i =
+    (i ≤ n) × (earlier ≤ 255 * i) × (pairs ≤ 1040400 * i)
+    × (earlier ≡ sumList (take i (take n (drop 1 (viewOf blocked bytes)))))
+    × (pairs ≡ pairsIn (take i (take n (drop 1 (viewOf blocked bytes)))))
+
+abbrev μ-loop : tie.MeasureT-loop
+μ-loop bytes blocked count n earlier₀ pairs₀ i₀ earlier pairs i = n - i
+
+loop-holds : tie.Need-loop-holds Inv-loop μ-loop
+unfolding sumList pairsIn
+loop-holds c = search needs
+
+add-view-byte : tie.Need-add-view-byte Inv-loop μ-loop
+add-view-byte c = search needs
+
+view-byte-requires : tie.Need-view-byte-requires Inv-loop μ-loop
+view-byte-requires c κs = search needs
+
+mul-pairs : tie.Need-mul-pairs Inv-loop μ-loop
+mul-pairs c =
+    let l = c .before .before .loop in
+    let b : l .earlier ≤ 4080 = omega arith in
+    let d : c .view-byte .result ≤ 255 = omega arith in
+    let p : l .earlier * c .view-byte .result ≤ 4080 * 255 = mul-le-mul b d in
+    record { fits = omega arith }
+
+add-pairs : tie.Need-add-pairs Inv-loop μ-loop
+add-pairs c =
+    let l = c .before .before .loop in
+    let b : l .earlier ≤ 4080 = omega arith in
+    let d : c .view-byte .result ≤ 255 = omega arith in
+    let p : l .earlier * c .view-byte .result ≤ 4080 * 255 = mul-le-mul b d in
+    record { fits = omega arith }
+
+add-earlier : tie.Need-add-earlier Inv-loop μ-loop
+add-earlier c = search needs
+
+add-i : tie.Need-add-i Inv-loop μ-loop
+add-i c = search needs
+
+loop-less : tie.Need-loop-less Inv-loop μ-loop
+loop-less c = search needs
+
+loop-again : tie.Need-loop-again Inv-loop μ-loop
+loop-again c =
+    let l = c .before .before .loop in
+    let b : l .earlier ≤ 4080 = omega arith in
+    let d : c .view-byte .result ≤ 255 = omega arith in
+    let p : l .earlier * c .view-byte .result ≤ 4080 * 255 = mul-le-mul b d in
+    let st = c .before .before .before .before in
+    let s = viewOf (st .args .blocked) (st .args .bytes .now) in
+    let e = c .view-byte .ensures .0 in
+    let h : l .i < st .args .n = omega arith in
+    let k : 1 + l .i < length s = omega (arith, st .pre .0 .counted) in
+    (omega arith, omega arith, omega arith, rw (sum-more s (st .args .n) (l .i) h k, ← e, ← l .inv .3), rw (pairs-more s (st .args .n) (l .i) h k, ← e, ← l .inv .3, ← l .inv .4))
+
+returns : tie.Need-returns Inv-loop μ-loop
+returns c =
+    let st = c .before .before .before in
+    let l = c .before .loop in
+    let e : l .i ≡ st .args .n = omega arith in
+    (l .inv .4 ∙ rw (e, take-take (st .args .n) (st .args .n) (drop 1 (viewOf (st .args .blocked) (st .args .bytes .now))) (le-refl (st .args .n))), omega arith)
+
+pub pairs-in-spec : {M : Type 1} → statement M
+pairs-in-spec =
+    tie.close
+    (tie.spec
+    Inv-loop
+    μ-loop
+    loop-holds
+    add-view-byte
+    view-byte-requires
+    mul-pairs
+    add-pairs
+    add-earlier
+    add-i
+    loop-less
+    loop-again
+    returns)

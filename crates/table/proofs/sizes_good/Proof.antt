@@ -1,0 +1,89 @@
+-- `sizes_good` meets its contract. The loop's invariant: the whole answer is that of the sizes from place i on.
+-- Assumes nothing.
+use Prim.Native.Nat.{_≤_, _-_, _+_}
+use mathlib.Core.Path.{_≡_, refl, sym, _∙_, ap}
+use native.Mathlib.Omega.{arith}
+use borrow.Author.Needs.{needs}
+use borrow.Author.Tests.{lt-leb, le-leb}
+use lib.ListN.{length, take, drop, getD}
+use Rattle.base.specs.Shape.{inSixteen, allInSixteen, range-in}
+use Rattle.table.specs.View.{viewOf}
+use Rattle.table.specs.StreamLaws.{below-range, above-range, sizes-bad, sizes-next, sizes-end}
+use Rattle.table.proofs.sizes_good.Statement.{statement}
+use Rattle.table.proofs.sizes_good.Tie as tie
+
+abbrev Inv-loop : tie.InvT-loop
+Inv-loop bytes blocked count n i₀ i = (i ≤ n) × (allInSixteen (take n (drop 1 (viewOf blocked bytes))) ≡ allInSixteen (drop i (take n (drop 1 (viewOf blocked bytes)))))
+
+abbrev μ-loop : tie.MeasureT-loop
+μ-loop bytes blocked count n i₀ i = n - i
+
+loop-holds : tie.Need-loop-holds Inv-loop μ-loop
+loop-holds c = search needs
+
+add-if1 : tie.Need-add-if1 Inv-loop μ-loop
+add-if1 c = search needs
+
+returns : tie.Need-returns Inv-loop μ-loop
+returns c =
+    let st = c .before .before .before .before in
+    let l = c .before .before .loop in
+    sizes-end (viewOf (st .args .blocked) (st .args .bytes .now)) (st .args .n) (l .i) (l .inv .1) (omega (arith, st .pre .0 .counted))
+
+add-view-byte : tie.Need-add-view-byte Inv-loop μ-loop
+add-view-byte c = search needs
+
+view-byte-requires : tie.Need-view-byte-requires Inv-loop μ-loop
+view-byte-requires c κs = search needs
+
+returns-2 : tie.Need-returns-2 Inv-loop μ-loop
+returns-2 c =
+    let st = c .before .before .before .before .before .before in
+    let l = c .before .before .before .before .loop in
+    let s = viewOf (st .args .blocked) (st .args .bytes .now) in
+    sizes-bad s (st .args .n) (l .i) (l .inv .1) (omega arith) (omega (arith, st .pre .0 .counted)) (below-range (getD s (1 + l .i) 0) (omega (arith, c .before .view-byte .ensures .0)))
+
+returns-3 : tie.Need-returns-3 Inv-loop μ-loop
+returns-3 c =
+    let st = c .before .before .before .before .before .before .before in
+    let l = c .before .before .before .before .before .loop in
+    let s = viewOf (st .args .blocked) (st .args .bytes .now) in
+    sizes-bad s (st .args .n) (l .i) (l .inv .1) (omega arith) (omega (arith, st .pre .0 .counted)) (above-range (getD s (1 + l .i) 0) (omega (arith, c .before .before .view-byte .ensures .0)))
+
+add-i : tie.Need-add-i Inv-loop μ-loop
+add-i c = search needs
+
+loop-less : tie.Need-loop-less Inv-loop μ-loop
+loop-less c = search needs
+
+loop-again : tie.Need-loop-again Inv-loop μ-loop
+loop-again c =
+    let st = c .before .before .before .before .before .before .before in
+    let l = c .before .before .before .before .before .loop in
+    let s = viewOf (st .args .blocked) (st .args .bytes .now) in
+    let e = c .before .before .view-byte .ensures .0 in
+    (omega arith, sizes-next s (st .args .n) (l .i) (l .inv .1) (omega arith) (omega (arith, st .pre .0 .counted)) (range-in (getD s (1 + l .i) 0) (omega arith) (omega arith)))
+
+returns-4 : tie.Need-returns-4 Inv-loop μ-loop
+returns-4 c =
+    let st = c .before .before .before in
+    let l = c .before .loop in
+    sizes-end (viewOf (st .args .blocked) (st .args .bytes .now)) (st .args .n) (l .i) (l .inv .1) (omega arith)
+
+pub sizes-good-spec : {M : Type 1} → statement M
+sizes-good-spec =
+    tie.close
+    (tie.spec
+    Inv-loop
+    μ-loop
+    loop-holds
+    add-if1
+    returns
+    add-view-byte
+    view-byte-requires
+    returns-2
+    returns-3
+    add-i
+    loop-less
+    loop-again
+    returns-4)
