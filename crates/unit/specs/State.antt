@@ -27,6 +27,10 @@ fresh = record { threshold = zeros; bound = NONE; best = zeros; estimates = zero
 abbrev pub noUnit : Unit
 noUnit = record { threshold = zeros; bound = 0; best = zeros; estimates = zeros; stamp = zeros; values = zeros; cost = 0; counter = 0; stopped = false }
 
+-- what stands past the end of a list of units
+abbrev pub emptyUnit : Unit
+emptyUnit = record { threshold = []; bound = 0; best = []; estimates = []; stamp = []; values = []; cost = 0; counter = 0; stopped = false }
+
 -- ---- one part set
 
 abbrev pub withThreshold : List ℕ → Unit → Unit

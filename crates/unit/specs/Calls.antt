@@ -1,0 +1,71 @@
+-- The calls: making a unit and a step, refusals in 01's order.
+-- 01: "Making a unit ..: 5, 10 (unit only), 6, 7, 13." "Step: 13, 5 (n, sizes), 10 (own number), 6, 7, 5 (state), 8, 10, 9, 12, 11."
+-- Assumes nothing.
+use Prim.Native.Nat.{ℕ, zero, suc, _+_, _*_, _-_, pred}
+use mathlib.Core.Bool.{Bool, true, false, cond, not, _&&_}
+use mathlib.Core.List.{List, [], _∷_, _++_}
+use lib.Dec.{ltb, leb, eqb}
+use lib.ListN.{length}
+use Rattle.base.specs.Shape.{shapeGood}
+use Rattle.costs.specs.Instance.{View, lentView}
+use Rattle.costs.specs.Lent.{lentRefusal}
+use Rattle.message.specs.declared.Message.{Message}
+use Rattle.message.specs.declared.Parsed.{Parsed}
+use Rattle.message.specs.declared.Read.{Read}
+use Rattle.message.specs.declared.Read.the-variants.{Good, Refused}
+use Rattle.message.specs.Message.{isUnit}
+use Rattle.message.specs.Decode.{parseFor}
+use Rattle.unit.specs.declared.Unit.{Unit}
+use Rattle.unit.specs.declared.Outcome.{Outcome}
+use Rattle.unit.specs.State.{noUnit, fresh, inRange}
+use Rattle.unit.specs.Step.{Out, refused, accepted, Written, silent, assign, respond}
+use Rattle.unit.specs.Send.{packets, laid}
+
+-- ---- what the caller gets
+
+abbrev pub outcomeOf : ℕ → ℕ → Unit → Out → Outcome
+outcomeOf n k was (refused r) = record { refusal = r; unit = was; sent = 0; records = 0 }
+outcomeOf n k was (accepted u s ws) = record { refusal = 0; unit = u; sent = length (packets n k s); records = length ws }
+
+abbrev pub bytesOf : ℕ → ℕ → List ℕ → Out → List ℕ
+bytesOf n k out (refused r) = out
+bytesOf n k out (accepted u s ws) = laid (packets n k s) out
+
+-- ---- making
+
+-- the first of 5, 10, 6, 7, 13 that applies, or 0
+unfoldable pub makeRefusal : ℕ → ℕ → List ℕ → List ℕ → ℕ → ℕ
+makeRefusal own n sizes costs room =
+    cond (not (shapeGood n sizes)) 5 (cond (not (isUnit n own)) 10 (cond (not (eqb (lentRefusal own n sizes costs) 0)) (lentRefusal own n sizes costs) (cond (ltb room 1024) 13 0)))
+
+-- 01: "Making unit 1 assigns"
+abbrev pub start : View → ℕ → Out
+start w zero = assign w fresh
+start w (suc k) = accepted fresh silent []
+
+abbrev pub unlessRefused : ℕ → Out → Out
+unlessRefused zero o = o
+unlessRefused (suc r) o = refused (suc r)
+
+unfoldable pub makeOut : ℕ → ℕ → List ℕ → List ℕ → ℕ → Out
+makeOut own n sizes costs room = unlessRefused (makeRefusal own n sizes costs room) (start (lentView own n sizes costs) (pred own))
+
+-- ---- a step
+
+-- the first of 13, 5, 10, 6, 7, 5 that applies, or 0
+unfoldable pub stepRefusal : Unit → ℕ → ℕ → List ℕ → List ℕ → ℕ → ℕ
+stepRefusal u own n sizes costs room =
+    cond (ltb room 1024) 13
+    (cond (not (shapeGood n sizes)) 5
+    (cond (not (isUnit n own)) 10
+    (cond (not (eqb (lentRefusal own n sizes costs) 0)) (lentRefusal own n sizes costs) (cond (inRange sizes (lentView own n sizes costs) u) 0 5))))
+
+-- 01: "A message is read into its kind and fields, or a refusal; unless reading gave a message, the step ends there."
+abbrev pub onRead : View → Unit → Read → Message → Out
+onRead w u (Good k) m = respond w k u m
+onRead w u (Refused r) m = refused r
+
+unfoldable pub stepOut : Unit → ℕ → ℕ → List ℕ → List ℕ → List ℕ → ℕ → Out
+stepOut u own n sizes costs bytes room =
+    let p = parseFor n sizes own bytes in
+    unlessRefused (stepRefusal u own n sizes costs room) (onRead (lentView own n sizes costs) u (p .answer) (p .message))

@@ -1,0 +1,75 @@
+-- The messages of a plan, 01: "Outgoing order: paper first, the rest by receiver ascending", and their bytes in a buffer.
+-- Assumes nothing.
+use Prim.Native.Nat.{ℕ, zero, suc, _+_, _*_, _-_}
+use mathlib.Core.Bool.{Bool, true, false, cond}
+use mathlib.Core.List.{List, [], _∷_, _++_}
+use lib.Dec.{eqb}
+use lib.ListN.{length, drop}
+use Rattle.costs.specs.Instance.{View}
+use Rattle.message.specs.declared.Message.{Message}
+use Rattle.message.specs.declared.Kind.{Kind}
+use Rattle.message.specs.declared.Kind.the-variants.{Cpa, Request, Estimate, Solution, Stop}
+use Rattle.message.specs.Message.{Packet}
+use Rattle.message.specs.Encode.{encode}
+use Rattle.unit.specs.declared.Sending.{Sending}
+use Rattle.unit.specs.declared.Plan.{Plan}
+use Rattle.unit.specs.declared.Plan.the-variants.{Nothing, Forward, Back, Reply}
+use Rattle.unit.specs.State.{zeros}
+
+-- ---- one message, to the unit at place j
+
+abbrev pub packet : Kind → Message → Packet
+packet k m = record { kind = k; message = m }
+
+-- a cpa carries all fields
+abbrev pub cpaTo : Message → ℕ → Packet
+cpaTo m j = packet Cpa (record { sender = m .sender; receiver = suc j; stamp = m .stamp; values = m .values; cost = m .cost; bound = m .bound; best = m .best })
+
+-- a request carries no bound
+abbrev pub requestTo : Message → ℕ → Packet
+requestTo m j = packet Request (record { sender = m .sender; receiver = suc j; stamp = m .stamp; values = m .values; cost = m .cost; bound = 0; best = zeros })
+
+-- solutions and stops carry only bound and best
+abbrev pub boundTo : Kind → Message → ℕ → Packet
+boundTo k m j = packet k (record { sender = m .sender; receiver = suc j; stamp = zeros; values = zeros; cost = 0; bound = m .bound; best = m .best })
+
+-- ---- to several units
+
+-- g lo, g (lo + 1), .., m of them
+unfoldable pub each : (ℕ → Packet) → ℕ → ℕ → List Packet
+each g lo zero = []
+each g lo (suc m) = g lo ∷ each g (suc lo) m
+
+-- to every unit but the one at place k
+abbrev pub others : ℕ → ℕ → (ℕ → Packet) → List Packet
+others n k g = each g 0 k ++ each g (suc k) (n - suc k)
+
+-- 01: "Unit 1 stops and sends stop to all others; others send the paper to the unit before."
+abbrev pub handBack : ℕ → ℕ → Message → List Packet
+handBack n zero m = each (boundTo Stop m) 1 (n - 1)
+handBack n (suc k) m = cpaTo m k ∷ []
+
+-- 01: "unit n sends one news, after its last improvement in a step, to all others"
+abbrev pub solutions : ℕ → ℕ → Bool → Message → List Packet
+solutions n k true m = others n k (boundTo Solution m)
+solutions n k false m = []
+
+abbrev pub byPlan : ℕ → ℕ → Plan → Bool → Message → List Packet
+byPlan n k Nothing b m = []
+byPlan n k Forward b m = cpaTo m (suc k) ∷ each (requestTo m) (suc k) (n - suc k)
+byPlan n k Back b m = handBack n k m ++ solutions n k b m
+byPlan n k Reply b m = packet Estimate m ∷ []
+
+-- What is sent, in order.
+unfoldable pub packets : ℕ → ℕ → Sending → List Packet
+packets n k s = byPlan n k (s .plan) (s .improved) (s .message)
+
+-- ---- as bytes
+
+unfoldable pub encodeAll : List Packet → List ℕ
+encodeAll [] = []
+encodeAll (p ∷ ps) = encode (p .kind) (p .message) ++ encodeAll ps
+
+-- The messages at the front of a buffer, 01: "An output's unused bytes stay."
+unfoldable pub laid : List Packet → List ℕ → List ℕ
+laid ps out = encodeAll ps ++ drop (64 * length ps) out
