@@ -1,5 +1,6 @@
--- One unit, in reading order: its state, what it does, what it sends, and the two calls.
+-- One unit, in reading order: its state, what it does, what it sends, and the two calls; what the deciding code asks of its arguments.
 pub mod State
 pub mod Step
 pub mod Send
 pub mod Calls
+pub mod Ready

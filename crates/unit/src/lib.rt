@@ -2,6 +2,9 @@
 
 use message::Message;
 
+mod decide; // what each message makes a unit do
+mod state; // the order of stamps, and the parts of a state set
+
 // 01: "A unit's state keeps its threshold stamp, its best bound and lotting, its estimates, its paper, its own counter and
 // whether it has stopped." The paper out is the cpa in stamp, values and cost; the own value 0 means that none is out.
 #[repr(C)]

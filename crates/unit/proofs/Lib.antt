@@ -1,0 +1,2 @@
+-- What the proofs of the unit's functions share.
+pub mod Orders
