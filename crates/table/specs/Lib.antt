@@ -2,5 +2,6 @@
 pub mod Stream
 pub mod StreamLaws
 pub mod Block
+pub mod BlockLaws
 pub mod File
 pub mod View

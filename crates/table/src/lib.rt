@@ -6,6 +6,7 @@ ghost use lib.ListN.{length, getD, take, drop};
 ghost use Rattle.base.specs.Bytes.{u16At};
 ghost use Rattle.base.specs.Shape.{allInSixteen};
 ghost use Rattle.table.specs.Stream.{unitsOf, sizesOf, pairsIn, costsGood, streamRefusal};
+ghost use Rattle.table.specs.Block.{countGood, allZero, blockRefusal, readBlockOf};
 ghost use Rattle.table.specs.View.{viewOf, Viewed};
 
 // The answer of a reading: the refusal, or 0 and the stream's length.
@@ -18,6 +19,68 @@ pub struct ReadTable {
 pub struct Written {
     pub refusal: u8,
     pub length: usize,
+}
+
+// The payload of a block, as the part of it that holds it; the empty part, which no payload is, where it is refused.
+pub fn read_block<'a>(block: &'a [u8], number: u16, last: bool) -> &'a [u8]
+    ensures { λ r. ⌜ now r ≡ readBlockOf number last (now (block .entry)) ⌝ }
+{
+    if block_refusal(block, number, last) != 0 {
+        return &block[0..0];
+    }
+    let end = 4 + base::u16_at(block, 2) as usize;
+    &block[4..end]
+}
+
+// The refusal of a block that is read alone, or 0.
+pub fn block_refusal(block: &[u8], number: u16, last: bool) -> u8
+    ensures { λ r. ⌜ r ≡ blockRefusal number last (now (block .entry)) ⌝ }
+{
+    if block.len() != 512 {
+        return 1;
+    }
+    if base::u16_at(block, 510) != checksum::sum(&block[0..510]) {
+        return 4;
+    }
+    if base::u16_at(block, 0) != number as u32 {
+        return 2;
+    }
+    let count = base::u16_at(block, 2) as usize;
+    if !count_good(last, count) {
+        return 3;
+    }
+    if !unused_zero(block, count) {
+        return 3;
+    }
+    0
+}
+
+// Whether a payload count fits the block's place: 506, or 1 to 506 in the last.
+fn count_good(last: bool, count: usize) -> bool
+    ensures { λ r. ⌜ r ≡ countGood last count ⌝ }
+{
+    if last {
+        if count < 1 {
+            return false;
+        }
+        return count <= 506;
+    }
+    count == 506
+}
+
+// Whether the payload bytes after the count are zero.
+fn unused_zero(block: &[u8], count: usize) -> bool
+    requires { ⌜ (length (now block) ≡ 512) × (count ≤ 506) ⌝ }
+    ensures { λ r. ⌜ r ≡ allZero (drop (4 + count) (take 510 (now (block .entry)))) ⌝ }
+{
+    let mut k = 4 + count;
+    while k < 510 {
+        if block[k] != 0 {
+            return false;
+        }
+        k += 1;
+    }
+    true
 }
 
 // The refusal 5, 6 or 7 of a stream, or 0: one pass, nothing copied.
