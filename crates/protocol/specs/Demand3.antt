@@ -4,7 +4,7 @@
 --     two-runs : of any two lists after which unit 1 has stopped, the bounds are equal
 --
 -- Read first: Problem.antt (what is asked of costs), Machine.antt (the rules), and this. The rest is proof:
--- Lists, Tests, Closed, Walk    small facts; the ways through a step, a delivery and a run
+-- Lists, Tests, Walk            small facts; the ways through a step, a delivery and a run
 -- Safety                        facts that only grow: about records written and messages ever sent, whatever the pool does
 -- Liveness                      until unit 1 stops its CPA waits somewhere; the pool is any predicate on messages
 -- Count                         each record pays for the deliveries that follow from it

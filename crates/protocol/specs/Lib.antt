@@ -3,7 +3,6 @@ pub mod Machine
 pub mod Demand3
 pub mod Lists
 pub mod Tests
-pub mod Closed
 pub mod Walk
 pub mod Safety
 pub mod Liveness

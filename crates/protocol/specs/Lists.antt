@@ -1,32 +1,38 @@
 -- Membership in a list, what holds of every element, and lists of messages to a run of units.
 -- Membership is the library's `List·Memᴰ`, a place in the list and not merely its existence, under short names.
 -- Assumes nothing.
-use Prim.Native.Nat.{ℕ, zero, suc, _+_, _≤_, _<_}
+use Prim.Native.Nat.{ℕ, zero, suc, _+_, _-_, _≤_, _<_}
 use mathlib.Core.Path.{_≡_, sym, subst}
 use mathlib.Core.Logic.{_⊎_, inl, inr}
 use mathlib.Core.List.{List, [], _∷_, _++_}
 use native.Mathlib.Omega.{arith}
-use Rattle.protocol.specs.Machine.{Msg, toEach}
+use Rattle.protocol.specs.Machine.{Msg, toEach, toOthers}
 pub use mathlib.Core.List.{List·Memᴰ as In, List·Memᴰ·head as here, List·Memᴰ·tail as there, List·Memᴰ·cases-cons as in-cases, List·Memᴰ·not-nil as not-in-nil, Memᴰ·append-left as in-left, Memᴰ·append-right as in-right, List·Memᴰ·append-cases as append-cases}
 
 module _ {A : Type 0} where
   pub in-append : {a : A} (l m : List A) → In a (l ++ m) → In a l ⊎ In a m
   in-append l m i = append-cases l i
 
-  -- one element taken out of the middle
+  -- one element taken out of the middle, and put back
   pub in-middle : {a : A} (l : List A) (x : A) (m : List A) → In a (l ++ (x ∷ m)) → (a ≡ x) ⊎ In a (l ++ m)
-  in-middle [] x m i = in-cases i
-  in-middle {a} (y ∷ ys) x m i = go (λ j. in-middle ys x m j) (in-cases i)
+  in-middle {a} l x m i = go (in-append l (x ∷ m) i)
     where
-      next : (a ≡ x) ⊎ In a (ys ++ m) → (a ≡ x) ⊎ In a (y ∷ (ys ++ m))
-      next (inl e) = inl e
-      next (inr j) = inr (there j)
+      right : (a ≡ x) ⊎ In a m → (a ≡ x) ⊎ In a (l ++ m)
+      right (inl e) = inl e
+      right (inr j) = inr (in-right l j)
 
-      go : (In a (ys ++ (x ∷ m)) → (a ≡ x) ⊎ In a (ys ++ m)) → (a ≡ y) ⊎ In a (ys ++ (x ∷ m)) → (a ≡ x) ⊎ In a (y ∷ (ys ++ m))
-      go below (inl e) = inr (here e)
-      go below (inr j) = next (below j)
+      go : In a l ⊎ In a (x ∷ m) → (a ≡ x) ⊎ In a (l ++ m)
+      go (inl j) = inr (in-left m j)
+      go (inr j) = right (in-cases j)
 
-  -- what holds of every element
+  pub in-more : {a : A} (l : List A) (x : A) (m : List A) → In a (l ++ m) → In a (l ++ (x ∷ m))
+  in-more {a} l x m i = go (in-append l m i)
+    where
+      go : In a l ⊎ In a m → In a (l ++ (x ∷ m))
+      go (inl j) = in-left (x ∷ m) j
+      go (inr j) = in-right l (there j)
+
+  -- what holds of every element: a function, so that it is used by applying it
   abbrev pub Every : (A → Type 0) → List A → Type 0
   Every Q l = (x : A) → In x l → Q x
 
@@ -47,7 +53,13 @@ module _ {A : Type 0} where
       go (inl j) = h x j
       go (inr j) = g x j
 
+-- ---- messages to a run of units
+
 pub every-each : (Q : Msg → Type 0) (g : ℕ → Msg) (lo m : ℕ) → ((j : ℕ) → lo ≤ j → j < lo + m → Q (g j)) → Every Q (toEach g lo m)
 every-each Q g lo zero f = every-nil Q
 every-each Q g lo (suc m) f =
     every-cons Q (g lo) (toEach g (suc lo) m) (f lo (omega arith) (omega arith)) (every-each Q g (suc lo) m (λ j a b. f j (omega arith) (omega arith)))
+
+pub every-others : (Q : Msg → Type 0) (g : ℕ → Msg) (n k : ℕ) → k < n → ((j : ℕ) → j < n → Q (g j)) → Every Q (toOthers n k g)
+every-others Q g n k h f =
+    every-append Q (toEach g 0 k) (toEach g (suc k) (n - suc k)) (every-each Q g 0 k (λ j a b. f j (omega arith))) (every-each Q g (suc k) (n - suc k) (λ j a b. f j (omega arith)))

@@ -8,12 +8,11 @@ use mathlib.Core.Bool.{true, false}
 use mathlib.Core.List.{List}
 use native.Mathlib.Omega.{arith}
 use native.Mathlib.Nat.{le-antisymm}
-use Rattle.protocol.specs.Problem.{Problem, ValidBound, Laws}
+use Rattle.protocol.specs.Problem.{Problem, Laws, closed-least, ValidBound, valid-le-none}
 use Rattle.protocol.specs.Machine.{Msg, to, Agent, Network, make, run}
 use Rattle.protocol.specs.Lists.{In, here, there}
 use Rattle.protocol.specs.Demand3.{most, Demand3}
 use Rattle.protocol.specs.Tests.{true-not-false}
-use Rattle.protocol.specs.Closed.{valid-le-none, closed-least}
 use Rattle.protocol.specs.Walk.{run-keeps}
 use Rattle.protocol.specs.Safety.Network.{StepSafe, any-step, SafeNetwork, make-safe}
 use Rattle.protocol.specs.Safety.Run.{deliver-safe}

@@ -16,7 +16,7 @@ use Rattle.protocol.specs.Lists.{In, there, in-left, in-right, in-append
 use Rattle.protocol.specs.Tests.{true-not-false, le-split}
 use Rattle.protocol.specs.Walk.{deliver-cases}
 use Rattle.protocol.specs.Safety.Facts.{ValidMsg}
-use Rattle.protocol.specs.Safety.Logs.{Recorded, logs, Safe}
+use Rattle.protocol.specs.Safety.Logs.{logs, Recorded, Safe}
 use Rattle.protocol.specs.Safety.Network.{put-all, put-at, SafeNetwork, fresh-good}
 use Rattle.protocol.specs.Safety.Run.{in-pool}
 use Rattle.protocol.specs.Liveness.Effect.{to<n}

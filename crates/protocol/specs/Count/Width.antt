@@ -8,7 +8,7 @@ use native.Mathlib.Nat.{mul-le-mul-left, mul-le-mul, le-trans, pow-suc, mul-asso
 use lib.Dec.{lit≤}
 use lib.ListN.{length}
 use Rattle.base.specs.Sums.{sumTo}
-use Rattle.protocol.specs.Problem.{Problem, prefixCount, N, Laws}
+use Rattle.protocol.specs.Problem.{Problem, Laws, prefixCount, N}
 use Rattle.protocol.specs.Machine.{Agent}
 use Rattle.protocol.specs.Demand3.{most}
 use Rattle.protocol.specs.Safety.Logs.{Safe}

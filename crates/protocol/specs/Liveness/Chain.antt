@@ -14,7 +14,7 @@ use Rattle.protocol.specs.Machine.{Msg, down, back, request, estimate, s
 use Rattle.protocol.specs.Lists.{In, here, Every}
 use Rattle.protocol.specs.Safety.Facts.{ValidMsg, Good}
 use Rattle.protocol.specs.Safety.Step.{the-cpa-out}
-use Rattle.protocol.specs.Safety.Logs.{Recorded, topStamp, peak, top-in, top-bound, logs, Safe}
+use Rattle.protocol.specs.Safety.Logs.{logs, Recorded, topStamp, peak, top-in, top-bound, Safe}
 use Rattle.protocol.specs.Safety.Network.{before, put-at, StepSafe}
 use Rattle.protocol.specs.Safety.Run.{step-safe-at}
 use Rattle.protocol.specs.Liveness.Moves.{IsCpa, sender, NoCpa, Wrote, Backtracked}

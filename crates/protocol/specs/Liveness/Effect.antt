@@ -13,9 +13,10 @@ use Rattle.base.specs.Sums.{sumFrom}
 use Rattle.protocol.specs.Problem.{Problem, Laws}
 use Rattle.protocol.specs.Machine.{Msg, down, back, request, estimate, solution, stop, to, Agent, stamp, values, Result, refused, done, lower, takeBound, recount, counted, received, isCpaOut, isForCpaOut, pad, raise, store, halt, assign, resume, onDown, onBackSame, onBack, onRequest, assignIf, onEstimateSame, onEstimate, step}
 use Rattle.protocol.specs.Lists.{Every, every-nil, every-cons}
+use Rattle.protocol.specs.Walk.{recount-out}
 use Rattle.protocol.specs.Safety.Facts.{History, OnLog, ValidMsg, Before, Good}
-use Rattle.protocol.specs.Safety.Step.{recount-out, the-cpa-out}
-use Rattle.protocol.specs.Safety.Logs.{Recorded, peak, logs, Safe}
+use Rattle.protocol.specs.Safety.Step.{the-cpa-out}
+use Rattle.protocol.specs.Safety.Logs.{logs, Recorded, peak, Safe}
 use Rattle.protocol.specs.Safety.Network.{before}
 use Rattle.protocol.specs.Liveness.Moves.{NoCpa, Wrote, Backtracked, Moved, try-moved, took-moved}
 
@@ -88,7 +89,7 @@ module _ (P : Problem) (laws : Laws P) (k : ℕ) (k<n : k < P .n) (Past : Histor
 
   -- the CPA out, taken up again
   recount-cpa : (v : Agent) → v .own ≡ u .own → v .counter ≡ u .counter → 1 ≤ u .own → recount (v .own) (v .counter) ≡ u .counter
-  recount-cpa v e₁ e₂ h = recount-out P laws k k<n Past X bf (v .own) (v .counter) (omega (arith, e₁)) ∙ e₂
+  recount-cpa v e₁ e₂ h = recount-out (v .own) (v .counter) (omega (arith, e₁)) ∙ e₂
 
   pub back-effect : (s : ℕ) (b : List ℕ) (B : ℕ) (l : List ℕ) → ValidMsg P Past (back k s b B l) → Effect k Past X u (back k s b B l) (step P u (back k s b B l))
   back-effect s b B l ok = go (ltb s (u .threshold)) refl

@@ -13,7 +13,7 @@ use Rattle.protocol.specs.Lists.{In, in-left, in-right, in-middle, Every
 use Rattle.protocol.specs.Tests.{true-not-false}
 use Rattle.protocol.specs.Walk.{deliver-cases}
 use Rattle.protocol.specs.Safety.Facts.{ValidMsg}
-use Rattle.protocol.specs.Safety.Logs.{Recorded, logs, Safe}
+use Rattle.protocol.specs.Safety.Logs.{logs, Recorded, Safe}
 use Rattle.protocol.specs.Safety.Network.{put-at, SafeNetwork}
 use Rattle.protocol.specs.Safety.Run.{in-pool}
 use Rattle.protocol.specs.Liveness.Moves.{IsCpa, sender, NoCpa, Backtracked, Moved, try-moved}

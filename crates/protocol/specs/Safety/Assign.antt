@@ -1,31 +1,25 @@
 -- Assigning keeps a unit good: a unit that is ready to try its values writes the next one, or has none left and backtracks, and what it sends is valid.
--- By induction over the values left.
+-- By the walk over assigning: what is left to show is that a value written or passed over leaves the unit ready for the rest.
 -- Assumes nothing.
-use Prim.Native.Nat.{ℕ, zero, suc, _-_, _≤_, _<_, pred}
+use Prim.Native.Nat.{ℕ, zero, suc, _+_, _*_, _-_, _≤_, _<_, pred}
 use mathlib.Core.Path.{_≡_, refl, sym, subst}
-use mathlib.Core.Logic.{_≢_, _⊎_, inl, inr}
+use mathlib.Core.Logic.{_⊎_, inl, inr}
 use mathlib.Core.Bool.{Bool, true, false}
 use mathlib.Core.List.{[], _∷_}
 use native.Mathlib.Omega.{arith}
-use lib.Dec.{ltb}
 use lib.ListN.{length}
-use borrow.Author.Tests.{ltb-true, ltb-false, eqb-true, eqb-false}
-use Rattle.protocol.specs.Problem.{Problem, Closed, ValidBound, Laws}
-use Rattle.protocol.specs.Machine.{Msg, solution, stop, toEach, stampOf, Agent, stamp, values, skip, write, isLast, announce, giveBack, backtrack, solved, sendDown, afterWrite, tryNext, tryFrom}
-use Rattle.protocol.specs.Lists.{here, Every, every-nil, every-cons, every-append, every-each}
+use Rattle.protocol.specs.Problem.{Problem, Closed, Laws, closed-mono, closed-by-values, closed-full, ValidBound, valid-le-none}
+use Rattle.protocol.specs.Machine.{solution, stop, stampOf, Agent, stamp, values, skip, write, counted, announce, giveBack, backtrack, solved, sendDown, tryFrom, resume}
+use Rattle.protocol.specs.Lists.{here, Every, every-nil, every-cons, every-append, every-each, every-others}
 use Rattle.protocol.specs.Tests.{le-split}
-use Rattle.protocol.specs.Closed.{valid-le-none, closed-mono, closed-by-values, closed-full}
+use Rattle.protocol.specs.Walk.{try-walk, resume-cases}
 use Rattle.protocol.specs.Safety.Facts.{History, OnLog, Extended, ValidMsg, Before, Sorted, Good, Ready, Spent, Post}
 
 module _ (P : Problem) (laws : Laws P) (k : ℕ) (k<n : k < P .n) (Past : History) (X : ℕ) (bf : Before P k Past X) where
+  -- ---- backtrack
+
   announce-valid : (better : Bool) (u : Agent) → ValidBound P (u .bound) (u .best) → Every (ValidMsg P (Extended k Past (u .log))) (announce P k better u)
-  announce-valid true u h =
-      every-append _ (toEach g 0 k) (toEach g (suc k) (P .n - suc k))
-      (every-each _ g 0 k (λ j a b. (omega arith, h)))
-      (every-each _ g (suc k) (P .n - suc k) (λ j a b. (omega arith, h)))
-    where
-      g : ℕ → Msg
-      g j = solution j (u .bound) (u .best)
+  announce-valid true u h = every-others _ (λ j. solution j (u .bound) (u .best)) (P .n) k k<n (λ j lt. (lt, h))
   announce-valid false u h = every-nil _
 
   give-back-valid : (i : ℕ) → i ≡ k → (u : Agent) → Spent P k Past u → Every (ValidMsg P (Extended k Past (u .log))) (giveBack P i u)
@@ -47,51 +41,68 @@ module _ (P : Problem) (laws : Laws P) (k : ℕ) (k<n : k < P .n) (Past : Histor
     every-append _ (giveBack P k u) (announce P k better u) (give-back-valid k refl u h) (announce-valid better u (h .valid)),
   )
 
-  pub prefix-length : {m : ℕ} (u : Agent) → Ready P k Past m u → length (u .prefix) ≡ k
+  -- ---- the values in turn
+
+  prefix-length : {m : ℕ} (u : Agent) → Ready P k Past m u → length (u .prefix) ≡ k
   prefix-length u h = bf .len _ _ (h .past)
 
-  skip-ready : (m : ℕ) (u : Agent) → Ready P k Past (suc m) u → u .bound ≤ P .lookahead (suc (u .own) ∷ u .prefix) → Ready P k Past m (skip u)
+  -- no value left: each is closed, so the prefix is (L5)
+  spent : (u : Agent) → Ready P k Past 0 u → Spent P k Past u
+  spent u h =
+      record {
+        valid = h .valid;
+        sorted = h .sorted;
+        past = h .past;
+        threshold = omega (arith, h .threshold, h .counter, h .left, laws .size-le-16 k);
+        top = λ r i. omega (arith, h .threshold, h .top r i .0);
+        closed = closed-by-values P (u .prefix) (u .bound) (omega (arith, prefix-length u h))
+            (λ v lo hi. h .closed v lo (let z = subst (λ x. v ≤ P .size x) (prefix-length u h) hi in omega (arith, h .left)));
+      }
+
+  -- the values up to one more are closed, at a bound that is no higher
+  closed-next : (m : ℕ) (u : Agent) (C : ℕ) → Ready P k Past m u → C ≤ u .bound → Closed P (values (skip u)) C → (v : ℕ) → 1 ≤ v → v ≤ suc (u .own) → Closed P (v ∷ u .prefix) C
+  closed-next m u C h le c v lo hi = go (le-split v (u .own) hi)
+    where
+      go : (v ≤ u .own) ⊎ (v ≡ suc (u .own)) → Closed P (v ∷ u .prefix) C
+      go (inl a) = closed-mono P (v ∷ u .prefix) (u .bound) C le (h .closed v lo a)
+      go (inr e) = rw e c
+
+  -- a value passed over is closed by its lookahead (L1)
+  skip-ready : (m : ℕ) (u : Agent) → Ready P k Past (suc m) u → u .bound ≤ P .lookahead (values (skip u)) → Ready P k Past m (skip u)
   skip-ready m u h low =
       record {
         valid = h .valid;
         sorted = h .sorted;
         past = h .past;
         threshold = h .threshold;
-        counter = let z = h .counter in omega arith;
-        left = let z = h .left in omega arith;
-        top = λ r i. (h .top r i .0, let z = h .top r i .1 in omega arith);
-        closed = λ v lo hi. closed v lo (le-split v (u .own) hi);
+        counter = omega (arith, h .counter);
+        left = omega (arith, h .left);
+        top = λ r i. (h .top r i .0, omega (arith, h .top r i .1));
+        closed = closed-next (suc m) u (u .bound) h (omega arith) (laws .closed-by-lookahead (values (skip u)) (u .bound) (omega (arith, prefix-length u h)) low);
         stop = h .stop;
       }
-    where
-      closed : (v : ℕ) → 1 ≤ v → (v ≤ u .own) ⊎ (v ≡ suc (u .own)) → Closed P (v ∷ u .prefix) (u .bound)
-      closed v lo (inl a) = h .closed v lo a
-      closed v lo (inr e) = rw e (laws .closed-by-lookahead (suc (u .own) ∷ u .prefix) (u .bound) (let z = prefix-length u h in omega arith) low)
 
-  -- the record just written
+  -- a value written is the last of the log
   written-sorted : (m : ℕ) (u : Agent) → Ready P k Past (suc m) u → Sorted P k Past (write u .log)
   written-sorted m u h = (
-    (h .past, omega arith, let z = h .counter in omega arith, let z = h .left in omega arith),
-    (λ r i. (let z = h .top r i .0 in omega arith, h .top r i .1)),
+    (h .past, omega arith, omega (arith, h .counter), omega (arith, h .left)),
+    (λ r i. (omega (arith, h .top r i .0), h .top r i .1)),
     h .sorted,
   )
-
-  written-threshold : (m : ℕ) (u : Agent) → Ready P k Past (suc m) u → Every (λ r. stampOf r ≤ write u .threshold) (write u .log)
-  written-threshold m u h = every-cons _ _ (u .log) (omega arith) (λ r i. let z = h .top r i .0 in omega arith)
 
   written-good : (m : ℕ) (u : Agent) → Ready P k Past (suc m) u → Good P k Past X (write u)
   written-good m u h =
       record {
         valid = h .valid;
         sorted = written-sorted m u h;
-        threshold = written-threshold m u h;
+        threshold = every-cons _ _ (u .log) (omega arith) (λ r i. omega (arith, h .top r i .0));
         threshold-peak = let z = bf .top _ _ (h .past) in omega (arith, h .counter, h .left, laws .size-le-16 k);
         none = λ e. absurd (omega arith);
         cpa = λ z. record {
           past = h .past;
           counter-pos = omega arith;
-          counter = let z = h .counter in omega arith;
-          own = let z = h .left in omega arith;
+          counter = omega (arith, h .counter);
+          own = omega (arith, h .left);
           last = (u .log, refl);
           closed = λ v lo hi. h .closed v lo (omega arith);
           estimates = λ j. omega arith;
@@ -107,50 +118,51 @@ module _ (P : Problem) (laws : Laws P) (k : ℕ) (k<n : k < P .n) (Past : Histor
       on : OnLog (write u .log) (stamp (write u)) (values (write u))
       on = (_, here refl, refl, refl)
 
-  solved-ready : (m : ℕ) (u : Agent) → suc k ≡ P .n → P .lookahead (suc (u .own) ∷ u .prefix) < u .bound → Ready P k Past (suc m) u → Ready P k Past m (solved P (write u))
+  -- unit n's value is a full assignment: its cost is its total (L4), the new bound, and closes it
+  solved-ready : (m : ℕ) (u : Agent) → suc k ≡ P .n → P .lookahead (values (skip u)) < u .bound → Ready P k Past (suc m) u → Ready P k Past m (solved P (write u))
   solved-ready m u last low h =
       record {
         valid = inr (
           refl,
           (omega (arith, prefix-length u h), (omega arith, subst (λ x. suc (u .own) ≤ P .size x) (sym (prefix-length u h)) (omega (arith, h .left)), bf .domains _ _ (h .past))),
-          let z = laws .cost-le-lookahead (suc (u .own) ∷ u .prefix) in omega (arith, valid-le-none P (u .best) (h .valid), low),
+          omega (arith, less, valid-le-none P (u .best) (h .valid)),
         );
         sorted = written-sorted m u h;
         past = h .past;
         threshold = refl;
-        counter = let z = h .counter in omega arith;
-        left = let z = h .left in omega arith;
-        top = every-cons _ _ (u .log) (omega arith, omega arith)
-            (λ r i. (let z = h .top r i .0 in omega arith, let z = h .top r i .1 in omega arith));
-        closed = λ v lo hi. closed v lo (le-split v (u .own) hi);
-        stop = λ e t. closed-mono P [] (u .bound) (P .cost (suc (u .own) ∷ u .prefix)) (let z = laws .cost-le-lookahead (suc (u .own) ∷ u .prefix) in omega arith) (h .stop e t);
+        counter = omega (arith, h .counter);
+        left = omega (arith, h .left);
+        top = every-cons _ _ (u .log) (omega arith, omega arith) (λ r i. (omega (arith, h .top r i .0), omega (arith, h .top r i .1)));
+        closed = closed-next (suc m) u (P .cost (values (skip u))) h (omega (arith, less)) (closed-full P (values (skip u)) (omega (arith, prefix-length u h)));
+        stop = λ e t. closed-mono P [] (u .bound) (P .cost (values (skip u))) (omega (arith, less)) (h .stop e t);
       }
     where
-      closed : (v : ℕ) → 1 ≤ v → (v ≤ u .own) ⊎ (v ≡ suc (u .own)) → Closed P (v ∷ u .prefix) (P .cost (suc (u .own) ∷ u .prefix))
-      closed v lo (inl a) = closed-mono P (v ∷ u .prefix) (u .bound) (P .cost (suc (u .own) ∷ u .prefix)) (let z = laws .cost-le-lookahead (suc (u .own) ∷ u .prefix) in omega arith) (h .closed v lo a)
-      closed v lo (inr e) = rw e (closed-full P (suc (u .own) ∷ u .prefix) (omega (arith, prefix-length u h)))
+      less : P .cost (values (skip u)) < u .bound
+      less = omega (arith, low, laws .cost-le-lookahead (values (skip u)))
 
   pub try-post : (m : ℕ) (better : Bool) (u : Agent) → Ready P k Past m u → Post P k Past X (tryFrom P k m better u)
-  try-post zero better u h =
-      backtrack-post better u
+  try-post =
+      try-walk P k (λ m better u. Ready P k Past m u) (λ u r. Post P k Past X r)
+      (record {
+        stuck = λ better u h. backtrack-post better u (spent u h);
+        sends = λ m better u h low ne. (written-good m u h, send-down-valid m u (omega (arith, ne)) h);
+        solves = λ m better u h low e. (solved-ready m u e low h, λ r p. p);
+        skips = λ m better u h low. (skip-ready m u h low, λ r p. p);
+      })
+
+  -- a CPA in hand, its own value taken off or to be gone past: backtracking at once is by its cost (L3)
+  pub resume-post : (u : Agent) → Ready P k Past (P .size k - u .own) (counted u) → u .threshold ≤ u .prefixStamp * 32 + 16 → Every (λ r. stampOf r ≤ u .threshold) (u .log)
+      → Post P k Past X (resume P k u)
+  resume-post u h t top =
+      resume-cases P k (Post P k Past X) u
+      (λ full.
+      backtrack-post false u
       (record {
         valid = h .valid;
         sorted = h .sorted;
         past = h .past;
-        threshold = omega (arith, h .threshold, h .counter, h .left, laws .size-le-16 k);
-        top = λ r i. let z = h .top r i .0 in omega (arith, h .threshold);
-        closed = closed-by-values P (u .prefix) (u .bound) (omega (arith, prefix-length u h))
-            (λ v lo hi. h .closed v lo (let z = subst (λ x. v ≤ P .size x) (prefix-length u h) hi in omega (arith, h .left)));
-        stop = h .stop;
-      })
-  try-post (suc m) better u h = go (ltb (P .lookahead (suc (u .own) ∷ u .prefix)) (u .bound)) refl (λ b w r. try-post m b w r)
-    where
-      last : (t : Bool) → isLast P k ≡ t → P .lookahead (suc (u .own) ∷ u .prefix) < u .bound
-          → ((b : Bool) (w : Agent) → Ready P k Past m w → Post P k Past X (tryFrom P k m b w)) → Post P k Past X (afterWrite P k t (write u) (λ b w. tryFrom P k m b w))
-      last true e low ih = ih true (solved P (write u)) (solved-ready m u (eqb-true _ _ e) low h)
-      last false e low ih = (written-good m u h, send-down-valid m u (let z : suc k ≢ P .n = eqb-false _ _ e in omega arith) h)
-
-      go : (t : Bool) → ltb (P .lookahead (suc (u .own) ∷ u .prefix)) (u .bound) ≡ t
-          → ((b : Bool) (w : Agent) → Ready P k Past m w → Post P k Past X (tryFrom P k m b w)) → Post P k Past X (tryNext P k t better u (λ b w. tryFrom P k m b w))
-      go true e ih = last (isLast P k) refl (ltb-true _ _ e) ih
-      go false e ih = ih better (skip u) (skip-ready m u h (ltb-false _ _ e))
+        threshold = t;
+        top = top;
+        closed = laws .closed-by-cost (u .prefix) (u .bound) (let z = bf .len _ _ (h .past) in omega arith) full;
+      }))
+      (try-post (P .size k - u .own) false (counted u) h)

@@ -13,18 +13,14 @@ use lib.ListN.{length}
 use borrow.Author.Tests.{eqb-true, eqb-false}
 use Rattle.protocol.specs.Problem.{Problem, InDomains, Laws}
 use Rattle.protocol.specs.Machine.{Msg, down, back, request, estimate, solution, stop, to, Record, stampOf, valuesOf, Agent, fresh, Result, refused, done, counted, pad, assign, step, Network, put, made, make}
-use Rattle.protocol.specs.Lists.{In, in-cases, not-in-nil, in-right, Every, every-nil, every-cons}
+use Rattle.protocol.specs.Lists.{In, in-cases, not-in-nil, in-right, Every, every-nil}
 use Rattle.protocol.specs.Tests.{true-not-false, eqb-same, le-split}
-use Rattle.protocol.specs.Safety.Facts.{rank, History, OnLog, Extended, ValidMsg, valid-mono, Before, ValidRecord, Sorted, Good, Post}
+use Rattle.protocol.specs.Safety.Facts.{rank, History, OnLog, Extended, ValidMsg, valid-mono, Before, ValidRecord, Sorted, Good, Post, sorted-valid}
 use Rattle.protocol.specs.Safety.Assign.{try-post}
 use Rattle.protocol.specs.Safety.Step.{down-post, back-post, estimate-post, request-post, solution-post, stop-post}
-use Rattle.protocol.specs.Safety.Logs.{Grown, try-grown, step-grown, Recorded, topStamp, peak, top-in, top-append, logs, Safe}
+use Rattle.protocol.specs.Safety.Logs.{Grown, try-grown, step-grown, logs, Recorded, topStamp, peak, top-in, Safe}
 
 module _ (P : Problem) where
-  sorted-valid : (k : ℕ) (Past : History) (L : List Record) → Sorted P k Past L → Every (ValidRecord P k Past) L
-  sorted-valid k Past [] h = every-nil _
-  sorted-valid k Past (r ∷ L) h = every-cons _ r L (h .0) (sorted-valid k Past L (h .2))
-
   pub sorted-order : (k : ℕ) (Past : History) (L : List Record) → Sorted P k Past L → (q r : Record) → In q L → In r L → stampOf q < stampOf r → rank P (valuesOf q) < rank P (valuesOf r)
   sorted-order k Past [] h q r i j lt = absurd (not-in-nil i)
   sorted-order k Past (x ∷ L) h q r i j lt = go (in-cases i) (in-cases j) (λ a b. sorted-order k Past L (h .2) q r a b lt)
@@ -58,7 +54,7 @@ module _ (P : Problem) where
         g = safe k h
 
         rec : (r : Record) → In r (us k .log) → ValidRecord P k (Recorded (logs us)) r
-        rec r i = sorted-valid k _ (us k .log) (g .sorted) r i
+        rec r i = sorted-valid P k _ (us k .log) (g .sorted) r i
 
         go : Before P k (Recorded (logs us)) (peak (logs us) k) → Before P (suc k) (Recorded (logs us)) (peak (logs us) (suc k))
         go bf =
@@ -123,8 +119,12 @@ recorded-grows W W′ g (suc k) s b h = (h .0, subst (λ L. In (h .0) L) (sym (g
 pub peak-grows : (W W′ : ℕ → List Record) → Grows W W′ → (k : ℕ) → peak W k ≤ peak W′ k
 peak-grows W W′ g zero = omega arith
 peak-grows W W′ g (suc k) =
-    let z : topStamp (W k) ≤ topStamp (W′ k) = subst (λ L. topStamp (W k) ≤ topStamp L) (sym (g k .1)) (top-append (g k .0) (W k)) in
+    let z : topStamp (W k) ≤ topStamp (W′ k) = subst (λ L. topStamp (W k) ≤ topStamp L) (sym (g k .1)) (top-append (g k .0)) in
     omega (arith, peak-grows W W′ g k)
+  where
+    top-append : (new : List Record) → topStamp (W k) ≤ topStamp (new ++ W k)
+    top-append [] = omega arith
+    top-append (r ∷ new) = omega (arith, top-append new)
 
 -- what a step of unit k leaves
 abbrev pub StepSafe : Problem → (ℕ → Agent) → ℕ → Result → Type 0

@@ -10,7 +10,7 @@ use Rattle.protocol.specs.Machine.{Msg, to, Agent, done, step, Network, 
 use Rattle.protocol.specs.Lists.{In, here, there, in-left, in-right, in-append, every-append}
 use Rattle.protocol.specs.Walk.{deliver-cases, run-keeps}
 use Rattle.protocol.specs.Safety.Facts.{ValidMsg, valid-mono}
-use Rattle.protocol.specs.Safety.Logs.{Recorded, logs, Safe}
+use Rattle.protocol.specs.Safety.Logs.{logs, Recorded, Safe}
 use Rattle.protocol.specs.Safety.Network.{recorded-grows, StepSafe, any-step, SafeNetwork, make-safe}
 
 pub step-safe-at : (P : Problem) (laws : Laws P) (us : ℕ → Agent) → Safe P us → (m : Msg) (u : Agent) (ms : List Msg) → step P (us (to m)) m ≡ done u ms
