@@ -2,5 +2,6 @@
 pub mod Instance
 pub mod Bounds
 pub mod Lent
+pub mod Gather
 pub mod Problem
 pub mod Laws

@@ -2,20 +2,20 @@
 -- `pre k l` is the prefix that the first k places of l are. By induction on k; the view's test on the units falls to one side.
 -- Assumes nothing.
 use Prim.Native.Nat.{ℕ, zero, suc, _+_, _*_, _-_, _≤_, _<_}
-use mathlib.Core.Path.{_≡_, refl, sym, ap, _∙_, subst}
-use mathlib.Core.Bool.{Bool, true, false, cond}
+use mathlib.Core.Path.{_≡_, refl, ap, _∙_, subst}
+use mathlib.Core.Bool.{Bool, true, false}
 use mathlib.Core.List.{List, [], _∷_}
 use native.Mathlib.Omega.{arith}
-use lib.Dec.{ltb, eqb}
+use lib.Dec.{eqb}
 use lib.ListN.{length, getD, set}
 use lib.Seq.{getD-set-same, getD-set-other}
 use borrow.Author.Tests.{lt-ltb, le-ltb, eqb-true, eqb-false}
-use Rattle.base.specs.Sums.{sumFrom, sumTo, least}
-use Rattle.costs.specs.Instance.{Instance, View, viewOf}
+use Rattle.base.specs.Sums.{sumTo, least}
+use Rattle.costs.specs.Instance.{Instance, viewOf}
 use Rattle.costs.specs.Bounds.{costWith, h, estimate, Assignment, total}
-use Rattle.costs.specs.Problem.{Problem, InDomains, Full, Closed, closed-least}
+use Rattle.costs.specs.Problem.{InDomains, Full, Closed, closed-least}
 use Rattle.costs.specs.Laws.Sums.{sumFrom-cong, sumTo-cong, least-cong}
-use Rattle.costs.specs.Laws.{Sound, against, costOf, hOf, lookaheadOf, estimateOf, problemOf, against-limit, cost-limit, full-limit, h-limit, estimate-limit}
+use Rattle.costs.specs.Laws.{Sound, against, costOf, hOf, lookaheadOf, estimateOf, problemOf, cost-limit, full-limit, estimate-limit}
 
 -- ---- the first k places, the last first
 

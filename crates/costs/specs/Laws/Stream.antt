@@ -1,23 +1,23 @@
 -- The instance of an accepted stream is sound. How many costs stand before a pair's is counted unit by unit, as the stream's length is,
 -- so each cost of a pair of values is one of the stream's, and those are at most 60,000.
 -- Assumes nothing.
-use Prim.Native.Nat.{ℕ, zero, suc, _+_, _*_, _-_, _≤_, _<_}
-use mathlib.Core.Path.{_≡_, refl, sym, ap, _∙_, subst}
+use Prim.Native.Nat.{ℕ, suc, _+_, _*_, _-_, _≤_, _<_}
+use mathlib.Core.Path.{_≡_, refl, ap, _∙_, subst}
 use mathlib.Core.Bool.{Bool, true, false, cond, _&&_, false≢true}
 use mathlib.Core.List.{List, [], _∷_}
 use native.Mathlib.Omega.{arith}
 use native.Mathlib.Nat.{mul-le-mul, mul-add, le-refl, zero-add}
-use lib.Dec.{ltb, leb, eqb}
-use lib.ListN.{length, getD, take, drop, List·getD-eq-default}
-use lib.Seq.{getD-drop, getD-take}
+use lib.Dec.{ltb, leb}
+use lib.ListN.{length, getD, drop, length-drop, List·getD-eq-default}
+use lib.Seq.{getD-drop, getD-take, length-take-le}
 use borrow.Author.Tests.{leb-true, ltb-true, ltb-false}
-use Rattle.base.specs.Bytes.{u16At}
-use Rattle.base.specs.Sums.{sumFrom, sumTo}
+use Rattle.base.specs.Sums.{sumFrom}
 use Rattle.base.specs.Shape.{and-left, and-right}
 use Rattle.table.specs.Stream.{unitsOf, sizesOf, sumList, pairsIn, needed, costAt, Accepted}
 use Rattle.table.specs.StreamLaws.{accepted-units, accepted-size, accepted-length, accepted-sizes-length, accepted-cost}
-use Rattle.costs.specs.Instance.{Instance, domIn, isValue, rowStart, pairStart, inPair, costNumber, tableCost, instanceOf}
+use Rattle.costs.specs.Instance.{isValue, rowStart, pairStart, inPair, costNumber, tableCost, instanceOf}
 use Rattle.costs.specs.Laws.Sums.{sumTo-mono, sumTo-sumFrom, sumFrom-last, sumFrom-split}
+use Rattle.costs.specs.Gather.{domOf, costsOf}
 use Rattle.costs.specs.Laws.{Sound}
 
 -- ---- a cost's place
@@ -82,14 +82,6 @@ value-range d v e = (leb-true 1 v (and-left (leb 1 v) (leb v d) e), leb-true v d
 
 -- ---- an accepted stream
 
--- its domain sizes
-abbrev pub domOf : List ℕ → ℕ → ℕ
-domOf s = domIn (unitsOf s) (drop 1 s)
-
--- its costs
-abbrev pub costsOf : List ℕ → List ℕ
-costsOf s = drop (1 + unitsOf s) s
-
 -- cost number k of all costs
 pub cost-number-at : (s : List ℕ) (k : ℕ) → costNumber (costsOf s) k ≡ costAt s k
 cost-number-at s k =
@@ -105,6 +97,22 @@ pub instance-dom : (s : List ℕ) → instanceOf s .dom ≡ domOf s
 unfolding instanceOf
 instance-dom s = refl
 
+-- a stream that is long enough for its n and sizes
+module _ (s : List ℕ) (fit : needed s ≤ length s) where
+  pub sizes-there : length (sizesOf s) ≡ unitsOf s
+  sizes-there = length-take-le (unitsOf s) (drop 1 s) (simp length-drop (omega arith))
+
+  -- has as many costs as its pairs of units need
+  pub costs-in-stream : rowStart (domOf s) (unitsOf s) (unitsOf s) ≡ pairsIn (sizesOf s)
+  costs-in-stream = subst (λ m. rowStart (domOf s) m m ≡ pairsIn (sizesOf s)) sizes-there (costs-count (sizesOf s))
+
+  -- and those of a pair among them
+  pub pair-costs : (i j : ℕ) → i < j → j < unitsOf s → pairStart (domOf s) (unitsOf s) i j + domOf s i * domOf s j ≤ pairsIn (sizesOf s)
+  pair-costs i j a b = rw (← costs-in-stream) (pair-inside (domOf s) (unitsOf s) i j a b)
+
+pub accepted-fit : (s : List ℕ) → Accepted s → needed s ≤ length s
+accepted-fit s ok = omega (arith, accepted-length s ok)
+
 module _ (s : List ℕ) (ok : Accepted s) where
   pub dom-inside : (k : ℕ) → k < unitsOf s → (1 ≤ domOf s k) × (domOf s k ≤ 16)
   dom-inside k h = rw (getD-take (unitsOf s) (drop 1 s) k 0 h, getD-drop 1 s k 0) (accepted-size s ok k h)
@@ -119,13 +127,6 @@ module _ (s : List ℕ) (ok : Accepted s) where
       go true e = dom-inside k (ltb-true k (unitsOf s) e) .1
       go false e = omega (arith, dom-outside k (ltb-false k (unitsOf s) e))
 
-  pub costs-in-stream : rowStart (domOf s) (unitsOf s) (unitsOf s) ≡ pairsIn (sizesOf s)
-  costs-in-stream = subst (λ m. rowStart (domOf s) m m ≡ pairsIn (sizesOf s)) (accepted-sizes-length s ok) (costs-count (sizesOf s))
-
-  -- the costs of a pair are among them
-  pub pair-costs : (i j : ℕ) → i < j → j < unitsOf s → pairStart (domOf s) (unitsOf s) i j + domOf s i * domOf s j ≤ pairsIn (sizesOf s)
-  pair-costs i j a b = rw (← costs-in-stream) (pair-inside (domOf s) (unitsOf s) i j a b)
-
   table-cost-small : (i u j v : ℕ) → tableCost (unitsOf s) (domOf s) (costsOf s) i u j v ≤ 60000
   table-cost-small i u j v = go (ltb i j && ltb j (unitsOf s) && isValue (domOf s i) u && isValue (domOf s j) v) refl
     where
@@ -134,7 +135,7 @@ module _ (s : List ℕ) (ok : Accepted s) where
           let q = all-four (ltb i j) (ltb j (unitsOf s)) (isValue (domOf s i) u) (isValue (domOf s j) v) e in
           let hu = value-range (domOf s i) u (q .2) in
           let hv = value-range (domOf s j) v (q .3) in
-          let p = pair-costs i j (ltb-true i j (q .0)) (ltb-true j (unitsOf s) (q .1)) in
+          let p = pair-costs s (accepted-fit s ok) i j (ltb-true i j (q .0)) (ltb-true j (unitsOf s) (q .1)) in
           let r = in-pair-lt (domOf s i) (domOf s j) u v (hu .0) (hu .1) (hv .0) (hv .1) in
           rw (cost-number-at s (pairStart (domOf s) (unitsOf s) i j + inPair (domOf s j) u v)) (accepted-cost s ok (pairStart (domOf s) (unitsOf s) i j + inPair (domOf s j) u v) (omega arith))
       go false e = omega arith
