@@ -1,9 +1,12 @@
 -- A message read from bytes and written into a lent buffer, with the refusals in 01's order. Document 01, 'Refusals':
 -- "Reading a message: 5, 8, 10, 9. Writing one: 5, 10, 9, 13."
 -- Assumes nothing.
-use Prim.Native.Nat.{ℕ, _+_}
+use Prim.Native.Nat.{ℕ, _+_, _<_}
+use mathlib.Core.Path.{_≡_, refl, sym, ap, _∙_}
 use mathlib.Core.Bool.{Bool, true, false, cond, not, _&&_, _||_}
 use mathlib.Core.List.{List}
+use native.Mathlib.Omega.{arith}
+use borrow.Author.Tests.{ne-eqb}
 use lib.Dec.{ltb, eqb}
 use lib.ListN.{length, take, drop, getD}
 use Rattle.base.specs.Bytes.{u16At, u32At}
@@ -74,3 +77,16 @@ writeRefusal n sizes k m room =
 -- what writing leaves in the lent output: the 64 bytes first, or all as it was
 unfoldable pub writeOf : ℕ → List ℕ → Kind → Message → List ℕ → List ℕ
 writeOf n sizes k m out = cond (eqb (writeRefusal n sizes k m (length out)) 0) (putOf k m out 0) out
+
+-- ------------------------------------------------------------------------------------------------------------------
+-- Writing.
+
+-- a refusal is what the call gives, and the output stays
+pub write-stops : (n : ℕ) (sizes : List ℕ) (k : Kind) (m : Message) (out : List ℕ) (r : ℕ) → writeRefusal n sizes k m (length out) ≡ r → 0 < r
+    → (r ≡ writeRefusal n sizes k m (length out)) × (out ≡ writeOf n sizes k m out)
+unfolding writeOf
+write-stops n sizes k m out r e h = (sym e, sym (rw (e, ne-eqb r 0 (λ q. omega arith))))
+
+pub write-done : (n : ℕ) (sizes : List ℕ) (k : Kind) (m : Message) (out : List ℕ) → writeRefusal n sizes k m (length out) ≡ 0 → writeOf n sizes k m out ≡ putOf k m out 0
+unfolding writeOf
+write-done n sizes k m out e = rw e

@@ -1,16 +1,18 @@
 -- What a message holds, and which fields go together. Document 01, 'Radio message, 64 bytes'.
 --     kindCode, refusalOf     01's number for each case of the two enums
 --     Packet, noMessage       a message with its kind; the message whose fields are all zero
+--     Sized                   arrays of 16 places, numbers of 32 bits
 --     NONE, totalLimit, prefixLimit     the limits, each here alone
 --     filledTo                which places of a stamp or an assignment are filled
 --     boundGood, noneOrBound, noBound   a bound with its best assignment
 --     addressGood, wellFormed           01's checks 10 and 9 on the fields
 -- Assumes nothing.
-use Prim.Native.Nat.{ℕ, zero, suc, _+_, _*_, _-_}
+use Prim.Native.Nat.{ℕ, zero, suc, _+_, _*_, _-_, _<_}
+use mathlib.Core.Path.{_≡_}
 use mathlib.Core.Bool.{Bool, true, false, cond, not, _&&_, _||_}
 use mathlib.Core.List.{List, [], _∷_}
 use lib.Dec.{ltb, leb, eqb}
-use lib.ListN.{getD, replicate}
+use lib.ListN.{length, getD, replicate}
 use Rattle.message.specs.declared.Kind.{Kind}
 use Rattle.message.specs.declared.Kind.the-variants.{Cpa, Request, Estimate, Solution, Stop}
 use Rattle.message.specs.declared.Read.{Read}
@@ -38,6 +40,14 @@ pub record Packet : Type 0 where
 -- the message beside a refusal
 abbrev pub noMessage : Message
 noMessage = record { sender = 0; receiver = 0; stamp = replicate 16 0; values = replicate 16 0; cost = 0; bound = 0; best = replicate 16 0 }
+
+-- what the types of the code say of a message: arrays of 16 places, numbers of 32 bits
+pub record Sized (m : Message) : Type 0 where
+  pub stamp : length (m .stamp) ≡ 16
+  pub values : length (m .values) ≡ 16
+  pub best : length (m .best) ≡ 16
+  pub cost : m .cost < 4294967296
+  pub bound : m .bound < 4294967296
 
 -- 01: "None as a bound is 4,294,967,295"
 abbrev pub NONE : ℕ

@@ -2,8 +2,12 @@
 
 ghost use mathlib.Core.Path.{_≡_};
 ghost use Prim.Native.Nat.{ℕ, _+_, _≤_, _<_};
+ghost use mathlib.Core.List.{_++_, _∷_, []};
 ghost use lib.ListN.{length, take, drop};
-ghost use Rattle.message.specs.Message.{refusalOf, prefixLimit, placeGood, filledTo, boundGood, noneOrBound, noBound, cpaCount, stampCount, valueCount, costLimit, boundFits, beside, fromTo, directionGood, isUnit, addressGood, wellFormed};
+ghost use Rattle.base.specs.Bytes.{le32};
+ghost use Rattle.message.specs.Message.{kindCode, refusalOf, prefixLimit, placeGood, filledTo, boundGood, noneOrBound, noBound, cpaCount, stampCount, valueCount, costLimit, boundFits, beside, fromTo, directionGood, isUnit, addressGood, wellFormed};
+ghost use Rattle.message.specs.Encode.{body, encode, putAt, putOf};
+ghost use Rattle.message.specs.Decode.{writeRefusal, writeOf};
 
 // 01: "1 paper, 2 copy, 3 estimate, 4 news, 5 stop".
 pub enum Kind {
@@ -43,6 +47,40 @@ pub const NONE: u32 = 4294967295;
 
 // The most that a bound or an estimate may be.
 const TOTAL_LIMIT: u32 = 7200000;
+
+// A message written first in the lent bytes; 0, or the refusal's number: 5, 10, 9, 13.
+pub fn write(n: u8, sizes: [u8; 16], kind: Kind, m: Message, out: &mut [u8]) -> u8
+    ensures { λ r. ⌜ (r ≡ writeRefusal n sizes kind m (length (now (out .entry)))) × (now (out .exit) ≡ writeOf n sizes kind m (now (out .entry))) ⌝ }
+{
+    if !base::shape_good(n, sizes) {
+        return 5;
+    }
+    if !address_good(n, m) {
+        return 10;
+    }
+    if !well_formed(n, sizes, kind, m) {
+        return 9;
+    }
+    if out.len() < 64 {
+        return 13;
+    }
+    put(kind, m, out, 0);
+    0
+}
+
+// The 64 bytes of a message laid at `at`, if they fit; else nothing. No check.
+pub fn put(kind: Kind, m: Message, out: &mut [u8], at: usize)
+    ensures { λ r. ⌜ now (out .exit) ≡ putOf kind m (now (out .entry)) at ⌝ }
+{
+    if out.len() < 64 {
+        return;
+    }
+    if out.len() - 64 < at {
+        return;
+    }
+    let bytes = encode(kind, m);
+    copy(bytes, out, at);
+}
 
 // The refusal's number, 0 for a good message.
 pub fn refusal_of(r: Read) -> u8
@@ -260,4 +298,85 @@ fn no_bound(sizes: [u8; 16], bound: u32, best: [u8; 16]) -> bool
         return false;
     }
     filled_to(0, sizes, best)
+}
+
+// The 64 bytes of a message.
+fn encode(kind: Kind, m: Message) -> [u8; 64]
+    ensures { λ r. ⌜ r ≡ encode kind m ⌝ }
+{
+    let mut r = encode_body(kind, m);
+    let sum = checksum::sum(&r[0..62]);
+    r[62] = (sum % 256) as u8;
+    r[63] = (sum / 256 % 256) as u8;
+    r
+}
+
+// Bytes 0 to 61, and zeros for the checksum.
+fn encode_body(kind: Kind, m: Message) -> [u8; 64]
+    ensures { λ r. ⌜ r ≡ body kind m ++ 0 ∷ 0 ∷ [] ⌝ }
+{
+    let mut r0 = [0u8; 64];
+    r0[0] = kind_code(kind);
+    r0[1] = m.sender;
+    r0[2] = m.receiver;
+    let stamp = m.stamp;
+    let r1 = put16(r0, 4, stamp);
+    let values = m.values;
+    let r2 = put16(r1, 20, values);
+    let r3 = put32(r2, 36, m.cost);
+    let r4 = put32(r3, 40, m.bound);
+    let best = m.best;
+    put16(r4, 44, best)
+}
+
+// 01's number of a kind.
+fn kind_code(kind: Kind) -> u8
+    ensures { λ r. ⌜ r ≡ kindCode kind ⌝ }
+{
+    match kind {
+        Kind::Cpa => 1,
+        Kind::Request => 2,
+        Kind::Estimate => 3,
+        Kind::Solution => 4,
+        Kind::Stop => 5,
+    }
+}
+
+// 16 bytes laid at `at`.
+fn put16(r: [u8; 64], at: usize, xs: [u8; 16]) -> [u8; 64]
+    requires { ⌜ at + 16 ≤ 64 ⌝ }
+    ensures { λ q. ⌜ q ≡ putAt r at xs ⌝ }
+{
+    let mut q = r;
+    let mut i = 0;
+    while i < 16 {
+        q[at + i] = xs[i];
+        i += 1;
+    }
+    q
+}
+
+// A number laid at `at`, as four bytes.
+fn put32(r: [u8; 64], at: usize, x: u32) -> [u8; 64]
+    requires { ⌜ at + 4 ≤ 64 ⌝ }
+    ensures { λ q. ⌜ q ≡ putAt r at (le32 x) ⌝ }
+{
+    let mut q = r;
+    q[at] = (x % 256) as u8;
+    q[at + 1] = (x / 256 % 256) as u8;
+    q[at + 2] = (x / 65536 % 256) as u8;
+    q[at + 3] = (x / 16777216 % 256) as u8;
+    q
+}
+
+// 64 bytes laid at `at` of the lent ones.
+fn copy(bytes: [u8; 64], out: &mut [u8], at: usize)
+    requires { ⌜ at + 64 ≤ length (now out) ⌝ }
+    ensures { λ r. ⌜ now (out .exit) ≡ putAt (now (out .entry)) at bytes ⌝ }
+{
+    let mut i = 0;
+    while i < 64 {
+        out[at + i] = bytes[i];
+        i += 1;
+    }
 }

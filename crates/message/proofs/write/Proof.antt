@@ -1,0 +1,75 @@
+-- `write` meets its contract: each refusal is the first test of 01's order that fails; past them all the 64 bytes are put.
+-- Assumes nothing.
+use mathlib.Core.Path.{_≡_, sym, _∙_}
+use mathlib.Core.Bool.{true}
+use native.Mathlib.Omega.{arith}
+use borrow.Author.Tests.{not-true, not-false, lt-ltb, le-ltb}
+use lib.ListN.{length}
+use borrow.Author.Needs.{needs}
+use Rattle.base.specs.Shape.{shapeGood}
+use Rattle.message.specs.Message.{addressGood, wellFormed}
+use Rattle.message.specs.Decode.{writeRefusal, write-stops, write-done}
+use Rattle.message.proofs.write.Statement.{statement}
+use Rattle.message.proofs.write.Tie as tie
+
+shaped : (c : tie.Else1) → let a = c .before .before .before .args in shapeGood (a .n) (a .sizes) ≡ true
+shaped c = sym (c .before .shape-good .ensures) ∙ not-false _ (c .if1 .left)
+
+addressed : (c : tie.Else2) → let a = c .before .before .before .before .before .args in addressGood (a .n) (a .m) ≡ true
+addressed c = sym (c .before .address-good .ensures) ∙ not-false _ (c .if2 .left)
+
+formed : (c : tie.Else3) → let a = c .before .before .before .before .before .before .before .args in wellFormed (a .n) (a .sizes) (a .kind) (a .m) ≡ true
+formed c = sym (c .before .well-formed .ensures) ∙ not-false _ (c .if3 .left)
+
+shape-good-requires : tie.Need-shape-good-requires
+shape-good-requires c κs = search needs
+
+returns : tie.Need-returns
+unfolding writeRefusal
+returns c = let a = c .before .before .before .args in write-stops (a .n) (a .sizes) (a .kind) (a .m) (a .out .now) 5 (rw (sym (c .before .shape-good .ensures) ∙ not-true _ (c .if1 .taken))) (omega arith)
+
+address-good-requires : tie.Need-address-good-requires
+address-good-requires c κs = search needs
+
+returns-2 : tie.Need-returns-2
+unfolding writeRefusal
+returns-2 c = let a = c .before .before .before .before .before .args in write-stops (a .n) (a .sizes) (a .kind) (a .m) (a .out .now) 10 (rw (shaped (c .before .before), sym (c .before .address-good .ensures) ∙ not-true _ (c .if2 .taken))) (omega arith)
+
+well-formed-requires : tie.Need-well-formed-requires
+well-formed-requires c κs = search needs
+
+returns-3 : tie.Need-returns-3
+unfolding writeRefusal
+returns-3 c = let a = c .before .before .before .before .before .before .before .args in write-stops (a .n) (a .sizes) (a .kind) (a .m) (a .out .now) 9 (rw (shaped (c .before .before .before .before), addressed (c .before .before), sym (c .before .well-formed .ensures) ∙ not-true _ (c .if3 .taken))) (omega arith)
+
+returns-4 : tie.Need-returns-4
+unfolding writeRefusal
+returns-4 c = let a = c .before .before .before .before .before .before .before .before .args in write-stops (a .n) (a .sizes) (a .kind) (a .m) (a .out .now) 13 (rw (shaped (c .before .before .before .before .before), addressed (c .before .before .before), formed (c .before), lt-ltb _ _ (c .if4 .taken))) (omega arith)
+
+put-requires : tie.Need-put-requires
+put-requires c κs = search needs
+
+same-length : tie.Need-same-length
+same-length c = search needs
+
+returns-5 : tie.Need-returns-5
+unfolding writeRefusal
+returns-5 c =
+    let a = c .before .before .before .before .before .before .before .before .before .before .before .before .args in
+    let e : writeRefusal (a .n) (a .sizes) (a .kind) (a .m) (length (a .out .now)) ≡ 0 = rw (shaped (c .before .before .before .before .before .before .before .before .before), addressed (c .before .before .before .before .before .before .before), formed (c .before .before .before .before .before), le-ltb _ _ (c .before .before .before .before .if4 .left)) in
+    (sym e, c .before .before .put .ensures ∙ sym (write-done (a .n) (a .sizes) (a .kind) (a .m) (a .out .now) e))
+
+pub write-spec : {M : Type 1} → statement M
+write-spec =
+    tie.close
+    (tie.spec
+    shape-good-requires
+    returns
+    address-good-requires
+    returns-2
+    well-formed-requires
+    returns-3
+    returns-4
+    put-requires
+    same-length
+    returns-5)
