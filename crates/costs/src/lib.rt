@@ -1,14 +1,21 @@
 // Pair costs, and what is worked out from them: the costs lent with one unit, as bytes.
 
 ghost use mathlib.Core.Path.{_≡_};
-ghost use mathlib.Core.Bool.{true, cond};
-ghost use Prim.Native.Nat.{ℕ, _+_, _*_, _-_, _≤_, _<_, pred, min};
+ghost use mathlib.Core.Bool.{cond};
+ghost use Prim.Native.Nat.{_+_, _*_, _≤_, pred, min};
 ghost use lib.Dec.{eqb};
-ghost use lib.ListN.{getD, length};
-ghost use Rattle.base.specs.Sums.{sumTo, least};
-ghost use Rattle.costs.specs.Instance.{domIn, costNumber, lentView};
+ghost use lib.ListN.{getD};
+ghost use Rattle.costs.specs.Instance.{domIn, isValue, inPair, costNumber, lentView};
 ghost use Rattle.costs.specs.Bounds.{costWith, h, estimate};
-ghost use Rattle.costs.specs.Lent.{lentCostsGood, lentCount, lentRefusal};
+ghost use Rattle.costs.specs.Lent.{
+  lentCostsGood,
+  lentCount,
+  lentRefusal,
+  viewAt,
+  othersBefore,
+  pairFrom,
+  leastRun,
+};
 
 // Refusal 6 or 7 of the costs lent with unit `own`, or 0.
 pub fn lent_refusal(own: u8, n: u8, sizes: [u8; 16], costs: &[u8]) -> u8
@@ -22,6 +29,43 @@ pub fn lent_refusal(own: u8, n: u8, sizes: [u8; 16], costs: &[u8]) -> u8
         return 7;
     }
     0
+}
+
+// The cost of own value v with the values of the first k units.
+pub fn cost_with(
+    own: u8,
+    n: u8,
+    sizes: [u8; 16],
+    costs: &[u8],
+    values: [u8; 16],
+    k: u8,
+    v: u8,
+) -> u32
+    ensures { λ r. ⌜ r ≡ costWith (lentView own n sizes (now (costs .entry))) values k v ⌝ }
+{
+    let place = place_of(own);
+    prefix_cost(place, n, sizes, costs, values, wide(k), wide(v))
+}
+
+// The lookahead bound: over later units, the least cost of own value v with any value of that unit.
+pub fn h(own: u8, n: u8, sizes: [u8; 16], costs: &[u8], v: u8) -> u32
+    ensures { λ r. ⌜ r ≡ h (lentView own n sizes (now (costs .entry))) v ⌝ }
+{
+    let place = place_of(own);
+    let before = others_before(n, sizes, place, place + 1);
+    later_cost(place, n, sizes, costs, before, wide(v))
+}
+
+// The least, over own values, of the cost with the values of the first k units and the lookahead bound.
+pub fn estimate(own: u8, n: u8, sizes: [u8; 16], costs: &[u8], values: [u8; 16], k: u8) -> u32
+    ensures { λ r. ⌜ r ≡ estimate (lentView own n sizes (now (costs .entry))) values k ⌝ }
+{
+    let place = place_of(own);
+    if size_of(n, sizes, place) == 0 {
+        return 0;
+    }
+    let before = others_before(n, sizes, place, place + 1);
+    least_cost(place, n, sizes, costs, values, wide(k), before)
 }
 
 // How many costs touch unit `own`.
@@ -47,10 +91,177 @@ fn costs_good(costs: &[u8], m: usize) -> bool
     true
 }
 
+// The cost of value v of the unit at `place` with the values of the first k units.
+fn prefix_cost(
+    place: usize,
+    n: u8,
+    sizes: [u8; 16],
+    costs: &[u8],
+    values: [u8; 16],
+    k: usize,
+    v: usize,
+) -> u32
+    requires { ⌜ k ≤ 255 ⌝ }
+    ensures { λ r. ⌜ (r ≡ costWith (viewAt place n sizes (now (costs .entry))) values k v) × (r ≤ 65535 * k) ⌝ }
+{
+    let d = size_of(n, sizes, place);
+    let mut sum: u32 = 0;
+    let mut before = 0;
+    let mut j = 0;
+    while j < k {
+        let e = size_of(n, sizes, j);
+        let u = value_at(values, j);
+        sum += pair_cost(costs, place, j, d, e, before, u, v);
+        before += other_size(n, sizes, place, j);
+        j += 1;
+    }
+    sum
+}
+
+// The cost of own value v with value u of the unit at place j, 0 where there is no such pair of values.
+// The units have d and e values; the others before place j have `before` values together.
+fn pair_cost(
+    costs: &[u8],
+    place: usize,
+    j: usize,
+    d: usize,
+    e: usize,
+    before: usize,
+    u: usize,
+    v: usize,
+) -> u32
+    requires { ⌜ (d ≤ 255) × (e ≤ 255) × (before ≤ 65025) ⌝ }
+    ensures { λ r. ⌜ (r ≡ pairFrom (now (costs .entry)) place j d e before u v) × (r ≤ 65535) ⌝ }
+{
+    if j == place {
+        return 0;
+    }
+    if !is_value(e, u) {
+        return 0;
+    }
+    if !is_value(d, v) {
+        return 0;
+    }
+    if j < place {
+        return cost_number(costs, d * before, d, u, v);
+    }
+    cost_number(costs, d * before, e, v, u)
+}
+
+// The cost of the values u and v, the second unit having d values, of a pair whose costs start at number `start`.
+fn cost_number(costs: &[u8], start: usize, d: usize, u: usize, v: usize) -> u32
+    requires { ⌜ (start ≤ 16777216) × (d ≤ 255) × (1 ≤ u) × (u ≤ 255) × (1 ≤ v) × (v ≤ 255) ⌝ }
+    ensures { λ r. ⌜ (r ≡ costNumber (now (costs .entry)) (start + inPair d u v)) × (r ≤ 65535) ⌝ }
+{
+    base::u16_at(costs, 2 * (start + ((u - 1) * d + (v - 1))))
+}
+
+// The lookahead bound of value v of the unit at `place`; the others up to there have `before` values together.
+fn later_cost(place: usize, n: u8, sizes: [u8; 16], costs: &[u8], before: usize, v: usize) -> u32
+    requires { ⌜ (place ≤ 254) × (before ≡ othersBefore n sizes place (place + 1)) × (before ≤ 255 * (place + 1)) ⌝ }
+    ensures { λ r. ⌜ (r ≡ h (viewAt place n sizes (now (costs .entry))) v) × (r ≤ 16711425) ⌝ }
+{
+    let d = size_of(n, sizes, place);
+    if !is_value(d, v) {
+        return 0;
+    }
+    let count = wide(n);
+    let mut sum: u32 = 0;
+    let mut passed = before;
+    let mut j = place + 1;
+    while j < count {
+        let e = size_of(n, sizes, j);
+        sum += least_run(costs, d * passed + (v - 1) * e, e);
+        passed += e;
+        j += 1;
+    }
+    sum
+}
+
+// The least of the e costs from number `start` on, 0 where there are none.
+fn least_run(costs: &[u8], start: usize, e: usize) -> u32
+    requires { ⌜ (start ≤ 67108864) × (e ≤ 255) ⌝ }
+    ensures { λ r. ⌜ (r ≡ leastRun (now (costs .entry)) start e) × (r ≤ 65535) ⌝ }
+{
+    if e == 0 {
+        return 0;
+    }
+    let mut best = base::u16_at(costs, 2 * start);
+    let mut u = 1;
+    while u < e {
+        best = lesser(best, base::u16_at(costs, 2 * (start + u)));
+        u += 1;
+    }
+    best
+}
+
+// The least, over the values of the unit at `place`, which has one, of prefix cost and lookahead bound.
+fn least_cost(
+    place: usize,
+    n: u8,
+    sizes: [u8; 16],
+    costs: &[u8],
+    values: [u8; 16],
+    k: usize,
+    before: usize,
+) -> u32
+    requires { ⌜ (k ≤ 255) × (place ≤ 254) × (before ≡ othersBefore n sizes place (place + 1)) × (before ≤ 255 * (place + 1)) × (1 ≤ domIn n sizes place) ⌝ }
+    ensures { λ r. ⌜ r ≡ estimate (viewAt place n sizes (now (costs .entry))) values k ⌝ }
+{
+    let d = size_of(n, sizes, place);
+    let mut best = value_cost(place, n, sizes, costs, values, k, before, 1);
+    let mut v = 1;
+    while v < d {
+        v += 1;
+        best = lesser(
+            best,
+            value_cost(place, n, sizes, costs, values, k, before, v),
+        );
+    }
+    best
+}
+
+// Prefix cost and lookahead bound of value v of the unit at `place`.
+fn value_cost(
+    place: usize,
+    n: u8,
+    sizes: [u8; 16],
+    costs: &[u8],
+    values: [u8; 16],
+    k: usize,
+    before: usize,
+    v: usize,
+) -> u32
+    requires { ⌜ (k ≤ 255) × (place ≤ 254) × (before ≡ othersBefore n sizes place (place + 1)) × (before ≤ 255 * (place + 1)) ⌝ }
+    ensures { λ r. ⌜ r ≡ costWith (viewAt place n sizes (now (costs .entry))) values k v + h (viewAt place n sizes (now (costs .entry))) v ⌝ }
+{
+    prefix_cost(place, n, sizes, costs, values, k, v)
+        + later_cost(place, n, sizes, costs, before, v)
+}
+
+fn lesser(a: u32, b: u32) -> u32
+    ensures { λ r. ⌜ r ≡ min a b ⌝ }
+{
+    if a <= b {
+        return a;
+    }
+    b
+}
+
+// Whether v is a value of a unit of d values.
+fn is_value(d: usize, v: usize) -> bool
+    ensures { λ r. ⌜ r ≡ isValue d v ⌝ }
+{
+    if v < 1 {
+        return false;
+    }
+    v <= d
+}
+
 // How many values the units before place j have together, the unit at `place` left out.
 fn others_before(n: u8, sizes: [u8; 16], place: usize, j: usize) -> usize
     requires { ⌜ j ≤ 256 ⌝ }
-    ensures { λ r. ⌜ (r ≡ sumTo (λ b. cond (eqb b place) 0 (domIn n sizes b)) j) × (r ≤ 255 * j) ⌝ }
+    ensures { λ r. ⌜ (r ≡ othersBefore n sizes place j) × (r ≤ 255 * j) ⌝ }
 {
     let mut sum = 0;
     let mut b = 0;
@@ -92,6 +303,16 @@ fn place_of(own: u8) -> usize
         return 0;
     }
     wide(own) - 1
+}
+
+// The value of the unit at place j, 0 past the end.
+fn value_at(values: [u8; 16], j: usize) -> usize
+    ensures { λ r. ⌜ (r ≡ getD values j 0) × (r ≤ 255) ⌝ }
+{
+    if 16 <= j {
+        return 0;
+    }
+    wide(values[j])
 }
 
 // A byte as a wider number.

@@ -2,18 +2,15 @@
 -- Assumes nothing.
 use Prim.Native.Nat.{_≤_, _*_, _-_}
 use mathlib.Core.Path.{_≡_, refl, sym, _∙_}
-use mathlib.Core.Bool.{cond}
 use native.Mathlib.Omega.{arith}
 use borrow.Author.Needs.{needs}
-use lib.Dec.{eqb}
-use Rattle.base.specs.Sums.{sumTo}
-use Rattle.costs.specs.Instance.{domIn}
+use Rattle.costs.specs.Lent.{othersBefore}
 use Rattle.costs.specs.Lent.Steps.{sumTo-more}
 use Rattle.costs.proofs.others_before.Statement.{statement}
 use Rattle.costs.proofs.others_before.Tie as tie
 
 abbrev Inv-loop : tie.InvT-loop
-Inv-loop n sizes place j sum₀ b₀ sum b = (b ≤ j) × (sum ≡ sumTo (λ i. cond (eqb i place) 0 (domIn n sizes i)) b) × (sum ≤ 255 * b)
+Inv-loop n sizes place j sum₀ b₀ sum b = (b ≤ j) × (sum ≡ othersBefore n sizes place b) × (sum ≤ 255 * b)
 
 abbrev μ-loop : tie.MeasureT-loop
 μ-loop n sizes place j sum₀ b₀ sum b = j - b

@@ -1,17 +1,22 @@
 -- How the sums and least values over lent costs grow by one turn of a loop. Each by taking a definition's tests apart.
+-- In order: domain sizes; sums and least values in general; a pair's cost; the cost with a prefix; h; the estimate.
 -- Assumes nothing.
-use Prim.Native.Nat.{ℕ, zero, suc, _+_, _*_, _-_, _≤_, _<_, min}
+use Prim.Native.Nat.{ℕ, zero, suc, _+_, _*_, _-_, _≤_, _<_, pred, min}
 use mathlib.Core.Path.{_≡_, refl, sym, ap, _∙_}
-use mathlib.Core.Bool.{Bool, true, false, cond, not, _&&_}
+use mathlib.Core.Bool.{Bool, true, false, cond, not, _&&_, and-true, and-false}
 use mathlib.Core.List.{List}
-use native.Mathlib.Omega.{arith}
+use native.Mathlib.Nat.{add-assoc, add-sub-cancel, add-zero, sub-self}
 use native.Mathlib.Numerals.{add-one}
+use native.Mathlib.Omega.{arith}
 use lib.Dec.{ltb, leb, eqb}
 use lib.ListN.{getD, take, length, length-take, List·getD-eq-default}
 use lib.Seq.{getD-take}
-use borrow.Author.Tests.{lt-ltb, le-ltb, le-leb, lt-leb, eq-eqb, ne-eqb}
+use borrow.Author.Tests.{lt-ltb, le-ltb, le-leb, lt-leb, leb-true, ltb-true, ltb-false, eq-eqb, ne-eqb}
+use Rattle.base.specs.Shape.{and-left, and-right}
 use Rattle.base.specs.Sums.{sumFrom, sumTo, least}
-use Rattle.costs.specs.Instance.{domIn, isValue, inPair, costNumber, otherStart, lentCost}
+use Rattle.costs.specs.Instance.{View, domIn, isValue, inPair, inOther, costNumber, otherStart, lentCost, lentView}
+use Rattle.costs.specs.Bounds.{costWith, h, estimate}
+use Rattle.costs.specs.Lent.{viewAt, othersBefore, pairFrom, leastRun, laterFrom, leastCost}
 
 -- ---- domain sizes
 
@@ -25,7 +30,144 @@ dom-past-list n sizes k h = List·getD-eq-default (take n sizes) 0 (simp length-
 pub dom-at : (n : ℕ) (sizes : List ℕ) (k : ℕ) → k < n → domIn n sizes k ≡ getD sizes k 0
 dom-at n sizes k h = getD-take n sizes k 0 h
 
--- ---- one turn more
+-- what is a value
+pub value-range : (d v : ℕ) → isValue d v ≡ true → (1 ≤ v) × (v ≤ d)
+value-range d v e = (leb-true 1 v (and-left (leb 1 v) (leb v d) e), leb-true v d (and-right (leb 1 v) (leb v d) e))
+
+pub range-value : (d v : ℕ) → 1 ≤ v → v ≤ d → isValue d v ≡ true
+range-value d v l h = simp (le-leb 1 v l, le-leb v d h)
+
+pub no-value : (v : ℕ) → isValue 0 v ≡ false
+no-value zero = refl
+no-value (suc v) = simp (lt-leb (suc v) 0 (omega arith), and-false)
+
+-- ---- sums and least values
 
 pub sumTo-more : (f : ℕ → ℕ) (i : ℕ) → sumTo f (i + 1) ≡ sumTo f i + f i
 sumTo-more f i = rw add-one
+
+pub sumFrom-zero : (f : ℕ → ℕ) → ((j : ℕ) → f j ≡ 0) → (lo m : ℕ) → sumFrom f lo m ≡ 0
+sumFrom-zero f e lo zero = refl
+sumFrom-zero f e lo (suc m) = omega (arith, e lo, sumFrom-zero f e (suc lo) m)
+
+pub least-more : (f : ℕ → ℕ) (d : ℕ) → 1 ≤ d → least f (d + 1) ≡ min (least f d) (f (d + 1))
+least-more f zero h = absurd (omega arith)
+least-more f (suc d) h = rw (add-one (suc d))
+
+-- equal at every value, the least is equal
+pub least-same : (f g : ℕ → ℕ) (d : ℕ) → ((v : ℕ) → 1 ≤ v → v ≤ d → f v ≡ g v) → least f d ≡ least g d
+least-same f g zero e = refl
+least-same f g (suc zero) e = e 1 (omega arith) (omega arith)
+least-same f g (suc (suc d)) e = omega (arith, e (suc (suc d)) (omega arith) (omega arith), least-same f g (suc d) (λ v l h. e v l (omega arith)))
+
+pub least-zero : (f : ℕ → ℕ) → ((v : ℕ) → f v ≡ 0) → (d : ℕ) → least f d ≡ 0
+least-zero f e zero = refl
+least-zero f e (suc zero) = e 1
+least-zero f e (suc (suc d)) = omega (arith, e (suc (suc d)))
+
+-- the least of a run, of its first cost, and one cost more
+pub run-one : (costs : List ℕ) (start : ℕ) → leastRun costs start 1 ≡ costNumber costs start
+run-one costs start = rw (sub-self, add-zero)
+
+pub run-more : (costs : List ℕ) (start u : ℕ) → 1 ≤ u → leastRun costs start (u + 1) ≡ min (leastRun costs start u) (costNumber costs (start + u))
+run-more costs start u h = least-more (λ i. costNumber costs (start + (i - 1))) u h ∙ rw add-sub-cancel
+
+-- ---- a pair's cost
+
+module _ (costs : List ℕ) (k j d e before u v : ℕ) where
+  pub pair-self : j ≡ k → pairFrom costs k j d e before u v ≡ 0
+  pair-self h = simp (eq-eqb j k h)
+
+  pub pair-no-other : (j ≡ k → ⊥) → isValue e u ≡ false → pairFrom costs k j d e before u v ≡ 0
+  pair-no-other h a = rw (ne-eqb j k h, a)
+
+  pub pair-no-own : (j ≡ k → ⊥) → isValue e u ≡ true → isValue d v ≡ false → pairFrom costs k j d e before u v ≡ 0
+  pair-no-own h a b = rw (ne-eqb j k h, a, b)
+
+  pub pair-lower : j < k → isValue e u ≡ true → isValue d v ≡ true → pairFrom costs k j d e before u v ≡ costNumber costs (d * before + inPair d u v)
+  pair-lower h a b = rw (ne-eqb j k (λ q. omega arith), a, b, lt-ltb j k h)
+
+  pub pair-higher : k < j → isValue e u ≡ true → isValue d v ≡ true → pairFrom costs k j d e before u v ≡ costNumber costs (d * before + inPair e v u)
+  pair-higher h a b = rw (ne-eqb j k (λ q. omega arith), a, b, le-ltb j k (omega arith))
+
+-- the view's pair cost is made of these
+pub pair-from : (k n : ℕ) (sizes costs : List ℕ) (j u v : ℕ)
+    → viewAt k n sizes costs .pair j u v ≡ pairFrom costs k j (domIn n sizes k) (domIn n sizes j) (othersBefore n sizes k j) u v
+unfolding viewAt
+pair-from k n sizes costs j u v = go (ltb j n) refl
+  where
+    go : (t : Bool) → ltb j n ≡ t → lentCost n (domIn n sizes) k costs j u v ≡ pairFrom costs k j (domIn n sizes k) (domIn n sizes j) (othersBefore n sizes k j) u v
+    go true e = simp (e, and-true)
+    go false e =
+        let z : domIn n sizes j ≡ 0 = dom-past-count n sizes j (ltb-false j n e) in
+        let w : isValue (domIn n sizes j) u ≡ false = rw z (no-value u) in
+        simp (e, w, and-false)
+
+-- ---- the cost with a prefix
+
+pub view-at : (own n : ℕ) (sizes costs : List ℕ) → lentView own n sizes costs ≡ viewAt (pred own) n sizes costs
+unfolding lentView viewAt
+view-at own n sizes costs = refl
+
+pub cost-none : (w : View) (values : List ℕ) (v : ℕ) → costWith w values 0 v ≡ 0
+unfolding costWith
+cost-none w values v = refl
+
+pub cost-more : (w : View) (values : List ℕ) (j v : ℕ) → costWith w values (j + 1) v ≡ costWith w values j v + w .pair j (getD values j 0) v
+unfolding costWith
+cost-more w values j v = rw add-one
+
+-- ---- h
+
+-- the others before the next place, once past the own
+pub others-later : (n : ℕ) (sizes : List ℕ) (k j : ℕ) → k < j → othersBefore n sizes k (j + 1) ≡ othersBefore n sizes k j + domIn n sizes j
+others-later n sizes k j l = rw (add-one, ne-eqb j k (λ q. omega arith))
+
+module _ (k n : ℕ) (sizes costs : List ℕ) (v : ℕ) where
+  pub later-start : h (viewAt k n sizes costs) v ≡ laterFrom (viewAt k n sizes costs) v (k + 1)
+  unfolding h laterFrom viewAt
+  later-start = rw add-one
+
+  pub later-done : (j : ℕ) → n ≤ j → laterFrom (viewAt k n sizes costs) v j ≡ 0
+  unfolding laterFrom viewAt
+  later-done j l = let e : n - j ≡ 0 = omega arith in rw e
+
+  -- the costs of v with the values of a later unit are a run
+  later-run : (j : ℕ) → k < j → isValue (domIn n sizes k) v ≡ true
+      → least (λ u. viewAt k n sizes costs .pair j u v) (domIn n sizes j) ≡ leastRun costs (domIn n sizes k * othersBefore n sizes k j + (v - 1) * domIn n sizes j) (domIn n sizes j)
+  later-run j a c =
+      let start : ℕ = domIn n sizes k * othersBefore n sizes k j in
+      least-same (λ u. viewAt k n sizes costs .pair j u v) (λ u. costNumber costs (start + (v - 1) * domIn n sizes j + (u - 1))) (domIn n sizes j)
+      (λ u lo hi. pair-from k n sizes costs j u v
+      ∙ pair-higher costs k j (domIn n sizes k) (domIn n sizes j) (othersBefore n sizes k j) u v a (range-value (domIn n sizes j) u lo hi) c
+      ∙ ap (costNumber costs) (sym (add-assoc start ((v - 1) * domIn n sizes j) (u - 1))))
+
+  -- one unit's part of h
+  pub later-step : (j : ℕ) → k < j → j < n → isValue (domIn n sizes k) v ≡ true
+      → laterFrom (viewAt k n sizes costs) v j
+      ≡ leastRun costs (domIn n sizes k * othersBefore n sizes k j + (v - 1) * domIn n sizes j) (domIn n sizes j) + laterFrom (viewAt k n sizes costs) v (j + 1)
+  unfolding laterFrom viewAt
+  later-step j a b c = let e : n - j ≡ suc (n - (j + 1)) = omega arith in rw (e, add-one, later-run j a c)
+
+  -- what is no value costs nothing
+  pub later-no-value : isValue (domIn n sizes k) v ≡ false → h (viewAt k n sizes costs) v ≡ 0
+  unfolding h viewAt
+  later-no-value c = sumFrom-zero _ (λ j. least-zero _ (λ u. rw (c, and-false)) (domIn n sizes j)) (suc k) (n - suc k)
+
+-- ---- the estimate
+
+pub estimate-none : (k n : ℕ) (sizes costs values : List ℕ) (m : ℕ) → domIn n sizes k ≡ 0 → estimate (viewAt k n sizes costs) values m ≡ 0
+unfolding estimate viewAt
+estimate-none k n sizes costs values m e = rw e
+
+pub estimate-least : (k n : ℕ) (sizes costs values : List ℕ) (m : ℕ) → estimate (viewAt k n sizes costs) values m ≡ leastCost (viewAt k n sizes costs) values m (domIn n sizes k)
+unfolding estimate viewAt leastCost
+estimate-least k n sizes costs values m = refl
+
+pub leastCost-one : (w : View) (values : List ℕ) (m : ℕ) → leastCost w values m 1 ≡ costWith w values m 1 + h w 1
+unfolding leastCost
+leastCost-one w values m = refl
+
+pub leastCost-more : (w : View) (values : List ℕ) (m v : ℕ) → 1 ≤ v → leastCost w values m (v + 1) ≡ min (leastCost w values m v) (costWith w values m (v + 1) + h w (v + 1))
+unfolding leastCost
+leastCost-more w values m v l = least-more (λ i. costWith w values m i + h w i) v l

@@ -1,0 +1,72 @@
+-- `least_cost` meets its contract. The loop's invariant: the best is the least of the values up to v.
+-- Assumes nothing.
+use Prim.Native.Nat.{_≤_, _-_}
+use mathlib.Core.Path.{_≡_, refl, sym, _∙_}
+use native.Mathlib.Omega.{arith}
+use borrow.Author.Needs.{needs}
+use Rattle.costs.specs.Lent.{viewAt, leastCost}
+use Rattle.costs.specs.Lent.Steps.{estimate-least, leastCost-one, leastCost-more}
+use Rattle.costs.proofs.least_cost.Statement.{statement}
+use Rattle.costs.proofs.least_cost.Tie as tie
+
+abbrev Inv-loop : tie.InvT-loop
+Inv-loop place n sizes costs values k before d best₀ v₀ best v = (1 ≤ v) × (v ≤ d) × (best ≡ leastCost (viewAt place n sizes costs) values k v)
+
+abbrev μ-loop : tie.MeasureT-loop
+μ-loop place n sizes costs values k before d best₀ v₀ best v = d - v
+
+size-of-requires : tie.Need-size-of-requires Inv-loop μ-loop
+size-of-requires c κs = search needs
+
+value-cost-requires : tie.Need-value-cost-requires Inv-loop μ-loop
+value-cost-requires c κs = search needs
+
+loop-holds : tie.Need-loop-holds Inv-loop μ-loop
+loop-holds c =
+    let s = c .before .before .before in
+    let a = s .args in
+    let d = c .before .size-of .ensures .0 in
+    (omega arith, omega (arith, d, s .pre .4), c .value-cost .ensures ∙ sym (leastCost-one (viewAt (a .place) (a .n) (a .sizes) (a .costs .now)) (a .values) (a .k)))
+
+add-v : tie.Need-add-v Inv-loop μ-loop
+add-v c = search needs
+
+value-cost-requires-2 : tie.Need-value-cost-requires-2 Inv-loop μ-loop
+value-cost-requires-2 c κs = search needs
+
+lesser-requires : tie.Need-lesser-requires Inv-loop μ-loop
+lesser-requires c κs = search needs
+
+loop-less : tie.Need-loop-less Inv-loop μ-loop
+loop-less c = search needs
+
+loop-again : tie.Need-loop-again Inv-loop μ-loop
+loop-again c =
+    let z = c .before .before .before in
+    let a = z .before .before .before .before .args in
+    let l = z .loop in
+    (omega arith, omega arith, rw (c .lesser .ensures, l .inv .2, c .before .value-cost2 .ensures, leastCost-more (viewAt (a .place) (a .n) (a .sizes) (a .costs .now)) (a .values) (a .k) (l .v) (l .inv .0)))
+
+returns : tie.Need-returns Inv-loop μ-loop
+returns c =
+    let z = c .before in
+    let a = z .before .before .before .before .args in
+    let l = z .loop in
+    let e : l .v ≡ z .before .before .size-of .result = omega arith in
+    l .inv .2 ∙ rw (e, z .before .before .size-of .ensures .0) (sym (estimate-least (a .place) (a .n) (a .sizes) (a .costs .now) (a .values) (a .k)))
+
+pub least-cost-spec : {M : Type 1} → statement M
+least-cost-spec =
+    tie.close
+    (tie.spec
+    Inv-loop
+    μ-loop
+    size-of-requires
+    value-cost-requires
+    loop-holds
+    add-v
+    value-cost-requires-2
+    lesser-requires
+    loop-less
+    loop-again
+    returns)
