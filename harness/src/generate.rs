@@ -34,7 +34,8 @@ fn cost(random: &mut Random, style: u64) -> u16 {
     }
 }
 
-fn stream_of(random: &mut Random, sizes: &[u8]) -> Vec<u8> {
+/// A stream of these sizes.
+pub fn stream_of(random: &mut Random, sizes: &[u8]) -> Vec<u8> {
     let style = random.below(5);
     let mut padded = [0; 16];
     padded[..sizes.len()].copy_from_slice(sizes);

@@ -4,6 +4,8 @@
 
 pub mod calls;
 pub mod generate;
+pub mod maxcsp;
+pub mod plot;
 pub mod random;
 pub mod reference;
 pub mod sample;

@@ -1,0 +1,70 @@
+//! `tables FOLDER COUNT` writes random tables there, each as K.table (01's stored form) and K.wcsp (for toulbar2). The same ones every time.
+
+use harness::generate;
+use harness::random::Random;
+use harness::reference::table;
+use std::fmt::Write;
+use std::path::Path;
+use std::process::exit;
+
+/// The weighted CSP format: name, variables, largest domain, functions, upper bound; sizes; then each function's costs above 0.
+fn wcsp(name: &str, stream: &[u8]) -> String {
+    let n = stream[0] as usize;
+    let d = |k: usize| stream[k] as usize;
+    let largest = (1..=n).map(d).max().unwrap_or(0);
+    let sizes: Vec<String> = (1..=n).map(|k| d(k).to_string()).collect();
+    let mut text = format!("{name} {n} {largest} {} 7200001\n{}\n", n * (n - 1) / 2, sizes.join(" "));
+    let mut costs = stream[1 + n..].chunks(2).map(|c| u16::from_le_bytes([c[0], c[1]]));
+    for i in 1..=n {
+        for j in i + 1..=n {
+            let mut lines = Vec::new();
+            for u in 0..d(i) {
+                for v in 0..d(j) {
+                    match costs.next() {
+                        Some(0) | None => {}
+                        Some(cost) => lines.push(format!("{u} {v} {cost}\n")),
+                    }
+                }
+            }
+            let _ = writeln!(text, "2 {} {} 0 {}", i - 1, j - 1, lines.len());
+            text.extend(lines);
+        }
+    }
+    text
+}
+
+/// Up to 12 units of up to 6 values; some have more assignments than the bench takes.
+fn sizes(random: &mut Random) -> Vec<u8> {
+    let n = random.between(1, 12);
+    let (least, most) = match n {
+        1..=7 => (1, 6),
+        8..=10 => (1, 4),
+        _ => (3, 4),
+    };
+    (0..n).map(|_| random.between(least, most) as u8).collect()
+}
+
+fn write(path: &Path, bytes: &[u8]) {
+    if let Err(error) = std::fs::write(path, bytes) {
+        eprintln!("{}: {error}", path.display());
+        exit(2);
+    }
+}
+
+fn main() {
+    let arguments: Vec<String> = std::env::args().skip(1).collect();
+    let [folder, count] = &arguments[..] else {
+        eprintln!("tables FOLDER COUNT");
+        exit(2)
+    };
+    let count: u64 = count.parse().unwrap_or(0);
+    let mut random = Random::new(8);
+    for k in 1..=count {
+        let sizes = sizes(&mut random);
+        let stream = generate::stream_of(&mut random, &sizes);
+        let mut file = vec![0; table::MAX_FILE];
+        let length = table::write(&stream, &mut file).expect("a table made here is accepted");
+        write(&Path::new(folder).join(format!("{k}.table")), &file[..length]);
+        write(&Path::new(folder).join(format!("{k}.wcsp")), wcsp(&format!("table{k}"), &stream).as_bytes());
+    }
+}
