@@ -5,3 +5,4 @@ pub mod Block
 pub mod BlockLaws
 pub mod File
 pub mod View
+pub mod FileLaws

@@ -1,12 +1,15 @@
 // The stored table: blocks of 512 bytes, and the stream that their payloads join to.
 
 ghost use mathlib.Core.Path.{_≡_};
-ghost use Prim.Native.Nat.{ℕ, _+_, _*_, _≤_, _<_};
+ghost use mathlib.Core.Bool.{Bool, true, false};
+ghost use mathlib.Core.List.{_++_};
+ghost use Prim.Native.Nat.{ℕ, _+_, _*_, _/_, _≤_, _<_};
 ghost use lib.ListN.{length, getD, take, drop};
 ghost use Rattle.base.specs.Bytes.{u16At};
 ghost use Rattle.base.specs.Shape.{allInSixteen};
 ghost use Rattle.table.specs.Stream.{unitsOf, sizesOf, pairsIn, costsGood, streamRefusal};
 ghost use Rattle.table.specs.Block.{countGood, allZero, blockRefusal, readBlockOf};
+ghost use Rattle.table.specs.File.{sizeGood, blocksRefusal, streamOf, readRefusal, readOf, readInto};
 ghost use Rattle.table.specs.View.{viewOf, Viewed};
 
 // The answer of a reading: the refusal, or 0 and the stream's length.
@@ -19,6 +22,92 @@ pub struct ReadTable {
 pub struct Written {
     pub refusal: u8,
     pub length: usize,
+}
+
+// The stream of a stored table into the lent buffer: validated whole, then written, so a refusal leaves the buffer as it was.
+pub fn read(file: &[u8], stream: &mut [u8]) -> ReadTable
+    ensures { λ r. ⌜ (r ≡ readOf (now (file .entry)) (length (now (stream .entry)))) × (now (stream .exit) ≡ readInto (now (file .entry)) (now (stream .entry))) ⌝ }
+{
+    let refusal = read_refusal(file, stream.len());
+    if refusal != 0 {
+        return ReadTable { refusal, length: 0 };
+    }
+    let count = stream_length(file);
+    copy_stream(file, count, stream);
+    ReadTable {
+        refusal: 0,
+        length: count,
+    }
+}
+
+// The refusal of reading a file into a buffer of `room` bytes, or 0.
+fn read_refusal(file: &[u8], room: usize) -> u8
+    ensures { λ r. ⌜ r ≡ readRefusal (now (file .entry)) room ⌝ }
+{
+    if room < 61457 {
+        return 13;
+    }
+    if !size_good(file.len()) {
+        return 1;
+    }
+    let refusal = blocks_refusal(file);
+    if refusal != 0 {
+        return refusal;
+    }
+    view_refusal(file, true, stream_length(file))
+}
+
+// Whether a file's length is that of 1 to 122 blocks.
+fn size_good(length: usize) -> bool
+    ensures { λ r. ⌜ r ≡ sizeGood length ⌝ }
+{
+    if length == 0 {
+        return false;
+    }
+    if length % 512 != 0 {
+        return false;
+    }
+    length <= 62464
+}
+
+// The first refusal of a file's blocks, or 0.
+fn blocks_refusal(file: &[u8]) -> u8
+    requires { ⌜ sizeGood (length (now file)) ≡ true ⌝ }
+    ensures { λ r. ⌜ r ≡ blocksRefusal 0 (length (now (file .entry)) / 512) (now (file .entry)) ⌝ }
+{
+    let blocks = file.len() / 512;
+    let mut k = 0;
+    while k < blocks {
+        let start = 512 * k;
+        let end = start + 512;
+        let refusal = block_refusal(&file[start..end], k as u16, k + 1 == blocks);
+        if refusal != 0 {
+            return refusal;
+        }
+        k += 1;
+    }
+    0
+}
+
+// How long the stream of a file with accepted blocks is.
+fn stream_length(file: &[u8]) -> usize
+    requires { ⌜ (sizeGood (length (now file)) ≡ true) × (blocksRefusal 0 (length (now file) / 512) (now file) ≡ 0) ⌝ }
+    ensures { λ r. ⌜ r ≡ length (streamOf (now (file .entry))) ⌝ }
+{
+    let before = file.len() / 512 - 1;
+    506 * before + base::u16_at(file, 512 * before + 2) as usize
+}
+
+// The stream of a file with accepted blocks, to the front of `out`.
+fn copy_stream(file: &[u8], count: usize, out: &mut [u8])
+    requires { ⌜ Viewed true (now file) count × (count ≤ 61457) × (count ≤ length (now out)) ⌝ }
+    ensures { λ r. ⌜ now (out .exit) ≡ streamOf (now (file .entry)) ++ drop count (now (out .entry)) ⌝ }
+{
+    let mut k = 0;
+    while k < count {
+        out[k] = view_byte(file, true, count, k) as u8;
+        k += 1;
+    }
 }
 
 // The payload of a block, as the part of it that holds it; the empty part, which no payload is, where it is refused.

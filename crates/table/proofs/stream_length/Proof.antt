@@ -1,0 +1,48 @@
+-- `stream_length` meets its contract: 506 bytes for each block before the last, and the last's count.
+-- Assumes nothing.
+use mathlib.Core.Path.{_≡_, sym, _∙_}
+use native.Mathlib.Omega.{arith}
+use lib.ListN.{length}
+use Rattle.table.specs.FileLaws.{good-size, stream-length}
+use borrow.Author.Needs.{needs}
+use Rattle.table.proofs.stream_length.Statement.{statement}
+use Rattle.table.proofs.stream_length.Tie as tie
+
+sub-before : tie.Need-sub-before
+sub-before c = let st = c .before in omega (arith, good-size (length (st .args .file .now)) (st .pre .0) .1)
+
+mul-result : tie.Need-mul-result
+mul-result c = search needs
+
+mul-u16-at : tie.Need-mul-u16-at
+mul-u16-at c = search needs
+
+add-u16-at : tie.Need-add-u16-at
+add-u16-at c = search needs
+
+u16-at-requires : tie.Need-u16-at-requires
+u16-at-requires c κs = search needs
+
+cast-result : tie.Need-cast-result
+cast-result c = search needs
+
+add-result : tie.Need-add-result
+add-result c = search needs
+
+returns : tie.Need-returns
+returns c =
+    let st = c .before .before in
+    omega (arith, stream-length (st .args .file .now) (st .pre .0) (st .pre .1), c .u16-at .ensures .0)
+
+pub stream-length-spec : {M : Type 1} → statement M
+stream-length-spec =
+    tie.close
+    (tie.spec
+    sub-before
+    mul-result
+    mul-u16-at
+    add-u16-at
+    u16-at-requires
+    cast-result
+    add-result
+    returns)

@@ -1,0 +1,253 @@
+-- Files: the turns of the loop over blocks, where each byte of the joined stream stands, and the answers of reading and writing.
+-- By recursion on the number of blocks, the first block apart from the rest.
+-- In order: first refusals; a turn over the blocks; accepted blocks; the joined stream; its view; reading; writing.
+-- Assumes nothing.
+use Prim.Native.Nat.{ℕ, zero, suc, _+_, _*_, _-_, _/_, _%_, _≤_, _<_, min}
+use native.Mathlib.Nat.{zero-add, add-zero, add-assoc, le-of-suc-le-suc, not-suc-le-zero}
+use native.Mathlib.Numerals.{add-one}
+use native.Mathlib.Omega.{arith}
+use mathlib.Core.Bool.{Bool, true, false, cond, _&&_, not, false≢true}
+use mathlib.Core.List.{List, [], _∷_, _++_, append-nil, append-assoc}
+use mathlib.Core.Path.{_≡_, refl, sym, ap, _∙_}
+use lib.Dec.{eqb, leb, ltb, eqb·suc-zero}
+use lib.ListN.{length, getD, take, drop, set, length-take, length-drop, length-append, List·getD-append, drop-of-length-le}
+use lib.Seq.{take-suc, drop-cons, drop-drop, length-take-le, getD-take, getD-drop, getD-append-add, set-at}
+use borrow.Author.Tests.{eqb-true, eqb-false, leb-true, eq-eqb, ne-eqb, le-leb, lt-leb, lt-ltb, le-ltb, ltb-true, ltb-false}
+use Rattle.base.specs.Bytes.{u16At}
+use Rattle.base.specs.Shape.{and-left, and-right}
+use Rattle.table.specs.declared.ReadTable.{ReadTable}
+use Rattle.table.specs.Stream.{streamRefusal, Accepted}
+use Rattle.table.specs.StreamLaws.{accepted-most}
+use Rattle.table.specs.Block.{countOf, payloadOf, blockRefusal}
+use Rattle.table.specs.BlockLaws.{block-size, block-count, block-most, block-payload-length}
+use Rattle.table.specs.File.{orElse, sizeGood, blocksRefusal, joined, streamOf, streamAt, readRefusal, readOf, readInto}
+use Rattle.table.specs.View.{viewOf, placeOf, Viewed}
+
+-- ---- first refusals
+
+pub or-left : (a b : ℕ) → orElse a b ≡ 0 → a ≡ 0
+or-left zero b e = refl
+or-left (suc a) b e = e
+
+pub or-right : (a b : ℕ) → orElse a b ≡ 0 → b ≡ 0
+or-right zero b e = e
+or-right (suc a) b e = absurd (omega arith)
+
+or-first : (a b : ℕ) → (a ≡ 0 → ⊥) → orElse a b ≡ a
+or-first zero b h = absurd (h refl)
+or-first (suc a) b h = refl
+
+-- ---- a turn of a loop over m blocks, at block k, and its end: w is what all of them give
+
+module _ {w : ℕ} (f : List ℕ) (k m : ℕ) (inv : w ≡ blocksRefusal k (m - k) (drop (512 * k) f)) where
+  blocks-step : k < m → w ≡ orElse (blockRefusal k (eqb (m - (k + 1)) 0) (take 512 (drop (512 * k) f))) (blocksRefusal (k + 1) (m - (k + 1)) (drop (512 * (k + 1)) f))
+  unfolding blocksRefusal
+  blocks-step h =
+      let e : m - k ≡ suc (m - (k + 1)) = omega arith in
+      let d : 512 * k + 512 ≡ 512 * (k + 1) = omega arith in
+      inv ∙ rw (e, drop-drop 512 (512 * k) f, d, add-one k)
+
+  pub blocks-bad : k < m → (r : ℕ) → r ≡ blockRefusal k (eqb (m - (k + 1)) 0) (take 512 (drop (512 * k) f)) → (r ≡ 0 → ⊥) → r ≡ w
+  blocks-bad h r e n = sym (blocks-step h ∙ rw (← e) (or-first r (blocksRefusal (k + 1) (m - (k + 1)) (drop (512 * (k + 1)) f)) n))
+
+  pub blocks-next : k < m → 0 ≡ blockRefusal k (eqb (m - (k + 1)) 0) (take 512 (drop (512 * k) f)) → w ≡ blocksRefusal (k + 1) (m - (k + 1)) (drop (512 * (k + 1)) f)
+  blocks-next h e = blocks-step h ∙ rw (← e)
+
+  pub blocks-end : m ≤ k → 0 ≡ w
+  unfolding blocksRefusal
+  blocks-end h = let e : m - k ≡ 0 = omega arith in sym (inv ∙ rw e)
+
+-- block k of m is the last
+pub is-last : (k m : ℕ) → k < m → eqb (k + 1) m ≡ eqb (m - (k + 1)) 0
+is-last k m h = go (eqb (k + 1) m) refl
+  where
+    go : (x : Bool) → eqb (k + 1) m ≡ x → eqb (k + 1) m ≡ eqb (m - (k + 1)) 0
+    go true e = let q = eqb-true (k + 1) m e in e ∙ sym (eq-eqb (m - (k + 1)) 0 (omega arith))
+    go false e = e ∙ sym (ne-eqb (m - (k + 1)) 0 (λ z. eqb-false (k + 1) m e (omega arith)))
+
+-- what reading block k of m alone gives, its bytes taken by their end
+pub block-turn : (f : List ℕ) (k m n r : ℕ) → k < m → n ≡ 512 → r ≡ blockRefusal k (eqb (k + 1) m) (take n (drop (512 * k) f))
+    → r ≡ blockRefusal k (eqb (m - (k + 1)) 0) (take 512 (drop (512 * k) f))
+block-turn f k m n r h l e = e ∙ rw (l, is-last k m h)
+
+-- ---- accepted blocks: the first, and the rest
+
+module _ (k m : ℕ) (f : List ℕ) (ok : blocksRefusal k (suc m) f ≡ 0) where
+  pub first-good : blockRefusal k (eqb m 0) (take 512 f) ≡ 0
+  unfolding blocksRefusal
+  first-good = or-left (blockRefusal k (eqb m 0) (take 512 f)) (blocksRefusal (suc k) m (drop 512 f)) ok
+
+  pub rest-good : blocksRefusal (suc k) m (drop 512 f) ≡ 0
+  unfolding blocksRefusal
+  rest-good = or-right (blockRefusal k (eqb m 0) (take 512 f)) (blocksRefusal (suc k) m (drop 512 f)) ok
+
+  first-count : countOf (take 512 f) ≡ u16At f 2
+  first-count = rw (getD-take 512 f 2 0 (omega arith), getD-take 512 f 3 0 (omega arith))
+
+  first-length : length (payloadOf (take 512 f)) ≡ countOf (take 512 f)
+  first-length = block-payload-length k (eqb m 0) (take 512 f) first-good
+
+  first-most : countOf (take 512 f) ≤ 506
+  first-most = block-most k (eqb m 0) (take 512 f) first-good
+
+  -- byte j of the first payload stands behind the block's first four bytes
+  first-at : (j : ℕ) → j < countOf (take 512 f) → getD (payloadOf (take 512 f)) j 0 ≡ getD f (4 + j) 0
+  first-at j h =
+      let l : 4 + j < 512 = omega (arith, first-most) in
+      getD-take (countOf (take 512 f)) (drop 4 (take 512 f)) j 0 h ∙ getD-drop 4 (take 512 f) j 0 ∙ getD-take 512 f (4 + j) 0 l
+
+-- a block that isn't the last is full
+full : (k m : ℕ) (f : List ℕ) → blocksRefusal k (suc (suc m)) f ≡ 0 → length (payloadOf (take 512 f)) ≡ 506
+full k m f ok =
+    let g : blockRefusal k false (take 512 f) ≡ 0 = rw (eqb·suc-zero m) at (first-good k (suc m) f ok) in
+    first-length k (suc m) f ok ∙ eqb-true (countOf (take 512 f)) 506 (block-count k false (take 512 f) g)
+
+-- ---- the joined stream of m + 1 accepted blocks
+
+u16-drop : (n x : ℕ) (f : List ℕ) → u16At (drop n f) x ≡ u16At f (n + x)
+u16-drop n x f = rw (getD-drop n f x 0, getD-drop n f (x + 1) 0, ← add-assoc n x 1)
+
+pub joined-length : (m k : ℕ) (f : List ℕ) → blocksRefusal k (suc m) f ≡ 0 → length (joined (suc m) f) ≡ 506 * m + u16At f (512 * m + 2)
+unfolding joined
+joined-length zero k f ok =
+    ap length (append-nil (payloadOf (take 512 f))) ∙ first-length k zero f ok ∙ first-count k zero f ok ∙ sym (zero-add (u16At f 2))
+joined-length (suc m) k f ok =
+    let r : length (joined (suc m) (drop 512 f)) ≡ 506 * m + u16At f (512 + (512 * m + 2)) = joined-length m (suc k) (drop 512 f) (rest-good k (suc m) f ok) ∙ rw (u16-drop 512 (512 * m + 2) f) in
+    let e : 512 * suc m + 2 ≡ 512 + (512 * m + 2) = omega arith in
+    length-append (payloadOf (take 512 f)) (joined (suc m) (drop 512 f)) ∙ rw (full k m f ok, r, e) (omega arith)
+
+pub joined-at : (m k : ℕ) (f : List ℕ) → blocksRefusal k (suc m) f ≡ 0 → (j : ℕ) → j < length (joined (suc m) f) → getD (joined (suc m) f) j 0 ≡ getD f (streamAt j) 0
+unfolding joined
+joined-at zero k f ok j h =
+    let b : j < countOf (take 512 f) = omega (arith, h, ap length (append-nil (payloadOf (take 512 f))), first-length k zero f ok) in
+    let e : 4 + j ≡ streamAt j = omega (arith, first-most k zero f ok) in
+    ap (λ (l : List ℕ). getD l j 0) (append-nil (payloadOf (take 512 f))) ∙ first-at k zero f ok j b ∙ rw e
+joined-at (suc m) k f ok j h = go (ltb j 506) refl (λ i l. joined-at m (suc k) (drop 512 f) (rest-good k (suc m) f ok) i l)
+  where
+    go : (x : Bool) → ltb j 506 ≡ x
+        → ((i : ℕ) → i < length (joined (suc m) (drop 512 f)) → getD (joined (suc m) (drop 512 f)) i 0 ≡ getD (drop 512 f) (streamAt i) 0)
+        → getD (payloadOf (take 512 f) ++ joined (suc m) (drop 512 f)) j 0 ≡ getD f (streamAt j) 0
+    go true e next =
+        let b = ltb-true j 506 e in
+        let g = full k m f ok in
+        let a : 4 + j ≡ streamAt j = omega arith in
+        List·getD-append (payloadOf (take 512 f)) (joined (suc m) (drop 512 f)) 0 j (omega arith) ∙ first-at k (suc m) f ok j (omega (arith, first-length k (suc m) f ok)) ∙ rw a
+    go false e next =
+        let b = ltb-false j 506 e in
+        let g = full k m f ok in
+        let i : length (payloadOf (take 512 f)) + (j - 506) ≡ j = omega arith in
+        let l : j - 506 < length (joined (suc m) (drop 512 f)) = omega (arith, h, length-append (payloadOf (take 512 f)) (joined (suc m) (drop 512 f))) in
+        let a : 512 + streamAt (j - 506) ≡ streamAt j = omega arith in
+        ap (λ (n : ℕ). getD (payloadOf (take 512 f) ++ joined (suc m) (drop 512 f)) n 0) (sym i)
+        ∙ getD-append-add (payloadOf (take 512 f)) (joined (suc m) (drop 512 f)) (j - 506) 0
+        ∙ next (j - 506) l
+        ∙ getD-drop 512 f (streamAt (j - 506)) 0 ∙ rw a
+
+-- ---- reading: the file's size, and the view of its stream
+
+size-tests : (a b c : Bool) → (not a && b && c) ≡ true → (a ≡ false) × (b ≡ true) × (c ≡ true)
+size-tests true b c e = absurd (false≢true e)
+size-tests false false c e = absurd (false≢true e)
+size-tests false true c e = (refl, refl, e)
+
+-- a good size is 512 for each of 1 to 122 blocks
+pub good-size : (l : ℕ) → sizeGood l ≡ true → (l ≡ 512 * (l / 512)) × (1 ≤ l / 512) × (l / 512 ≤ 122)
+good-size l e =
+    let t = size-tests (eqb l 0) (eqb (l % 512) 0) (leb l 62464) e in
+    let m = eqb-true (l % 512) 0 (t .1) in
+    let h = leb-true l 62464 (t .2) in
+    let z : l ≡ 0 → ⊥ = eqb-false l 0 (t .0) in
+    (omega arith, omega arith, omega arith)
+
+module _ (f : List ℕ) (size : sizeGood (length f) ≡ true) (ok : blocksRefusal 0 (length f / 512) f ≡ 0) where
+  blocks : length f / 512 ≡ suc (length f / 512 - 1)
+  blocks = omega (arith, good-size (length f) size .1)
+
+  some : blocksRefusal 0 (suc (length f / 512 - 1)) f ≡ 0
+  some = rw blocks at ok
+
+  opened : streamOf f ≡ joined (suc (length f / 512 - 1)) f
+  unfolding streamOf
+  opened = ap (λ (m : ℕ). joined m f) blocks
+
+  pub stream-length : length (streamOf f) ≡ 506 * (length f / 512 - 1) + u16At f (512 * (length f / 512 - 1) + 2)
+  stream-length = ap length opened ∙ joined-length (length f / 512 - 1) 0 f some
+
+  pub stream-viewed : (count : ℕ) → count ≡ length (streamOf f) → Viewed true f count
+  stream-viewed count e = record { counted = sym e; placed = λ k h. ap (λ (s : List ℕ). getD s k 0) opened ∙ joined-at (length f / 512 - 1) 0 f some k (omega (arith, e, ap length opened)) }
+
+-- ---- the answers of readRefusal, in their order
+
+pub refused-room : (f : List ℕ) (room : ℕ) → room < 61457 → 13 ≡ readRefusal f room
+unfolding readRefusal
+refused-room f room h = rw (lt-ltb room 61457 h)
+
+module _ (f : List ℕ) (room : ℕ) (h : 61457 ≤ room) where
+  pub refused-bytes : sizeGood (length f) ≡ false → 1 ≡ readRefusal f room
+  unfolding readRefusal
+  refused-bytes e = rw (le-ltb room 61457 h, e)
+
+  module _ (size : sizeGood (length f) ≡ true) where
+    by-blocks : orElse (blocksRefusal 0 (length f / 512) f) (streamRefusal (streamOf f)) ≡ readRefusal f room
+    unfolding readRefusal
+    by-blocks = rw (le-ltb room 61457 h, size)
+
+    pub refused-blocks : (r : ℕ) → r ≡ blocksRefusal 0 (length f / 512) f → (r ≡ 0 → ⊥) → r ≡ readRefusal f room
+    refused-blocks r e n = sym (or-first r (streamRefusal (streamOf f)) n) ∙ rw e by-blocks
+
+    pub by-stream : blocksRefusal 0 (length f / 512) f ≡ 0 → streamRefusal (streamOf f) ≡ readRefusal f room
+    by-stream e = rw e at by-blocks
+
+-- ---- an accepted file
+
+read-passed : (a b : Bool) (x y : ℕ) → _≡_ {A = ℕ} (cond a 13 (cond b (orElse x y) 1)) 0 → (a ≡ false) × (b ≡ true) × (x ≡ 0) × (y ≡ 0)
+read-passed true b x y e = absurd (omega arith)
+read-passed false false x y e = absurd (omega arith)
+read-passed false true x y e = (refl, refl, or-left x y e, or-right x y e)
+
+module _ (f : List ℕ) (room : ℕ) (ok : readRefusal f room ≡ 0) where
+  read-tests : (ltb room 61457 ≡ false) × (sizeGood (length f) ≡ true) × (blocksRefusal 0 (length f / 512) f ≡ 0) × (streamRefusal (streamOf f) ≡ 0)
+  unfolding readRefusal
+  read-tests = read-passed (ltb room 61457) (sizeGood (length f)) (blocksRefusal 0 (length f / 512) f) (streamRefusal (streamOf f)) ok
+
+  pub read-room : 61457 ≤ room
+  read-room = ltb-false room 61457 (read-tests .0)
+
+  pub read-size : sizeGood (length f) ≡ true
+  read-size = read-tests .1
+
+  pub read-blocks : blocksRefusal 0 (length f / 512) f ≡ 0
+  read-blocks = read-tests .2
+
+  -- the stream of an accepted file is accepted
+  pub read-stream : Accepted (streamOf f)
+  unfolding Accepted
+  read-stream = read-tests .3
+
+  pub read-most : length (streamOf f) ≤ 61457
+  read-most = accepted-most (streamOf f) read-stream
+
+-- ---- what readOf and readInto give
+
+module _ (f out : List ℕ) (r : ℕ) (e : r ≡ readRefusal f (length out)) where
+  pub answer-refused : (r ≡ 0 → ⊥) → _≡_ {A = ReadTable} (record { refusal = r; length = 0 }) (readOf f (length out))
+  unfolding readOf
+  answer-refused n = rw (← e, ne-eqb r 0 n)
+
+  pub left-refused : (r ≡ 0 → ⊥) → out ≡ readInto f out
+  unfolding readInto
+  left-refused n = rw (← e, ne-eqb r 0 n)
+
+  pub answer-accepted : r ≡ 0 → (count : ℕ) → count ≡ length (streamOf f) → _≡_ {A = ReadTable} (record { refusal = 0; length = count }) (readOf f (length out))
+  unfolding readOf
+  answer-accepted z count l = rw (← e, z, ← l)
+
+  pub left-accepted : r ≡ 0 → (count : ℕ) → count ≡ length (streamOf f) → streamOf f ++ drop count out ≡ readInto f out
+  unfolding readInto
+  left-accepted z count l = rw (← e, z, ← l)
+
+-- one byte more of s copied to the front of t
+pub copy-more : (i : ℕ) (s t : List ℕ) → i < length s → i < length t → set (take i s ++ drop i t) i (getD s i 0) ≡ take (i + 1) s ++ drop (i + 1) t
+copy-more i s t hs ht =
+    let e : length (take i s) ≡ i = length-take-le i s (omega arith) in
+    rw (drop-cons t i 0 ht, set-at (take i s) (getD t i 0) (drop (suc i) t) (getD s i 0) i e, add-one, take-suc s i 0 hs, append-assoc)
