@@ -148,6 +148,10 @@ abbrev pub stoppedAfter : ℕ → Agent → Bool
 stoppedAfter zero u = true
 stoppedAfter (suc k) u = u .stopped
 
+-- 01: "Take the own value off, threshold's own place up by 1, paper's own stamp place 0, clear estimates", and "the counter stays"
+abbrev pub backtracked : ℕ → Agent → Agent
+backtracked k u = withStopped (stoppedAfter k u) (withThreshold (suc (u .threshold)) (withEstimates (λ j. 0) (withCpa 0 [] 0 u)))
+
 -- A CPA going down, taken in with no own value.
 abbrev pub received : ℕ → List ℕ → Agent → Agent
 received s b u = withThreshold (s * 32) (withCpa s b 0 u)
@@ -187,7 +191,7 @@ module _ (P : Problem) where
   abbrev pub isLast : ℕ → Bool
   isLast k = eqb (suc k) (P .n)
 
-  -- ---- backtrack. 01: "Take the own value off, threshold's own place up by 1, paper's own stamp place 0, clear estimates."
+  -- ---- backtrack
 
   -- 01: "unit n sends one news, after its last improvement in a step, to all others"
   abbrev pub announce : ℕ → Bool → Agent → List Msg
@@ -201,8 +205,7 @@ module _ (P : Problem) where
 
   -- `better`: unit n has improved its bound in this step.
   abbrev pub backtrack : ℕ → Bool → Agent → Result
-  backtrack k better u =
-      done (withStopped (stoppedAfter k u) (withThreshold (suc (u .threshold)) (withEstimates (λ j. 0) (withCpa 0 [] 0 u)))) (giveBack k u ++ announce k better u)
+  backtrack k better u = done (backtracked k u) (giveBack k u ++ announce k better u)
 
   -- ---- assign
 

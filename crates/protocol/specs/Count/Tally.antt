@@ -70,7 +70,7 @@ module _ (P : Problem) (laws : Laws P) (us : ℕ → Agent) (safe : Safe P us) w
       sum-put (λ i. out i (us i)) (λ i. out i (put us k u i)) k (P .n) lt (λ i ne. ap (out i) (other i ne)) in
       let b : fees P (put us k u) + fee P k * length (us k .log) ≡ fees P us + fee P k * length (put us k u k .log) =
       sum-put (λ i. fee P i * length (us i .log)) (λ i. fee P i * length (put us k u i .log)) k (P .n) lt (λ i ne. ap (λ z. fee P i * length (z .log)) (other i ne)) in
-      omega (arith, h, a, b, ap (out k) (put-at P us k u), ap (λ z. fee P k * length (z .log)) (put-at P us k u))
+      omega (arith, h, a, b, ap (out k) (put-at us k u), ap (λ z. fee P k * length (z .log)) (put-at us k u))
     where
       other : (i : ℕ) → i ≢ k → put us k u i ≡ us i
       other i ne = rw (ne-eqb i k ne)
@@ -110,11 +110,11 @@ module _ (P : Problem) (laws : Laws P) (n1 : 0 < P .n) where
 
           ended : ((to m ≡ 0) × (u .stopped ≡ true)) ⊎ (Every NotStop ms × (u .stopped ≡ S .units (to m) .stopped))
               → (put (S .units) (to m) u 0 .stopped ≡ true) ⊎ (Every NotStop ((b ++ a) ++ ms) × ((k : ℕ) → put (S .units) (to m) u k .stopped ≡ false))
-          ended (inl h) = inl (subst (λ x. x .stopped ≡ true) (sym (subst (λ i. put (S .units) (to m) u i ≡ u) (h .0) (put-at P (S .units) (to m) u))) (h .1))
+          ended (inl h) = inl (subst (λ x. x .stopped ≡ true) (sym (subst (λ i. put (S .units) (to m) u i ≡ u) (h .0) (put-at (S .units) (to m) u))) (h .1))
           ended (inr h) =
               inr (
                 every-append NotStop (b ++ a) ms (λ x i. ns .0 x (subst (λ p. In x p) (sym e) (back-in x (in-append b a i)))) (h .0),
-                put-all P (S .units) (to m) u (λ i x. x .stopped ≡ false) (h .1 ∙ ns .1 (to m)) (λ i ne. ns .1 i),
+                put-all (S .units) (to m) u (λ i x. x .stopped ≡ false) (h .1 ∙ ns .1 (to m)) (λ i ne. ns .1 i),
               )
             where
               back-in : (x : Msg) → In x b ⊎ In x a → In x (b ++ (m ∷ a))
@@ -153,4 +153,4 @@ module _ (P : Problem) (laws : Laws P) (n1 : 0 < P .n) where
           ended : ((_≡_ {A = ℕ} 0 0) × (u .stopped ≡ true)) ⊎ (Every NotStop ms × (u .stopped ≡ false))
               → (u .stopped ≡ true) ⊎ (Every NotStop ms × ((k : ℕ) → put (λ k. fresh) 0 u k .stopped ≡ false))
           ended (inl h) = inl (h .1)
-          ended (inr h) = inr (h .0, put-all P (λ k. fresh) 0 u (λ i x. x .stopped ≡ false) (h .1) (λ i ne. refl))
+          ended (inr h) = inr (h .0, put-all (λ k. fresh) 0 u (λ i x. x .stopped ≡ false) (h .1) (λ i ne. refl))

@@ -17,7 +17,7 @@ use Rattle.protocol.specs.Safety.Step.{the-cpa-out}
 use Rattle.protocol.specs.Safety.Logs.{logs, Recorded, topStamp, peak, top-in, top-bound, Safe}
 use Rattle.protocol.specs.Safety.Network.{before, put-at, StepSafe}
 use Rattle.protocol.specs.Safety.Run.{step-safe-at}
-use Rattle.protocol.specs.Liveness.Moves.{IsCpa, sender, NoCpa, Wrote, Backtracked}
+use Rattle.protocol.specs.Liveness.Moves.{IsCpa, NoCpa, sender, Wrote, Backtracked}
 use Rattle.protocol.specs.Liveness.Effect.{IsDown, NotDown, Stale, Quiet, Took, Effect, to<n, effect}
 
 -- ---- the live chain: from unit 1 on CPAs are out, each behind the one before, and the last one's CPA waits, down or back
@@ -100,7 +100,7 @@ module _ (P : Problem) (laws : Laws P) (us : ℕ → Agent) (safe : Safe P us) w
     effected = subst (λ r. Effect (to m) (Recorded (logs us)) (peak (logs us) (to m)) (us (to m)) m r) d (effect P laws us safe m ok)
 
     good′ : Good P (to m) (Recorded (logs (put us (to m) u))) (peak (logs (put us (to m) u)) (to m)) u
-    good′ = subst (λ x. Good P (to m) (Recorded (logs (put us (to m) u))) (peak (logs (put us (to m) u)) (to m)) x) (put-at P us (to m) u)
+    good′ = subst (λ x. Good P (to m) (Recorded (logs (put us (to m) u))) (peak (logs (put us (to m) u)) (to m)) x) (put-at us (to m) u)
         (step-safe .0 (to m) (to<n P laws us safe m ok))
 
     other : (i : ℕ) → i ≢ to m → put us (to m) u i ≡ us i
@@ -212,7 +212,7 @@ module _ (P : Problem) (laws : Laws P) (us : ℕ → Agent) (safe : Safe P us) w
     new-down : (k : ℕ) → k < P .n → to m ≡ k → Out (us k) → us k .prefixStamp ≡ peak (logs us) k → Wrote k (us k .prefixStamp) (us k .prefix) (us k .counter) u ms
         → Live (P .n) (put us (to m) u) Wait′ k
     new-down k lt ek o pk w =
-        mk-down (P .n) (put us (to m) u) Wait′ k u (subst (λ x. put us (to m) u x ≡ u) ek (put-at P us (to m) u)) (w .own, w .threshold)
+        mk-down (P .n) (put us (to m) u) Wait′ k u (subst (λ x. put us (to m) u x ≡ u) ek (put-at us (to m) u)) (w .own, w .threshold)
         (us (suc k)) (other (suc k) (omega (arith, ek))) (u .bound) (u .best)
         (sent (down (suc k) (stamp u) (values u) (u .bound) (u .best)) tt (w .sent) (λ r i. omega (arith, safe k lt .threshold r i, o .1, w .prefixStamp, w .counter)))
         (let g = safe (suc k) (sent-ok _ (w .sent) .0) in
@@ -226,12 +226,12 @@ module _ (P : Problem) (laws : Laws P) (us : ℕ → Agent) (safe : Safe P us) w
         inl (f (q .0) (q .1) (q .2) (q .5) (q .6), ap (λ x. x .prefixStamp) at-k ∙ q .3, ap (λ x. x .prefix) at-k ∙ q .4)
       where
         at-k : put us (to m) u k ≡ u
-        at-k = subst (λ x. put us (to m) u x ≡ u) ek (put-at P us (to m) u)
+        at-k = subst (λ x. put us (to m) u x ≡ u) ek (put-at us (to m) u)
     self-after k lt ek o pk f (inr (inl w)) =
         inl (new-down k lt ek o pk w, ap (λ x. x .prefixStamp) at-k ∙ w .prefixStamp, ap (λ x. x .prefix) at-k ∙ w .prefix)
       where
         at-k : put us (to m) u k ≡ u
-        at-k = subst (λ x. put us (to m) u x ≡ u) ek (put-at P us (to m) u)
+        at-k = subst (λ x. put us (to m) u x ≡ u) ek (put-at us (to m) u)
     self-after k lt ek o pk f (inr (inr w)) = inr (ek, w)
 
     self-at : (k : ℕ) → to m ≡ k → Out (us k) → us k .prefixStamp ≡ peak (logs us) k → Self k
@@ -239,7 +239,7 @@ module _ (P : Problem) (laws : Laws P) (us : ℕ → Agent) (safe : Safe P us) w
         subst Self ek (self (subst (λ x. Out (us x)) (sym ek) o) (subst (λ x. us x .prefixStamp ≡ peak (logs us) x) (sym ek) pk))
 
     here-k : (k : ℕ) → to m ≡ k → put us (to m) u k ≡ u
-    here-k k ek = subst (λ x. put us (to m) u x ≡ u) ek (put-at P us (to m) u)
+    here-k k ek = subst (λ x. put us (to m) u x ≡ u) ek (put-at us (to m) u)
 
     -- the CPA that was on its way down has come
     arrived : (k : ℕ) → k < P .n → suc k < P .n → to m ≡ suc k → Out (us k) → us k .prefixStamp ≡ peak (logs us) k → us (suc k) .threshold ≤ stamp (us k) * 32

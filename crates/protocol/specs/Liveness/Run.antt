@@ -16,7 +16,7 @@ use Rattle.protocol.specs.Safety.Facts.{ValidMsg}
 use Rattle.protocol.specs.Safety.Logs.{logs, Recorded, Safe}
 use Rattle.protocol.specs.Safety.Network.{put-at, SafeNetwork}
 use Rattle.protocol.specs.Safety.Run.{in-pool}
-use Rattle.protocol.specs.Liveness.Moves.{IsCpa, sender, NoCpa, Backtracked, Moved, try-moved}
+use Rattle.protocol.specs.Liveness.Moves.{IsCpa, NoCpa, sender, Backtracked, Moved, try-moved}
 use Rattle.protocol.specs.Liveness.Chain.{Live, isDown, live-out, New, live-step}
 
 -- ---- the network: until unit 1 stops its chain is live
@@ -46,7 +46,7 @@ module _ (P : Problem) (laws : Laws P) (lt : 0 < P .n) where
       go : (Live (P .n) (put us (to m) u) Wait′ 0 × (put us (to m) u 0 .prefixStamp ≡ us 0 .prefixStamp) × (put us (to m) u 0 .prefix ≡ us 0 .prefix)) ⊎ ((to m ≡ 0) × Backtracked 0 (us 0 .prefixStamp) (us 0 .prefix) u ms)
           → (put us (to m) u 0 .stopped ≡ true) ⊎ Live (P .n) (put us (to m) u) Wait′ 0
       go (inl h) = inr (h .0)
-      go (inr h) = inl (subst (λ x. x .stopped ≡ true) (sym (subst (λ i. put us (to m) u i ≡ u) (h .0) (put-at P us (to m) u))) (h .1 .gave))
+      go (inr h) = inl (subst (λ x. x .stopped ≡ true) (sym (subst (λ i. put us (to m) u i ≡ u) (h .0) (put-at us (to m) u))) (h .1 .gave))
 
   pub deliver-chain : (room : ℕ) (S : Network) (c : ℕ) → SafeNetwork P S → Chain P S → Chain P (deliver P room S c)
   deliver-chain room S c r ch =
@@ -56,7 +56,7 @@ module _ (P : Problem) (laws : Laws P) (lt : 0 < P .n) where
       (λ x p ne se i. taken-waits b a m ms (S .pool) e x ne i) (λ np x p ne i. taken-waits b a m ms (S .pool) e x ne i) (λ x p i nw. in-right (b ++ a) i) st ch)
 
   pub make-chain : Chain P (make P)
-  make-chain = go (assign P 0 fresh) (try-moved P 0 (P .size 0 - 0) false (counted fresh) (omega arith) (omega (arith, laws .size-le-16 0)))
+  make-chain = go (assign P 0 fresh) (try-moved P 0 (P .size 0 - 0) false (counted fresh) (omega arith, omega (arith, laws .size-le-16 0)))
     where
       go : (res : Result) → Moved 0 0 [] 0 res → Chain P (made res)
       go refused h = absurd h

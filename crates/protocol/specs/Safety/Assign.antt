@@ -1,31 +1,22 @@
 -- Assigning keeps a unit good: a unit that is ready to try its values writes the next one, or has none left and backtracks, and what it sends is valid.
 -- By the walk over assigning: what is left to show is that a value written or passed over leaves the unit ready for the rest.
 -- Assumes nothing.
-use Prim.Native.Nat.{ℕ, zero, suc, _+_, _*_, _-_, _≤_, _<_, pred}
+use Prim.Native.Nat.{ℕ, suc, _+_, _*_, _-_, _≤_, _<_}
 use mathlib.Core.Path.{_≡_, refl, sym, subst}
 use mathlib.Core.Logic.{_⊎_, inl, inr}
-use mathlib.Core.Bool.{Bool, true, false}
+use mathlib.Core.Bool.{Bool, false}
 use mathlib.Core.List.{[], _∷_}
 use native.Mathlib.Omega.{arith}
 use lib.ListN.{length}
-use Rattle.protocol.specs.Problem.{Problem, Closed, Laws, closed-mono, closed-by-values, closed-full, ValidBound, valid-le-none}
-use Rattle.protocol.specs.Machine.{solution, stop, stampOf, Agent, stamp, values, skip, write, counted, announce, giveBack, backtrack, solved, sendDown, tryFrom, resume}
-use Rattle.protocol.specs.Lists.{here, Every, every-nil, every-cons, every-append, every-each, every-others}
+use Rattle.protocol.specs.Problem.{Problem, Closed, Laws, closed-mono, closed-by-values, closed-full, valid-le-none}
+use Rattle.protocol.specs.Machine.{stop, stampOf, Agent, stamp, values, skip, write, counted, announce, giveBack, backtrack, solved, sendDown, tryFrom, resume}
+use Rattle.protocol.specs.Lists.{here, Every, every-cons, every-append, every-announced, every-given-back, every-sent-down}
 use Rattle.protocol.specs.Tests.{le-split}
 use Rattle.protocol.specs.Walk.{try-walk, resume-cases}
 use Rattle.protocol.specs.Safety.Facts.{History, OnLog, Extended, ValidMsg, Before, Sorted, Good, Ready, Spent, Post}
 
 module _ (P : Problem) (laws : Laws P) (k : ℕ) (k<n : k < P .n) (Past : History) (X : ℕ) (bf : Before P k Past X) where
   -- ---- backtrack
-
-  announce-valid : (better : Bool) (u : Agent) → ValidBound P (u .bound) (u .best) → Every (ValidMsg P (Extended k Past (u .log))) (announce P k better u)
-  announce-valid true u h = every-others _ (λ j. solution j (u .bound) (u .best)) (P .n) k k<n (λ j lt. (lt, h))
-  announce-valid false u h = every-nil _
-
-  give-back-valid : (i : ℕ) → i ≡ k → (u : Agent) → Spent P k Past u → Every (ValidMsg P (Extended k Past (u .log))) (giveBack P i u)
-  give-back-valid zero e u h = every-each _ _ 1 (pred (P .n)) (λ j a b. (omega arith, a, h .valid))
-  give-back-valid (suc i) e u h =
-      every-cons _ _ [] (omega arith, inl (subst (λ x. Past x (u .prefixStamp) (u .prefix)) (sym e) (h .past)), h .closed, h .valid) (every-nil _)
 
   pub backtrack-post : (better : Bool) (u : Agent) → Spent P k Past u → Post P k Past X (backtrack P k better u)
   backtrack-post better u h = (
@@ -38,7 +29,9 @@ module _ (P : Problem) (laws : Laws P) (k : ℕ) (k<n : k < P .n) (Past : Histor
       cpa = λ z. absurd (omega arith);
       stop = λ e t. subst (λ x. Closed P x (u .bound)) (bf .start (u .prefixStamp) (u .prefix) (h .past) e) (h .closed);
     },
-    every-append _ (giveBack P k u) (announce P k better u) (give-back-valid k refl u h) (announce-valid better u (h .valid)),
+    every-append _ (giveBack P k u) (announce P k better u)
+        (every-given-back P _ k u (λ e j lo hi. (hi, lo, h .valid)) (λ i e. (omega arith, inl (subst (λ x. Past x (u .prefixStamp) (u .prefix)) (sym e) (h .past)), h .closed, h .valid)))
+        (every-announced P _ k u better (λ j lt. (omega arith, h .valid))),
   )
 
   -- ---- the values in turn
@@ -111,9 +104,7 @@ module _ (P : Problem) (laws : Laws P) (k : ℕ) (k<n : k < P .n) (Past : Histor
       }
 
   send-down-valid : (m : ℕ) (u : Agent) → suc k < P .n → Ready P k Past (suc m) u → Every (ValidMsg P (Extended k Past (write u .log))) (sendDown P k (write u))
-  send-down-valid m u h r =
-      every-cons _ _ _ (h, omega arith, inr (refl, on), r .valid)
-      (every-each _ _ (suc k) (P .n - suc k) (λ j a b. (omega arith, omega arith, inr (refl, on))))
+  send-down-valid m u h r = every-sent-down P _ k (write u) (h, omega arith, inr (refl, on), r .valid) (λ j lo hi. (hi, lo, inr (refl, on)))
     where
       on : OnLog (write u .log) (stamp (write u)) (values (write u))
       on = (_, here refl, refl, refl)

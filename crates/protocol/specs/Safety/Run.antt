@@ -3,16 +3,16 @@
 -- Assumes nothing.
 use Prim.Native.Nat.{ℕ, _<_}
 use mathlib.Core.Path.{_≡_, refl, sym, subst}
-use mathlib.Core.Logic.{_⊎_, inl, inr}
 use mathlib.Core.List.{List, _∷_, _++_}
 use Rattle.protocol.specs.Problem.{Problem, Laws}
 use Rattle.protocol.specs.Machine.{Msg, to, Agent, done, step, Network, put, make, deliver, run}
-use Rattle.protocol.specs.Lists.{In, here, there, in-left, in-right, in-append, every-append}
+use Rattle.protocol.specs.Lists.{In, here, in-right, in-more, every-append}
 use Rattle.protocol.specs.Walk.{deliver-cases, run-keeps}
 use Rattle.protocol.specs.Safety.Facts.{ValidMsg, valid-mono}
 use Rattle.protocol.specs.Safety.Logs.{logs, Recorded, Safe}
 use Rattle.protocol.specs.Safety.Network.{recorded-grows, StepSafe, any-step, SafeNetwork, make-safe}
 
+-- what an accepted delivery leaves, taken from the equation
 pub step-safe-at : (P : Problem) (laws : Laws P) (us : ℕ → Agent) → Safe P us → (m : Msg) (u : Agent) (ms : List Msg) → step P (us (to m)) m ≡ done u ms
     → ValidMsg P (Recorded (logs us)) m → StepSafe P us (to m) (done u ms)
 step-safe-at P laws us safe m u ms e ok = subst (λ r. StepSafe P us (to m) r) e (any-step P laws us safe m ok)
@@ -30,15 +30,8 @@ deliver-safe P laws room S c r =
     λ m′ h. valid-mono P (recorded-grows (logs (S .units)) (logs (put (S .units) (to m) u)) (l .2)) m′ h in
     record {
       safe = l .0;
-      msgs = every-append _ (b ++ a) ms (λ m′ i. up m′ (r .msgs m′ (subst (λ x. In m′ x) (sym e) (widen b a m m′ i)))) (l .1);
+      msgs = every-append _ (b ++ a) ms (λ m′ i. up m′ (r .msgs m′ (subst (λ x. In m′ x) (sym e) (in-more b m a i)))) (l .1);
     })
-  where
-    widen : (b a : List Msg) (m m′ : Msg) → In m′ (b ++ a) → In m′ (b ++ (m ∷ a))
-    widen b a m m′ i = go (in-append b a i)
-      where
-        go : In m′ b ⊎ In m′ a → In m′ (b ++ (m ∷ a))
-        go (inl j) = in-left (m ∷ a) j
-        go (inr j) = in-right b (there j)
 
 pub run-safe : (P : Problem) (laws : Laws P) (room : ℕ) → 0 < P .n → (cs : List ℕ) → SafeNetwork P (run P room (make P) cs)
 run-safe P laws room lt cs = run-keeps P room (SafeNetwork P) (λ S c r. deliver-safe P laws room S c r) (make P) cs (make-safe P laws lt)
