@@ -10,6 +10,7 @@ use Rattle.costs.specs.Instance.{View, domIn, isValue, inPair, costNumbe
 use Rattle.costs.specs.Bounds.{costWith, h}
 pub mod Steps
 pub mod Checks
+pub mod Bounds
 
 -- the m costs from number k on are at most 60,000
 unfoldable pub lentCostsGood : List ℕ → ℕ → ℕ → Bool

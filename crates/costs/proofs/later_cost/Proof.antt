@@ -8,7 +8,8 @@ use borrow.Author.Needs.{needs}
 use borrow.Author.Tests.{not-true, not-false}
 use Rattle.costs.specs.Bounds.{h}
 use Rattle.costs.specs.Lent.{viewAt, othersBefore, laterFrom}
-use Rattle.costs.specs.Lent.Steps.{value-range, others-later, later-start, later-step, later-done, later-no-value}
+use Rattle.costs.specs.Laws.Stream.{value-range}
+use Rattle.costs.specs.Lent.Steps.{others-later, later-start, later-step, later-done, later-no-value}
 use Rattle.costs.proofs.later_cost.Statement.{statement}
 use Rattle.costs.proofs.later_cost.Tie as tie
 

@@ -11,10 +11,9 @@ use native.Mathlib.Omega.{arith}
 use lib.Dec.{ltb, leb, eqb}
 use lib.ListN.{getD, take, length, length-take, List·getD-eq-default}
 use lib.Seq.{getD-take}
-use borrow.Author.Tests.{lt-ltb, le-ltb, le-leb, lt-leb, leb-true, ltb-true, ltb-false, eq-eqb, ne-eqb}
-use Rattle.base.specs.Shape.{and-left, and-right}
+use borrow.Author.Tests.{lt-ltb, le-ltb, le-leb, lt-leb, ltb-false, eq-eqb, ne-eqb}
 use Rattle.base.specs.Sums.{sumFrom, sumTo, least}
-use Rattle.costs.specs.Instance.{View, domIn, isValue, inPair, inOther, costNumber, otherStart, lentCost, lentView}
+use Rattle.costs.specs.Instance.{View, domIn, isValue, inPair, costNumber, lentCost, lentView}
 use Rattle.costs.specs.Bounds.{costWith, h, estimate}
 use Rattle.costs.specs.Lent.{viewAt, othersBefore, pairFrom, leastRun, laterFrom, leastCost}
 
@@ -30,10 +29,7 @@ dom-past-list n sizes k h = List·getD-eq-default (take n sizes) 0 (simp length-
 pub dom-at : (n : ℕ) (sizes : List ℕ) (k : ℕ) → k < n → domIn n sizes k ≡ getD sizes k 0
 dom-at n sizes k h = getD-take n sizes k 0 h
 
--- what is a value
-pub value-range : (d v : ℕ) → isValue d v ≡ true → (1 ≤ v) × (v ≤ d)
-value-range d v e = (leb-true 1 v (and-left (leb 1 v) (leb v d) e), leb-true v d (and-right (leb 1 v) (leb v d) e))
-
+-- what is a value; Laws.Stream has the way back
 pub range-value : (d v : ℕ) → 1 ≤ v → v ≤ d → isValue d v ≡ true
 range-value d v l h = simp (le-leb 1 v l, le-leb v d h)
 

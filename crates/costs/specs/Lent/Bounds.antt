@@ -1,0 +1,101 @@
+-- What the limit of 60,000 gives of the sums over a view: first for any view whose pair costs keep it, then for costs that were not refused.
+-- Each sum has at most so many terms, each at most 60,000; a cost number past the end is 0.
+-- Assumes nothing.
+use Prim.Native.Nat.{ℕ, zero, suc, _+_, _*_, _-_, _≤_, _<_, pred}
+use mathlib.Core.Path.{_≡_, refl}
+use mathlib.Core.Bool.{Bool, true, false, cond, not, _&&_}
+use mathlib.Core.List.{List}
+use native.Mathlib.Nat.{zero-add, le-of-suc-le-suc, not-suc-le-zero}
+use native.Mathlib.Omega.{arith}
+use lib.Dec.{ltb, leb, eqb}
+use lib.ListN.{length, getD}
+use borrow.Author.Tests.{leb-true, ltb-true, ltb-false, eqb-true}
+use Rattle.base.specs.Bytes.{u16-past}
+use Rattle.base.specs.Shape.{and-left, and-right}
+use Rattle.base.specs.Sums.{least}
+use Rattle.costs.specs.Instance.{View, domIn, isValue, costNumber, otherStart, inOther, lentCost, lentView}
+use Rattle.costs.specs.Bounds.{costWith, h, estimate}
+use Rattle.costs.specs.Laws.Sums.{sumFrom-le, sumTo-le, least-bound}
+use Rattle.costs.specs.Lent.{lentCostsGood, lentCount, lentRefusal}
+
+-- ---- any view
+
+module _ (w : View) (small : (j u v : ℕ) → w .pair j u v ≤ 60000) where
+  pub cost-most : (values : List ℕ) (k v : ℕ) → costWith w values k v ≤ 60000 * k
+  unfolding costWith
+  cost-most values k v = sumTo-le (λ j. w .pair j (getD values j 0) v) 60000 k (λ j. small j (getD values j 0) v)
+
+  pub h-most : (v : ℕ) → h w v ≤ 60000 * (w .n - suc (w .place))
+  unfolding h
+  h-most v =
+      sumFrom-le (λ j. least (λ u. w .pair j u v) (w .dom j)) 60000 (suc (w .place)) (w .n - suc (w .place))
+      (λ j. least-bound (λ u. w .pair j u v) (w .dom j) 60000 (λ u. small j u v))
+
+  pub estimate-most : (values : List ℕ) (k : ℕ) → estimate w values k ≤ 60000 * k + 60000 * (w .n - suc (w .place))
+  unfolding estimate
+  estimate-most values k =
+      least-bound (λ v. costWith w values k v + h w v) (w .dom (w .place)) (60000 * k + 60000 * (w .n - suc (w .place)))
+      (λ v. omega (arith, cost-most values k v, h-most v))
+
+-- ---- costs that were not refused
+
+-- where the costs from k on pass, each does
+costs-at : (costs : List ℕ) (k m : ℕ) → lentCostsGood costs k m ≡ true → (i : ℕ) → i < m → costNumber costs (k + i) ≤ 60000
+unfolding lentCostsGood
+costs-at costs k zero e i l = absurd (not-suc-le-zero l)
+costs-at costs k (suc m) e zero l =
+    let q : k + 0 ≡ k = omega arith in
+    rw q (leb-true (costNumber costs k) 60000 (and-left (leb (costNumber costs k) 60000) (lentCostsGood costs (suc k) m) e))
+costs-at costs k (suc m) e (suc i) l =
+    let q : k + suc i ≡ suc k + i = omega arith in
+    rw q (costs-at costs (suc k) m (and-right (leb (costNumber costs k) 60000) (lentCostsGood costs (suc k) m) e) i (le-of-suc-le-suc l))
+
+-- the two tests of lentRefusal, taken apart
+passed : (a b : Bool) → _≡_ {A = ℕ} (cond a (cond b 0 7) 6) 0 → (a ≡ true) × (b ≡ true)
+passed false b e = absurd (omega arith)
+passed true false e = absurd (omega arith)
+passed true true e = (refl, refl)
+
+cond-most : (t : Bool) (x M : ℕ) → x ≤ M → cond t x 0 ≤ M
+cond-most true x M l = l
+cond-most false x M l = omega arith
+
+module _ (own n : ℕ) (sizes costs : List ℕ) (ok : lentRefusal own n sizes costs ≡ 0) where
+  tests : (eqb (length costs) (2 * lentCount own n sizes) ≡ true) × (lentCostsGood costs 0 (lentCount own n sizes) ≡ true)
+  unfolding lentRefusal
+  tests = passed (eqb (length costs) (2 * lentCount own n sizes)) (lentCostsGood costs 0 (lentCount own n sizes)) ok
+
+  -- there are as many costs as n and the sizes need
+  pub lent-length : length costs ≡ 2 * lentCount own n sizes
+  lent-length = eqb-true (length costs) (2 * lentCount own n sizes) (tests .0)
+
+  pub lent-number-most : (i : ℕ) → costNumber costs i ≤ 60000
+  lent-number-most i = go (ltb i (lentCount own n sizes)) refl
+    where
+      go : (t : Bool) → ltb i (lentCount own n sizes) ≡ t → costNumber costs i ≤ 60000
+      go true e = rw zero-add at (costs-at costs 0 (lentCount own n sizes) (tests .1) i (ltb-true i (lentCount own n sizes) e))
+      go false e =
+          let l : length costs ≤ 2 * i = omega (arith, lent-length, ltb-false i (lentCount own n sizes) e) in
+          let z : costNumber costs i ≡ 0 = u16-past costs (2 * i) l in
+          omega (arith, z)
+
+  pub lent-pair-most : (j u v : ℕ) → lentView own n sizes costs .pair j u v ≤ 60000
+  unfolding lentView
+  lent-pair-most j u v =
+      cond-most (not (eqb j (pred own)) && ltb j n && isValue (domIn n sizes j) u && isValue (domIn n sizes (pred own)) v) _ 60000
+      (lent-number-most (otherStart (domIn n sizes) (pred own) j + inOther (domIn n sizes) (pred own) j u v))
+
+  pub lent-cost-most : (values : List ℕ) (k v : ℕ) → costWith (lentView own n sizes costs) values k v ≤ 60000 * k
+  lent-cost-most values k v = cost-most (lentView own n sizes costs) lent-pair-most values k v
+
+  pub lent-h-most : 1 ≤ own → (v : ℕ) → h (lentView own n sizes costs) v ≤ 60000 * (n - own)
+  unfolding lentView
+  lent-h-most l v = let e : suc (pred own) ≡ own = omega arith in rw e at (h-most (lentView own n sizes costs) lent-pair-most v)
+
+  pub lent-estimate-most : own ≤ n → (values : List ℕ) (k : ℕ) → k < own → estimate (lentView own n sizes costs) values k ≤ 60000 * (n - 1)
+  unfolding lentView
+  lent-estimate-most l values k b = let e : suc (pred own) ≡ own = omega arith in omega (arith, rw e at (estimate-most (lentView own n sizes costs) lent-pair-most values k))
+
+  -- 01: "an estimate at most 7,200,000"
+  pub lent-estimate-limit : n ≤ 16 → own ≤ n → (values : List ℕ) (k : ℕ) → k < own → estimate (lentView own n sizes costs) values k ≤ 7200000
+  lent-estimate-limit s l values k b = omega (arith, lent-estimate-most l values k b)
