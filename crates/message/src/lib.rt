@@ -3,11 +3,11 @@
 ghost use mathlib.Core.Path.{_≡_};
 ghost use Prim.Native.Nat.{ℕ, _+_, _≤_, _<_};
 ghost use mathlib.Core.List.{_++_, _∷_, []};
-ghost use lib.ListN.{length, take, drop};
+ghost use lib.ListN.{length, take, drop, getD};
 ghost use Rattle.base.specs.Bytes.{le32};
 ghost use Rattle.message.specs.Message.{kindCode, refusalOf, prefixLimit, placeGood, filledTo, boundGood, noneOrBound, noBound, cpaCount, stampCount, valueCount, costLimit, boundFits, beside, fromTo, directionGood, isUnit, addressGood, wellFormed};
 ghost use Rattle.message.specs.Encode.{body, encode, putAt, putOf};
-ghost use Rattle.message.specs.Decode.{writeRefusal, writeOf};
+ghost use Rattle.message.specs.Decode.{messageIn, kindOf, checkGood, restZero, forUnit, refused, parseKind, parseFor, writeRefusal, writeOf};
 
 // 01: "1 paper, 2 copy, 3 estimate, 4 news, 5 stop".
 pub enum Kind {
@@ -47,6 +47,33 @@ pub const NONE: u32 = 4294967295;
 
 // The most that a bound or an estimate may be.
 const TOTAL_LIMIT: u32 = 7200000;
+
+// A message read: its kind and fields, or the refusal's number: 5, 8, 10, 9.
+pub fn parse(n: u8, sizes: [u8; 16], bytes: &[u8]) -> Parsed
+    ensures { λ r. ⌜ r ≡ parseFor n sizes 0 (now (bytes .entry)) ⌝ }
+{
+    parse_for(n, sizes, 0, bytes)
+}
+
+// The same, where a message for another unit than `own` is refused by 10. With 0 for `own` any receiver will do.
+pub fn parse_for(n: u8, sizes: [u8; 16], own: u8, bytes: &[u8]) -> Parsed
+    ensures { λ r. ⌜ r ≡ parseFor n sizes own (now (bytes .entry)) ⌝ }
+{
+    if !base::shape_good(n, sizes) {
+        return refused(5);
+    }
+    if !check_good(bytes) {
+        return refused(8);
+    }
+    let m = message_in(bytes);
+    if !address_good(n, m) {
+        return refused(10);
+    }
+    if !for_unit(own, m) {
+        return refused(10);
+    }
+    parse_kind(n, sizes, bytes, m)
+}
 
 // A message written first in the lent bytes; 0, or the refusal's number: 5, 10, 9, 13.
 pub fn write(n: u8, sizes: [u8; 16], kind: Kind, m: Message, out: &mut [u8]) -> u8
@@ -298,6 +325,118 @@ fn no_bound(sizes: [u8; 16], bound: u32, best: [u8; 16]) -> bool
         return false;
     }
     filled_to(0, sizes, best)
+}
+
+// Check 9, on the bytes and on the fields read from them.
+fn parse_kind(n: u8, sizes: [u8; 16], bytes: &[u8], m: Message) -> Parsed
+    ensures { λ r. ⌜ r ≡ parseKind n sizes (now (bytes .entry)) m (kindOf (getD (now (bytes .entry)) 0 0)) ⌝ }
+{
+    let answer = kind_of(base::byte_at(bytes, 0));
+    let Read::Good(kind) = answer else {
+        return refused(refusal_of(answer));
+    };
+    if !rest_zero(bytes) {
+        return refused(9);
+    }
+    if !well_formed(n, sizes, kind, m) {
+        return refused(9);
+    }
+    Parsed { answer, message: m }
+}
+
+// A refusal: every field beside its number is zero.
+fn refused(r: u8) -> Parsed
+    ensures { λ p. ⌜ p ≡ refused r ⌝ }
+{
+    Parsed {
+        answer: Read::Refused(r),
+        message: Message {
+            sender: 0,
+            receiver: 0,
+            stamp: [0u8; 16],
+            values: [0u8; 16],
+            cost: 0,
+            bound: 0,
+            best: [0u8; 16],
+        },
+    }
+}
+
+// Check 8: 64 bytes, and the checksum is right.
+fn check_good(bytes: &[u8]) -> bool
+    ensures { λ r. ⌜ r ≡ checkGood (now (bytes .entry)) ⌝ }
+{
+    if bytes.len() != 64 {
+        return false;
+    }
+    base::u16_at(bytes, 62) == checksum::sum(&bytes[0..62])
+}
+
+// Whether bytes 3, 60 and 61 are zero.
+fn rest_zero(bytes: &[u8]) -> bool
+    ensures { λ r. ⌜ r ≡ restZero (now (bytes .entry)) ⌝ }
+{
+    if base::byte_at(bytes, 3) != 0 {
+        return false;
+    }
+    base::u16_at(bytes, 60) == 0
+}
+
+// Whether the message is for this unit, or for any where `own` is 0.
+fn for_unit(own: u8, m: Message) -> bool
+    ensures { λ r. ⌜ r ≡ forUnit own m ⌝ }
+{
+    if own == 0 {
+        return true;
+    }
+    m.receiver == own
+}
+
+// The kind of a byte.
+fn kind_of(b: u8) -> Read
+    ensures { λ r. ⌜ r ≡ kindOf b ⌝ }
+{
+    match b {
+        1 => Read::Good(Kind::Cpa),
+        2 => Read::Good(Kind::Request),
+        3 => Read::Good(Kind::Estimate),
+        4 => Read::Good(Kind::Solution),
+        5 => Read::Good(Kind::Stop),
+        _ => Read::Refused(9),
+    }
+}
+
+// The fields of a message's bytes.
+fn message_in(bytes: &[u8]) -> Message
+    requires { ⌜ length (now bytes) ≡ 64 ⌝ }
+    ensures { λ r. ⌜ r ≡ messageIn (now (bytes .entry)) ⌝ }
+{
+    let stamp = bytes16(bytes, 4);
+    let values = bytes16(bytes, 20);
+    let best = bytes16(bytes, 44);
+    Message {
+        sender: base::byte_at(bytes, 1),
+        receiver: base::byte_at(bytes, 2),
+        stamp,
+        values,
+        cost: base::u32_at(bytes, 36),
+        bound: base::u32_at(bytes, 40),
+        best,
+    }
+}
+
+// 16 bytes from `at` on.
+fn bytes16(bytes: &[u8], at: usize) -> [u8; 16]
+    requires { ⌜ at + 16 ≤ length (now bytes) ⌝ }
+    ensures { λ r. ⌜ r ≡ take 16 (drop at (now (bytes .entry))) ⌝ }
+{
+    let mut r = [0u8; 16];
+    let mut i = 0;
+    while i < 16 {
+        r[i] = bytes[at + i];
+        i += 1;
+    }
+    r
 }
 
 // The 64 bytes of a message.

@@ -12,6 +12,7 @@ use Rattle.message.specs.Decode.{writeRefusal, write-stops, write-done}
 use Rattle.message.proofs.write.Statement.{statement}
 use Rattle.message.proofs.write.Tie as tie
 
+-- the tests that held, each where it did
 shaped : (c : tie.Else1) → let a = c .before .before .before .args in shapeGood (a .n) (a .sizes) ≡ true
 shaped c = sym (c .before .shape-good .ensures) ∙ not-false _ (c .if1 .left)
 

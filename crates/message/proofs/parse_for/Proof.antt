@@ -1,0 +1,95 @@
+-- `parse_for` meets its contract: each refusal is the first check of 01's order that fails; past them check 9 decides.
+-- Assumes nothing.
+use mathlib.Core.Path.{_≡_, sym, ap, _∙_}
+use mathlib.Core.Bool.{true, false, _&&_}
+use borrow.Author.Tests.{not-true, not-false}
+use borrow.Author.Needs.{needs}
+use Rattle.base.specs.Shape.{shapeGood}
+use Rattle.message.specs.Message.{addressGood}
+use Rattle.message.specs.Decode.{messageIn, checkGood, forUnit, kindOf, parseKind, check-length, parse-5, parse-8, parse-10, parse-on}
+use Rattle.message.proofs.parse_for.Statement.{statement}
+use Rattle.message.proofs.parse_for.Tie as tie
+
+-- the checks that held, each where it did
+shaped : (c : tie.Else1) → let a = c .before .before .before .args in shapeGood (a .n) (a .sizes) ≡ true
+shaped c = sym (c .before .shape-good .ensures) ∙ not-false _ (c .if1 .left)
+
+checked : (c : tie.Else2) → checkGood (c .before .before .before .before .before .args .bytes .now) ≡ true
+checked c = sym (c .before .check-good .ensures) ∙ not-false _ (c .if2 .left)
+
+addressed : (c : tie.Else3) → let a = c .before .before .before .before .before .before .before .before .args in addressGood (a .n) (messageIn (a .bytes .now)) ≡ true
+addressed c = rw (← c .before .before .message-in .ensures) (sym (c .before .address-good .ensures) ∙ not-false _ (c .if3 .left))
+
+shape-good-requires : tie.Need-shape-good-requires
+shape-good-requires c κs = search needs
+
+refused-requires : tie.Need-refused-requires
+refused-requires c κs = search needs
+
+returns : tie.Need-returns
+returns c = let a = c .before .before .before .before .args in c .refused .ensures ∙ sym (parse-5 (a .n) (a .sizes) (a .own) (a .bytes .now) (sym (c .before .before .shape-good .ensures) ∙ not-true _ (c .before .if1 .taken)))
+
+check-good-requires : tie.Need-check-good-requires
+check-good-requires c κs = search needs
+
+refused-requires-2 : tie.Need-refused-requires-2
+refused-requires-2 c κs = search needs
+
+returns-2 : tie.Need-returns-2
+returns-2 c = let a = c .before .before .before .before .before .before .args in c .refused2 .ensures ∙ sym (parse-8 (a .n) (a .sizes) (a .own) (a .bytes .now) (shaped (c .before .before .before)) (sym (c .before .before .check-good .ensures) ∙ not-true _ (c .before .if2 .taken)))
+
+message-in-requires : tie.Need-message-in-requires
+message-in-requires c κs = check-length (c .before .before .before .before .before .args .bytes .now) (checked c)
+
+address-good-requires : tie.Need-address-good-requires
+address-good-requires c κs = search needs
+
+refused-requires-3 : tie.Need-refused-requires-3
+refused-requires-3 c κs = search needs
+
+returns-3 : tie.Need-returns-3
+returns-3 c =
+    let a = c .before .before .before .before .before .before .before .before .before .args in
+    let e : addressGood (a .n) (messageIn (a .bytes .now)) ≡ false = rw (← c .before .before .before .message-in .ensures) (sym (c .before .before .address-good .ensures) ∙ not-true _ (c .before .if3 .taken)) in
+    c .refused3 .ensures ∙ sym (parse-10 (a .n) (a .sizes) (a .own) (a .bytes .now) (shaped (c .before .before .before .before .before .before)) (checked (c .before .before .before .before)) (rw e))
+
+for-unit-requires : tie.Need-for-unit-requires
+for-unit-requires c κs = search needs
+
+refused-requires-4 : tie.Need-refused-requires-4
+refused-requires-4 c κs = search needs
+
+returns-4 : tie.Need-returns-4
+returns-4 c =
+    let a = c .before .before .before .before .before .before .before .before .before .before .before .args in
+    let e : forUnit (a .own) (messageIn (a .bytes .now)) ≡ false = rw (← c .before .before .before .before .before .message-in .ensures) (sym (c .before .before .for-unit .ensures) ∙ not-true _ (c .before .if4 .taken)) in
+    c .refused4 .ensures ∙ sym (parse-10 (a .n) (a .sizes) (a .own) (a .bytes .now) (shaped (c .before .before .before .before .before .before .before .before)) (checked (c .before .before .before .before .before .before)) (rw (addressed (c .before .before .before), e)))
+
+parse-kind-requires : tie.Need-parse-kind-requires
+parse-kind-requires c κs = search needs
+
+returns-5 : tie.Need-returns-5
+returns-5 c =
+    let a = c .before .before .before .before .before .before .before .before .before .before .before .args in
+    let e : forUnit (a .own) (messageIn (a .bytes .now)) ≡ true = rw (← c .before .before .before .before .before .message-in .ensures) (sym (c .before .before .for-unit .ensures) ∙ not-false _ (c .before .if4 .left)) in
+    c .parse-kind .ensures ∙ rw (c .before .before .before .before .before .message-in .ensures) (sym (parse-on (a .n) (a .sizes) (a .own) (a .bytes .now) (shaped (c .before .before .before .before .before .before .before .before)) (checked (c .before .before .before .before .before .before)) (rw (addressed (c .before .before .before), e))))
+
+pub parse-for-spec : {M : Type 1} → statement M
+parse-for-spec =
+    tie.close
+    (tie.spec
+    shape-good-requires
+    refused-requires
+    returns
+    check-good-requires
+    refused-requires-2
+    returns-2
+    message-in-requires
+    address-good-requires
+    refused-requires-3
+    returns-3
+    for-unit-requires
+    refused-requires-4
+    returns-4
+    parse-kind-requires
+    returns-5)
