@@ -8,3 +8,4 @@ pub mod Safety
 pub mod Liveness
 pub mod Count
 pub mod Theorem
+pub mod Simulation

@@ -1,0 +1,303 @@
+-- Assigning and backtracking go as the machine's do: from states that correspond, decisions that agree (`assign-agrees`,
+-- `resume-agrees`). By the values left to try; each test of the unit is equal to the machine's, so both take the same branch.
+-- In order: what is sent on backtracking; a value written; the values tried; a CPA in hand; a bound taken.
+-- Assumes nothing.
+use Prim.Native.Nat.{ℕ, zero, suc, _+_, _*_, _-_, _≤_, _<_, pred}
+use mathlib.Core.Path.{_≡_, refl, sym, ap, _∙_, subst}
+use mathlib.Core.Logic.{_⊎_, inl, inr}
+use mathlib.Core.Bool.{Bool, true, false, cond, _||_}
+use mathlib.Core.List.{List, [], _∷_, _++_, reverse}
+use native.Mathlib.Omega.{arith}
+use lib.Dec.{ltb, leb, eqb, eqb·suc-zero}
+use lib.ListN.{length, getD, set, take, length-set}
+use lib.Seq.{getD-set-same, getD-set-other, take-suc, getD-take}
+use borrow.Author.Tests.{eqb-true, lt-ltb}
+use Rattle.costs.specs.Instance.{Instance, View, viewOf}
+use Rattle.costs.specs.Bounds.{costWith, h}
+use Rattle.costs.specs.Laws.{against, costOf, lookaheadOf, problemOf}
+use Rattle.costs.specs.Laws.Prefix.{pre, length-pre, pre-set, pre-set-next, cost-with-prefix, cost-next, lookahead-next}
+use Rattle.message.specs.declared.Kind.the-variants.{Cpa, Request, Estimate, Solution, Stop}
+use Rattle.message.specs.Message.{Packet}
+use Rattle.unit.specs.declared.Unit.{Unit as UnitState}
+use Rattle.unit.specs.State.{zeros, withBest, withEstimates, withCounter, ownValue, left}
+use Rattle.unit.specs.Step as U
+use Rattle.unit.specs.Step.{Out, accepted, bareCost, takeOff, carried, takeLower}
+use Rattle.unit.specs.Send.{packets, each, cpaTo, requestTo, boundTo, handBack, solutions}
+use Rattle.protocol.specs.Machine as M
+use Rattle.protocol.specs.Machine.{Msg, Agent, Record}
+use Rattle.protocol.specs.Simulation.Stamps.{rank, Digits, FilledTo, rank-set, zero-place, zeros-filled, zeros-digits, digits-set, filled-next, filled-off, take-is-prefix}
+use Rattle.protocol.specs.Simulation.Relations.{StampIs, ValuesAre, BestIs, Reads, ReadAll, read-each, read-append, Common, AtRest, InHand, OwnOff, RecordIs, Agrees, agrees-after}
+
+pub less-test : {a a′ d d′ : ℕ} → a ≡ a′ → d ≡ d′ → ltb a d ≡ ltb a′ d′
+less-test p q = λ i. ltb (p i) (q i)
+
+pub most-test : {a a′ d d′ : ℕ} → a ≡ a′ → d ≡ d′ → leb a d ≡ leb a′ d′
+most-test p q = λ i. leb (p i) (q i)
+
+-- the rank of the first places of an array
+rank-take : (m k : ℕ) (l : List ℕ) → k ≤ m → rank k (take m l) ≡ rank k l
+rank-take m zero l le = refl
+rank-take m (suc k) l le = omega (arith, rank-take m k l (omega arith), getD-take m l k 0 le)
+
+module _ (I : Instance) where
+  -- ---- backtracking
+
+  solutions-read : (k : ℕ) (better : Bool) (s : UnitState) (u : Agent) → Common I k s u
+      → ReadAll I (solutions (I .n) k better (carried (viewOf I k) s)) (M.announce (problemOf I) k better u)
+  solutions-read k true s u b =
+      read-append I (each g 0 k) (each g (suc k) (I .n - suc k)) (M.toEach g′ 0 k) (M.toEach g′ (suc k) (I .n - suc k))
+      (read-each I g g′ 0 k (λ j lo hi. (refl, refl, b .bound, b .best)))
+      (read-each I g g′ (suc k) (I .n - suc k) (λ j lo hi. (refl, refl, b .bound, b .best)))
+    where
+      g : ℕ → Packet
+      g = boundTo Solution (carried (viewOf I k) s)
+
+      g′ : ℕ → Msg
+      g′ j = M.solution j (u .bound) (u .best)
+  solutions-read k false s u b = tt
+
+  hand-back-read : (k v : ℕ) (s : UnitState) (u : Agent) → OwnOff I k v s u
+      → ReadAll I (handBack (I .n) k (carried (viewOf I k) s)) (M.giveBack (problemOf I) k u)
+  hand-back-read zero v s u b =
+      let e : I .n - 1 ≡ pred (I .n) = omega arith in
+      subst (λ m. ReadAll I (each (boundTo Stop (carried (viewOf I 0) s)) 1 m) (M.giveBack (problemOf I) 0 u)) (sym e)
+      (read-each I (boundTo Stop (carried (viewOf I 0) s)) (λ j. M.stop j (u .bound) (u .best)) 1 (pred (I .n)) (λ j lo hi. (refl, refl, b .common .bound, b .common .best)))
+  hand-back-read (suc k) v s u b = ((refl, refl, omega arith, b .stamp, b .values, b .cost, b .common .bound, b .common .best), tt)
+
+  stopped-after : (k : ℕ) (s : UnitState) (u : Agent) → s .stopped ≡ u .stopped → (eqb k 0 || s .stopped) ≡ M.stoppedAfter k u
+  stopped-after zero s u e = refl
+  stopped-after (suc k) s u e = ap (λ t. t || s .stopped) (eqb·suc-zero k) ∙ e
+
+  pub backtrack-agrees : (k : ℕ) → k < 16 → (v : ℕ) (better : Bool) (s : UnitState) (u : Agent) → OwnOff I k v s u → getD (s .threshold) k 0 ≤ 30
+      → Agrees I k (u .log) (U.backtrack (viewOf I k) better s) (M.backtrack (problemOf I) k better u)
+  unfolding U.backtrack packets
+  backtrack-agrees k k16 v better s u b small = (
+    record {
+      common = record {
+        size = length-set (s .threshold) k _ ∙ b .common .size;
+        digits = digits-set (s .threshold) k (suc (getD (s .threshold) k 0)) (b .common .size) k16 (b .common .digits) (omega arith);
+        threshold =
+            omega (
+              arith,
+              rank-set k k (s .threshold) (suc (getD (s .threshold) k 0)) (omega arith),
+              getD-set-same (s .threshold) k (suc (getD (s .threshold) k 0)) 0 (omega (arith, b .common .size)),
+              b .common .threshold,
+            );
+        bound = b .common .bound;
+        best = b .common .best;
+        counter = b .common .counter;
+        stopped = stopped-after k s u (b .common .stopped);
+      };
+      estimates-size = refl;
+      estimates = λ j lt. zero-place j;
+      own = zero-place k;
+      stamp-filled = zeros-filled (suc k);
+      stamp-digits = zeros-digits;
+      values-filled = zeros-filled (suc k);
+      prefixStamp = λ z. absurd (omega arith);
+      own-stamp = λ z. absurd (omega arith);
+      prefix = λ z. absurd (omega arith);
+      cost = λ z. absurd (omega arith);
+    },
+    read-append I (handBack (I .n) k (carried (viewOf I k) s)) (solutions (I .n) k better (carried (viewOf I k) s)) (M.giveBack (problemOf I) k u) (M.announce (problemOf I) k better u)
+        (hand-back-read k v s u b) (solutions-read k better s u (b .common)),
+    refl,
+  )
+
+  -- ---- a value written
+
+  module _ (k : ℕ) (k16 : k < 16) where
+    w : View
+    w = viewOf I k
+
+    next-cost : (v : ℕ) (s : UnitState) (u : Agent) → OwnOff I k v s u → s .cost + costWith (viewOf I k) (s .values) k (suc v) ≡ costOf I (suc (u .own) ∷ u .prefix)
+    next-cost v s u b =
+        ap (λ z. z + costWith (viewOf I k) (s .values) k (suc v)) (b .cost)
+        ∙ subst (λ z. costOf I z + costWith (viewOf I k) (s .values) k (suc v) ≡ costOf I (suc v ∷ z)) (b .values .are) (cost-next I k (s .values) (suc v))
+        ∙ ap (λ z. costOf I (suc z ∷ u .prefix)) (b .tried)
+
+    next-lookahead : (v : ℕ) (s : UnitState) (u : Agent) → OwnOff I k v s u
+        → s .cost + costWith (viewOf I k) (s .values) k (suc v) + h (viewOf I k) (suc v) ≡ lookaheadOf I (suc (u .own) ∷ u .prefix)
+    next-lookahead v s u b =
+        ap (λ z. z + costWith (viewOf I k) (s .values) k (suc v) + h (viewOf I k) (suc v)) (b .cost)
+        ∙ subst (λ z. costOf I z + costWith (viewOf I k) (s .values) k (suc v) + h (viewOf I k) (suc v) ≡ lookaheadOf I (suc v ∷ z)) (b .values .are) (lookahead-next I k (s .values) (suc v))
+        ∙ ap (λ z. lookaheadOf I (suc z ∷ u .prefix)) (b .tried)
+
+    written-values : (v : ℕ) (s : UnitState) (u : Agent) → OwnOff I k v s u → ValuesAre (suc k) (set (s .values) k (suc v)) (suc (u .own) ∷ u .prefix)
+    written-values v s u b =
+        record {
+          filled = filled-next (s .values) k (suc v) (b .values .filled);
+          are = pre-set-next k (s .values) (suc v) (omega (arith, b .values .filled .size)) ∙ (λ i. suc (b .tried i) ∷ b .values .are i);
+        }
+
+    written-stamp : (v : ℕ) (s : UnitState) (u : Agent) → OwnOff I k v s u → u .counter ≤ 30
+        → StampIs (suc k) (set (s .stamp) k (suc (s .counter))) (u .prefixStamp * 32 + suc (u .counter))
+    written-stamp v s u b hc =
+        record {
+          filled = filled-next (s .stamp) k (suc (s .counter)) (b .stamp .filled);
+          digits = digits-set (s .stamp) k (suc (s .counter)) (b .stamp .filled .size) k16 (b .stamp .digits) (omega (arith, b .common .counter));
+          is =
+              omega (
+                arith,
+                rank-set k k (s .stamp) (suc (s .counter)) (omega arith),
+                getD-set-same (s .stamp) k (suc (s .counter)) 0 (omega (arith, b .stamp .filled .size)),
+                b .stamp .is,
+                b .common .counter,
+              );
+        }
+
+    write-at-rest : (v c : ℕ) (s : UnitState) (u : Agent) → OwnOff I k v s u → s .estimates ≡ zeros → u .counter ≤ 30 → c ≡ costOf I (suc (u .own) ∷ u .prefix)
+        → AtRest I k (U.write (viewOf I k) (suc v) c s) (M.write u)
+    write-at-rest v c s u b z hc ec =
+        record {
+          common = record {
+            size = st .filled .size;
+            digits = st .digits;
+            threshold = st .is;
+            bound = b .common .bound;
+            best = b .common .best;
+            counter = ap suc (b .common .counter);
+            stopped = b .common .stopped;
+          };
+          estimates-size = ap length z;
+          estimates = λ j lt. ap (λ e. getD e j 0) z ∙ zero-place j;
+          own = getD-set-same (s .values) k (suc v) 0 (omega (arith, b .values .filled .size)) ∙ ap suc (b .tried);
+          stamp-filled = st .filled;
+          stamp-digits = st .digits;
+          values-filled = filled-next (s .values) k (suc v) (b .values .filled);
+          prefixStamp = λ o. rank-set k k (s .stamp) (suc (s .counter)) (omega arith) ∙ b .stamp .is;
+          own-stamp = λ o. getD-set-same (s .stamp) k (suc (s .counter)) 0 (omega (arith, b .stamp .filled .size)) ∙ ap suc (b .common .counter);
+          prefix = λ o. pre-set k k (s .values) (suc v) (omega arith) ∙ b .values .are;
+          cost = λ o. ec;
+        }
+      where
+        st : StampIs (suc k) (set (s .stamp) k (suc (s .counter))) (u .prefixStamp * 32 + suc (u .counter))
+        st = written-stamp v s u b hc
+
+    forward-read : (v c : ℕ) (s : UnitState) (u : Agent) → OwnOff I k v s u → u .counter ≤ 30 → c ≡ costOf I (suc (u .own) ∷ u .prefix)
+        → ReadAll I (cpaTo (carried (viewOf I k) (U.write (viewOf I k) (suc v) c s)) (suc k)
+        ∷ each (requestTo (carried (viewOf I k) (U.write (viewOf I k) (suc v) c s))) (suc k) (I .n - suc k))
+        (M.sendDown (problemOf I) k (M.write u))
+    forward-read v c s u b hc ec = (
+      (refl, refl, omega arith, st, vs, ec, b .common .bound, b .common .best),
+      read-each I (requestTo (carried (viewOf I k) (U.write (viewOf I k) (suc v) c s))) (λ j. M.request j k (M.stamp (M.write u)) (M.values (M.write u))) (suc k) (I .n - suc k)
+          (λ j lo hi. (refl, refl, refl, st, vs)),
+    )
+      where
+        st : StampIs (suc k) (set (s .stamp) k (suc (s .counter))) (u .prefixStamp * 32 + suc (u .counter))
+        st = written-stamp v s u b hc
+
+        vs : ValuesAre (suc k) (set (s .values) k (suc v)) (suc (u .own) ∷ u .prefix)
+        vs = written-values v s u b
+
+    record-read : (v c : ℕ) (s : UnitState) (u : Agent) → OwnOff I k v s u → u .counter ≤ 30
+        → RecordIs k (U.recordOf (viewOf I k) (U.write (viewOf I k) (suc v) c s)) (M.nextRecord u)
+    record-read v c s u b hc = (
+      refl,
+      take-is-prefix (suc k) (set (s .values) k (suc v)) (omega (arith, length-set (s .values) k (suc v), b .values .filled .size)) ∙ ap reverse (written-values v s u b .are),
+      rank-take (suc k) (suc k) (set (s .stamp) k (suc (s .counter))) (omega arith) ∙ written-stamp v s u b hc .is,
+    )
+
+    -- unit n: the new best, and the value taken off again
+    solved-cost : (v : ℕ) (s : UnitState) (u : Agent) → OwnOff I k v s u
+        → s .cost + costWith (viewOf I k) (s .values) k (suc v)
+        - costWith (viewOf I k) (set (s .values) k (suc v)) k (getD (set (s .values) k (suc v)) k 0)
+        ≡ costOf I (u .prefix)
+    solved-cost v s u b =
+        let e : getD (set (s .values) k (suc v)) k 0 ≡ suc v = getD-set-same (s .values) k (suc v) 0 (omega (arith, b .values .filled .size)) in
+        let a : costWith (viewOf I k) (set (s .values) k (suc v)) k (suc v) ≡ costWith (viewOf I k) (s .values) k (suc v) =
+        cost-with-prefix I k (set (s .values) k (suc v)) k (suc v) (omega arith) ∙ ap (against I k (suc v)) (pre-set k k (s .values) (suc v) (omega arith))
+        ∙ sym (cost-with-prefix I k (s .values) k (suc v) (omega arith)) in
+        subst (λ x. s .cost + costWith (viewOf I k) (s .values) k (suc v) - costWith (viewOf I k) (set (s .values) k (suc v)) k x ≡ costOf I (u .prefix)) (sym e)
+        (omega (arith, a, b .cost))
+
+    solved-off : (v : ℕ) (s : UnitState) (u : Agent) → OwnOff I k v s u → u .counter ≤ 30 → suc k ≡ I .n
+        → OwnOff I k (suc v)
+        (takeOff (viewOf I k)
+        (withBest (s .cost + costWith (viewOf I k) (s .values) k (suc v)) (set (s .values) k (suc v))
+        (U.write (viewOf I k) (suc v) (s .cost + costWith (viewOf I k) (s .values) k (suc v)) s)))
+        (M.solved (problemOf I) (M.write u))
+    solved-off v s u b hc last =
+        record {
+          common = record {
+            size = st .filled .size;
+            digits = st .digits;
+            threshold = st .is;
+            bound = next-cost v s u b;
+            best = inr (subst (λ x. pre x (set (s .values) k (suc v)) ≡ suc (u .own) ∷ u .prefix) last (written-values v s u b .are));
+            counter = ap suc (b .common .counter);
+            stopped = b .common .stopped;
+          };
+          tried = ap suc (b .tried);
+          stamp = record {
+            filled = filled-off (set (s .stamp) k (suc (s .counter))) k k16 (st .filled);
+            digits = digits-set (set (s .stamp) k (suc (s .counter))) k 0 (st .filled .size) k16 (st .digits) (omega arith);
+            is = rank-set k k (set (s .stamp) k (suc (s .counter))) 0 (omega arith) ∙ rank-set k k (s .stamp) (suc (s .counter)) (omega arith) ∙ b .stamp .is;
+          };
+          values = record {
+            filled = filled-off (set (s .values) k (suc v)) k k16 (filled-next (s .values) k (suc v) (b .values .filled));
+            are = pre-set k k (set (s .values) k (suc v)) 0 (omega arith) ∙ pre-set k k (s .values) (suc v) (omega arith) ∙ b .values .are;
+          };
+          cost = solved-cost v s u b;
+        }
+      where
+        st : StampIs (suc k) (set (s .stamp) k (suc (s .counter))) (u .prefixStamp * 32 + suc (u .counter))
+        st = written-stamp v s u b hc
+
+    -- ---- the values tried, m of them left
+
+    pub try-agrees : (m v : ℕ) (better : Bool) (s : UnitState) (u : Agent) → OwnOff I k v s u → s .estimates ≡ zeros
+        → u .threshold ≡ u .prefixStamp * 32 + u .counter → u .counter + m ≤ 30
+        → Agrees I k (u .log) (U.tryAfter (viewOf I k) m v better s) (M.tryFrom (problemOf I) k m better u)
+    unfolding U.tryAfter packets
+    try-agrees zero v better s u b z e hc = backtrack-agrees k k16 v better s u b (omega (arith, b .common .threshold, b .common .digits k))
+    try-agrees (suc m) v better s u b z e hc =
+        subst (λ t. Agrees I k (u .log) (U.tryValue (viewOf I k) t (suc v) c better s (λ (x : Bool) (t : UnitState). U.tryAfter (viewOf I k) m (suc v) x t))
+        (M.tryNext (problemOf I) k (ltb (lookaheadOf I (suc (u .own) ∷ u .prefix)) (u .bound)) better u (λ x t. M.tryFrom (problemOf I) k m x t)))
+        (sym (less-test (next-lookahead v s u b) (b .common .bound)))
+        (next (ltb (lookaheadOf I (suc (u .own) ∷ u .prefix)) (u .bound)) (λ x t q y f. try-agrees m (suc v) x t q y f))
+      where
+        IH : Type 0
+        IH = (x : Bool) (t : UnitState) (q : Agent) → OwnOff I k (suc v) t q → t .estimates ≡ zeros → q .threshold ≡ q .prefixStamp * 32 + q .counter → q .counter + m ≤ 30
+            → Agrees I k (q .log) (U.tryAfter (viewOf I k) m (suc v) x t) (M.tryFrom (problemOf I) k m x q)
+
+        c : ℕ
+        c = s .cost + costWith (viewOf I k) (s .values) k (suc v)
+
+        last : (t : Bool) → eqb (suc k) (I .n) ≡ t → IH
+            → Agrees I k (u .log) (U.afterWrite (viewOf I k) t (U.write (viewOf I k) (suc v) c s) (λ (x : Bool) (t : UnitState). U.tryAfter (viewOf I k) m (suc v) x t))
+            (M.afterWrite (problemOf I) k t (M.write u) (λ x t. M.tryFrom (problemOf I) k m x t))
+        last true q ih =
+            agrees-after I k (u .log) (U.recordOf (viewOf I k) (U.write (viewOf I k) (suc v) c s)) (M.nextRecord u)
+            (U.tryAfter (viewOf I k) m (suc v) true (takeOff (viewOf I k) (withBest c (set (s .values) k (suc v)) (U.write (viewOf I k) (suc v) c s))))
+            (M.tryFrom (problemOf I) k m true (M.solved (problemOf I) (M.write u)))
+            (record-read v c s u b (omega arith))
+            (ih true (takeOff (viewOf I k) (withBest c (set (s .values) k (suc v)) (U.write (viewOf I k) (suc v) c s))) (M.solved (problemOf I) (M.write u))
+            (solved-off v s u b (omega arith) (eqb-true (suc k) (I .n) q)) z refl (omega arith))
+        last false q ih = (
+          write-at-rest v c s u b z (omega arith) (next-cost v s u b),
+          forward-read v c s u b (omega arith) (next-cost v s u b),
+          (M.nextRecord u, record-read v c s u b (omega arith), refl),
+        )
+
+        next : (t : Bool) → IH
+            → Agrees I k (u .log) (U.tryValue (viewOf I k) t (suc v) c better s (λ (x : Bool) (t : UnitState). U.tryAfter (viewOf I k) m (suc v) x t))
+            (M.tryNext (problemOf I) k t better u (λ x t. M.tryFrom (problemOf I) k m x t))
+        next true ih = last (eqb (suc k) (I .n)) refl ih
+        next false ih =
+            ih better s (M.skip u)
+            (record {
+              common = record {
+                size = b .common .size;
+                digits = b .common .digits;
+                threshold = b .common .threshold;
+                bound = b .common .bound;
+                best = b .common .best;
+                counter = b .common .counter;
+                stopped = b .common .stopped;
+              };
+              tried = ap suc (b .tried);
+              stamp = b .stamp;
+              values = b .values;
+              cost = b .cost;
+            }) z e (omega arith)

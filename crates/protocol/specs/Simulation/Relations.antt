@@ -1,0 +1,142 @@
+-- What corresponds: a packet to a message of the machine, a unit's state to an agent at rest, with its CPA in hand and with the own
+-- value off, and what a unit decides to what the machine's step gives.
+-- In order: stamps and values; packets; states; decisions, with their records.
+-- Assumes nothing.
+use Prim.Native.Nat.{ℕ, zero, suc, _+_, _*_, _-_, _≤_, _<_}
+use mathlib.Core.Path.{_≡_, refl}
+use mathlib.Core.Logic.{_⊎_}
+use mathlib.Core.Bool.{Bool, true, false}
+use mathlib.Core.List.{List, [], _∷_, _++_, reverse}
+use native.Mathlib.Omega.{arith}
+use lib.ListN.{length, getD}
+use Rattle.costs.specs.Instance.{Instance, View, viewOf}
+use Rattle.costs.specs.Laws.{costOf, problemOf}
+use Rattle.costs.specs.Laws.Prefix.{pre}
+use Rattle.message.specs.declared.Kind.the-variants.{Cpa, Request, Estimate, Solution, Stop}
+use Rattle.message.specs.Message.{Packet}
+use Rattle.unit.specs.declared.Unit.{Unit as UnitState}
+use Rattle.unit.specs.State.{ownValue}
+use Rattle.unit.specs.Step.{Out, refused, accepted, Written, after, bareCost}
+use Rattle.unit.specs.Send.{packets, each}
+use Rattle.protocol.specs.Machine as M
+use Rattle.protocol.specs.Machine.{Msg, Agent, Result, Record, valuesOf, stampOf, toEach}
+use Rattle.protocol.specs.Simulation.Stamps.{rank, Digits, FilledTo}
+
+-- ---- stamps and values, filled for the first f units
+
+pub record StampIs (f : ℕ) (l : List ℕ) (s : ℕ) : Type 0 where
+  pub filled : FilledTo f l
+  pub digits : Digits l
+  pub is : rank f l ≡ s
+
+pub record ValuesAre (f : ℕ) (l b : List ℕ) : Type 0 where
+  pub filled : FilledTo f l
+  pub are : pre f l ≡ b
+
+module _ (I : Instance) where
+  -- the machine's best is empty, or read off the array
+  abbrev pub BestIs : List ℕ → List ℕ → Type 0
+  BestIs a l = (l ≡ []) ⊎ (pre (I .n) a ≡ l)
+
+  -- ---- packets
+
+  abbrev pub Reads : Packet → Msg → Type 0
+  Reads p (M.down k s b B l) =
+      (p .kind ≡ Cpa) × (p .message .receiver ≡ suc k) × (p .message .sender < suc k) × StampIs k (p .message .stamp) s × ValuesAre k (p .message .values) b
+      × (p .message .cost ≡ costOf I b) × (p .message .bound ≡ B) × BestIs (p .message .best) l
+  Reads p (M.back k s b B l) =
+      (p .kind ≡ Cpa) × (p .message .receiver ≡ suc k) × (suc k < p .message .sender) × StampIs (suc k) (p .message .stamp) s × ValuesAre (suc k) (p .message .values) b
+      × (p .message .cost ≡ costOf I b) × (p .message .bound ≡ B) × BestIs (p .message .best) l
+  Reads p (M.request k j s b) =
+      (p .kind ≡ Request) × (p .message .receiver ≡ suc k) × (p .message .sender ≡ suc j) × StampIs (suc j) (p .message .stamp) s × ValuesAre (suc j) (p .message .values) b
+  Reads p (M.estimate k j s e) =
+      (p .kind ≡ Estimate) × (p .message .receiver ≡ suc k) × (p .message .sender ≡ suc j) × StampIs (suc k) (p .message .stamp) s × (p .message .cost ≡ e)
+  Reads p (M.solution k B l) = (p .kind ≡ Solution) × (p .message .receiver ≡ suc k) × (p .message .bound ≡ B) × BestIs (p .message .best) l
+  Reads p (M.stop k B l) = (p .kind ≡ Stop) × (p .message .receiver ≡ suc k) × (p .message .bound ≡ B) × BestIs (p .message .best) l
+
+  -- packets read one by one
+  abbrev pub ReadAll : List Packet → List Msg → Type 0
+  ReadAll [] [] = Unit {0}
+  ReadAll [] (y ∷ ys) = ⊥
+  ReadAll (x ∷ xs) [] = ⊥
+  ReadAll (x ∷ xs) (y ∷ ys) = Reads x y × ReadAll xs ys
+
+  pub read-each : (g : ℕ → Packet) (g′ : ℕ → Msg) (lo m : ℕ) → ((j : ℕ) → lo ≤ j → j < lo + m → Reads (g j) (g′ j)) → ReadAll (each g lo m) (toEach g′ lo m)
+  unfolding each
+  read-each g g′ lo zero f = tt
+  read-each g g′ lo (suc m) f = (f lo (omega arith) (omega arith), read-each g g′ (suc lo) m (λ j a b. f j (omega arith) (omega arith)))
+
+  pub read-append : (a b : List Packet) (c d : List Msg) → ReadAll a c → ReadAll b d → ReadAll (a ++ b) (c ++ d)
+  read-append [] b [] d h g = g
+  read-append [] b (y ∷ c) d h g = absurd h
+  read-append (x ∷ a) b [] d h g = absurd h
+  read-append (x ∷ a) b (y ∷ c) d h g = (h .0, read-append a b c d (h .1) g)
+
+-- ---- states of the unit at place k
+
+-- what holds whether the CPA has an own value or not
+pub record Common (I : Instance) (k : ℕ) (s : UnitState) (u : Agent) : Type 0 where
+  pub size : length (s .threshold) ≡ 16
+  pub digits : Digits (s .threshold)
+  pub threshold : rank (suc k) (s .threshold) ≡ u .threshold
+  pub bound : s .bound ≡ u .bound
+  pub best : BestIs I (s .best) (u .best)
+  pub counter : s .counter ≡ u .counter
+  pub stopped : s .stopped ≡ u .stopped
+
+-- at rest: between two messages
+pub record AtRest (I : Instance) (k : ℕ) (s : UnitState) (u : Agent) : Type 0 where
+  pub common : Common I k s u
+  pub estimates-size : length (s .estimates) ≡ 16
+  pub estimates : (j : ℕ) → j < 16 → getD (s .estimates) j 0 ≡ u .estimates j
+  pub own : ownValue (viewOf I k) s ≡ u .own
+  pub stamp-filled : FilledTo (suc k) (s .stamp)
+  pub stamp-digits : Digits (s .stamp)
+  pub values-filled : FilledTo (suc k) (s .values)
+  pub prefixStamp : 1 ≤ u .own → rank k (s .stamp) ≡ u .prefixStamp
+  pub own-stamp : 1 ≤ u .own → getD (s .stamp) k 0 ≡ u .counter
+  pub prefix : 1 ≤ u .own → pre k (s .values) ≡ u .prefix
+  pub cost : 1 ≤ u .own → s .cost ≡ costOf I (M.values u)
+
+-- a CPA in hand, with its own value or without
+pub record InHand (I : Instance) (k : ℕ) (s : UnitState) (u : Agent) : Type 0 where
+  pub common : Common I k s u
+  pub own : ownValue (viewOf I k) s ≡ u .own
+  pub stamp-filled : FilledTo (suc k) (s .stamp)
+  pub stamp-digits : Digits (s .stamp)
+  pub prefixStamp : rank k (s .stamp) ≡ u .prefixStamp
+  pub values-filled : FilledTo (suc k) (s .values)
+  pub prefix : pre k (s .values) ≡ u .prefix
+  pub cost : bareCost (viewOf I k) s ≡ costOf I (u .prefix)
+
+-- the own value off; v is the last value tried
+pub record OwnOff (I : Instance) (k v : ℕ) (s : UnitState) (u : Agent) : Type 0 where
+  pub common : Common I k s u
+  pub tried : v ≡ u .own
+  pub stamp : StampIs k (s .stamp) (u .prefixStamp)
+  pub values : ValuesAre k (s .values) (u .prefix)
+  pub cost : s .cost ≡ costOf I (u .prefix)
+
+-- ---- decisions
+
+-- a record of the unit at place k
+abbrev pub RecordIs : ℕ → Written → Record → Type 0
+RecordIs k r q = (r .unit ≡ suc k) × (r .values ≡ reverse (valuesOf q)) × (rank (suc k) (r .stamp) ≡ stampOf q)
+
+-- the log L, newest first, grows by the records ws, oldest first, to L′
+abbrev pub Grown : ℕ → List Record → List Written → List Record → Type 0
+Grown k L [] L′ = L′ ≡ L
+Grown k L (r ∷ ws) L′ = (q : Record) × RecordIs k r q × Grown k (q ∷ L) ws L′
+
+-- The machine refuses by 11 only.
+abbrev pub Agrees : Instance → ℕ → List Record → Out → Result → Type 0
+Agrees I k L (refused r) M.refused = Unit {0}
+Agrees I k L (refused r) (M.done u ms) = ⊥
+Agrees I k L (accepted s p ws) M.refused = ⊥
+Agrees I k L (accepted s p ws) (M.done u ms) = AtRest I k s u × ReadAll I (packets (I .n) k p) ms × Grown k L ws (u .log)
+
+pub agrees-after : (I : Instance) (k : ℕ) (L : List Record) (r : Written) (q : Record) (o : Out) (res : Result) → RecordIs k r q → Agrees I k (q ∷ L) o res → Agrees I k L (after r o) res
+agrees-after I k L r q (refused x) M.refused e h = tt
+agrees-after I k L r q (refused x) (M.done u ms) e h = h
+agrees-after I k L r q (accepted s p ws) M.refused e h = h
+agrees-after I k L r q (accepted s p ws) (M.done u ms) e h = (h .0, h .1, (q, e, h .2))

@@ -1,0 +1,465 @@
+-- Each message: the unit decides what the machine's step gives (`step-agrees`), for a message and a state that correspond to the
+-- machine's, where the machine's invariants hold. The two compare stamps alike (Stamps.antt), so they take the same branch.
+-- In order: what holds of the unit; CPAs going down and back; requests; estimates; solutions and stops; any message.
+-- Assumes nothing.
+use Prim.Native.Nat.{ℕ, zero, suc, _+_, _*_, _-_, _/_, _^_, _≤_, _<_}
+use mathlib.Core.Path.{_≡_, refl, sym, ap, _∙_, subst}
+use mathlib.Core.Logic.{_⊎_, inl, inr}
+use mathlib.Core.Bool.{Bool, true, false, cond, _&&_}
+use mathlib.Core.List.{List, [], _∷_}
+use native.Mathlib.Omega.{arith}
+use lib.Dec.{ltb, leb, eqb}
+use lib.ListN.{length, getD, set, length-set}
+use lib.Seq.{getD-set-same, getD-set-other}
+use borrow.Author.Tests.{ltb-true, ltb-false, eqb-true, eqb-false, lt-ltb, le-ltb}
+use Rattle.base.specs.Sums.{sumFrom}
+use Rattle.costs.specs.Instance.{Instance, View, viewOf}
+use Rattle.costs.specs.Bounds.{costWith, estimate}
+use Rattle.costs.specs.Problem.{Laws}
+use Rattle.costs.specs.Laws.{against, costOf, estimateOf, problemOf}
+use Rattle.costs.specs.Laws.Prefix.{pre, length-pre, cost-with-prefix, cost-next, estimate-prefix}
+use Rattle.message.specs.declared.Message.{Message}
+use Rattle.message.specs.declared.Kind.the-variants.{Cpa, Request, Estimate, Solution, Stop}
+use Rattle.message.specs.Message.{Packet}
+use Rattle.unit.specs.declared.Unit.{Unit as UnitState}
+use Rattle.unit.specs.declared.Order.{Order}
+use Rattle.unit.specs.declared.Order.the-variants.{Smaller, Equal, Bigger}
+use Rattle.unit.specs.State.{withThreshold, withCpa, withEstimates, withStopped, ownValue, compareOn, sameOn}
+use Rattle.unit.specs.Step as U
+use Rattle.unit.specs.Step.{accepted, silent, bareCost, takeBound, takeLower, reply, stored, sumLater}
+use Rattle.unit.specs.Send.{packets}
+use Rattle.protocol.specs.Machine as M
+use Rattle.protocol.specs.Machine.{Msg, Agent}
+use Rattle.protocol.specs.Tests.{eqb-same, and-true, same-refl}
+use Rattle.protocol.specs.Safety.Facts.{History, OnLog, ValidMsg, Before, CpaOut, Good}
+use Rattle.protocol.specs.Safety.Step.{the-cpa-out}
+use Rattle.protocol.specs.Simulation.Stamps.{rank, Digits, FilledTo, filled-more, rank-pad, Compared, order-of-ranks, same-ranks, same-prefixes}
+use Rattle.protocol.specs.Simulation.Relations.{StampIs, ValuesAre, BestIs, Reads, Common, AtRest, InHand, Agrees}
+use Rattle.protocol.specs.Simulation.Assign.{less-test, most-test}
+use Rattle.protocol.specs.Simulation.Resume.{ReadyToAssign, assign-agrees, lower-log, resume-lower}
+
+-- A unit without a value costs nothing.
+abbrev pub FreeWhenUnassigned : Instance → Type 0
+FreeWhenUnassigned I = (i u j : ℕ) → I .cost i u j 0 ≡ 0
+
+against-unassigned : (I : Instance) → FreeWhenUnassigned I → (j : ℕ) (b : List ℕ) → against I j 0 b ≡ 0
+against-unassigned I free j [] = refl
+against-unassigned I free j (u ∷ b) = omega (arith, free (length b) u j, against-unassigned I free j b)
+
+-- What the theory knows of its unit: it is good, and the message is valid.
+module _ (I : Instance) (free : FreeWhenUnassigned I) (laws : Laws (problemOf I)) (n16 : I .n ≤ 16) (k : ℕ) (k<n : k < I .n) (Past : History) (X : ℕ)
+    (bf : Before (problemOf I) k Past X) (s : UnitState) (u : Agent) (r : AtRest I k s u) (g : Good (problemOf I) k Past X u)
+    (own : (x : ℕ) (b : List ℕ) → Past (suc k) x b → OnLog (u .log) x b) where
+  k16 : k < 16
+  k16 = omega (arith, k<n, n16)
+
+  -- ---- the unit
+
+  unchanged : Agrees I k (u .log) (U.stale s) (M.done u [])
+  unfolding packets
+  unchanged = (r, tt, refl)
+
+  -- the CPA out, taken in hand
+  out-in-hand : 1 ≤ u .own → InHand I k s u
+  out-in-hand o =
+      record {
+        common = r .common;
+        own = r .own;
+        stamp-filled = r .stamp-filled;
+        stamp-digits = r .stamp-digits;
+        prefixStamp = r .prefixStamp o;
+        values-filled = r .values-filled;
+        prefix = r .prefix o;
+        cost =
+            let a : costOf I (ownValue (viewOf I k) s ∷ pre k (s .values)) ≡ s .cost = (λ i. costOf I (r .own i ∷ r .prefix o i)) ∙ sym (r .cost o) in
+            let b : costOf I (pre k (s .values)) ≡ costOf I (u .prefix) = ap (costOf I) (r .prefix o) in
+            omega (arith, a, b, cost-next I k (s .values) (ownValue (viewOf I k) s));
+      }
+
+  recount-out : (v c : ℕ) → 1 ≤ v → M.recount v c ≡ c
+  recount-out zero c h = absurd (omega arith)
+  recount-out (suc v) c h = refl
+
+  out-ready : 1 ≤ u .own → u .threshold ≡ M.stamp u → ReadyToAssign I k k16 u
+  out-ready o e =
+      let p = g .cpa o in
+      let c = recount-out (u .own) (u .counter) o in
+      (omega (arith, e, c), omega (arith, c, p .counter, p .own, laws .size-le-16 k))
+
+  -- a message's stamp against the threshold
+  against-threshold : (l : List ℕ) (x : ℕ) → Digits l → rank (suc k) l ≡ x → Compared (compareOn (suc k) l (s .threshold)) x (u .threshold)
+  against-threshold l x d e =
+      subst (λ z. Compared (compareOn (suc k) l (s .threshold)) z (u .threshold)) e
+      (subst (λ z. Compared (compareOn (suc k) l (s .threshold)) (rank (suc k) l) z) (r .common .threshold) (order-of-ranks (suc k) l (s .threshold) d (r .common .digits)))
+
+  -- ---- a CPA going down
+
+  received-in-hand : (m : Message) (t : List ℕ) (x : ℕ) (b : List ℕ) → length t ≡ 16 → Digits t → rank (suc k) t ≡ x * 32 → StampIs k (m .stamp) x → ValuesAre k (m .values) b
+      → m .cost ≡ costOf I b → InHand I k (withCpa (m .stamp) (m .values) (m .cost) (withThreshold t s)) (M.received x b u)
+  received-in-hand m t x b len d e st vs ec =
+      record {
+        common = record { size = len; digits = d; threshold = e; bound = r .common .bound; best = r .common .best; counter = r .common .counter; stopped = r .common .stopped };
+        own = none;
+        stamp-filled = filled-more (m .stamp) k (suc k) (omega arith) (st .filled);
+        stamp-digits = st .digits;
+        prefixStamp = st .is;
+        values-filled = filled-more (m .values) k (suc k) (omega arith) (vs .filled);
+        prefix = vs .are;
+        cost =
+            subst (λ z. m .cost - costWith (viewOf I k) (m .values) k z ≡ costOf I b) (sym none)
+            (omega (arith, ec, cost-with-prefix I k (m .values) k 0 (omega arith), against-unassigned I free k (pre k (m .values))));
+      }
+    where
+      none : getD (m .values) k 0 ≡ 0
+      none = vs .filled .rest k (omega arith)
+
+  down-agrees : (p : Packet) (x : ℕ) (b : List ℕ) (B : ℕ) (l : List ℕ) → Reads I p (M.down k x b B l)
+      → Agrees I k (u .log) (U.byKind (viewOf I k) (p .kind) s (p .message)) (M.step (problemOf I) u (M.down k x b B l))
+  unfolding U.onCpa
+  down-agrees p x b B l h =
+      subst (λ o. Agrees I k (u .log) o (M.step (problemOf I) u (M.down k x b B l))) (sym goes-down)
+      (go (compareOn (suc k) (m .stamp) (s .threshold)) (ltb (x * 32) (u .threshold)) (against-threshold (m .stamp) (x * 32) (h .3 .digits) places) refl)
+    where
+      m : Message
+      m = p .message
+
+      places : rank (suc k) (p .message .stamp) ≡ x * 32
+      places = omega (arith, h .3 .is, h .3 .filled .rest k (omega arith))
+
+      goes-down : U.byKind (viewOf I k) (p .kind) s (p .message) ≡ U.onDown (viewOf I k) (compareOn (suc k) (p .message .stamp) (s .threshold)) s (p .message)
+      goes-down = (λ i. U.byKind (viewOf I k) (h .0 i) s (p .message)) ∙ (λ i. U.onEither (viewOf I k) (lt-ltb (p .message .sender) (suc k) (h .2) i) s (p .message))
+
+      ready : ReadyToAssign I k k16 (M.received x b u)
+      ready = (omega arith, omega (arith, laws .size-le-16 k))
+
+      go : (o : Order) (t : Bool) → Compared o (x * 32) (u .threshold) → ltb (x * 32) (u .threshold) ≡ t
+          → Agrees I k (u .log) (U.onDown (viewOf I k) o s (p .message)) (M.onDown (problemOf I) k t u x b B l)
+      go Smaller true c e = unchanged
+      go Smaller false c e = absurd (omega (arith, c, ltb-false (x * 32) (u .threshold) e))
+      go Equal true c e = absurd (omega (arith, c, ltb-true (x * 32) (u .threshold) e))
+      go Bigger true c e = absurd (omega (arith, c, ltb-true (x * 32) (u .threshold) e))
+      go Equal false c e =
+          resume-lower I k k16 (withCpa (p .message .stamp) (p .message .values) (p .message .cost) s) (M.received x b u) (p .message) B l (h .6) (h .7)
+          (received-in-hand (p .message) (s .threshold) x b (r .common .size) (r .common .digits) (r .common .threshold ∙ sym c) (h .3) (h .4) (h .5)) ready
+      go Bigger false c e =
+          resume-lower I k k16 (withCpa (p .message .stamp) (p .message .values) (p .message .cost) (withThreshold (p .message .stamp) s)) (M.received x b u) (p .message) B l (h .6) (h .7)
+          (received-in-hand (p .message) (p .message .stamp) x b (h .3 .filled .size) (h .3 .digits) places (h .3) (h .4) (h .5)) ready
+
+  -- ---- a CPA going back: the machine's invariants say that it is the CPA out
+
+  out-places : 1 ≤ u .own → rank (suc k) (s .stamp) ≡ M.stamp u
+  out-places o = omega (arith, r .prefixStamp o, r .own-stamp o)
+
+  out-values : 1 ≤ u .own → pre (suc k) (s .values) ≡ M.values u
+  out-values o = λ i. r .own i ∷ r .prefix o i
+
+  is-out : 1 ≤ u .own → U.isOut (viewOf I k) s ≡ true
+  is-out o = lt-ltb 0 (ownValue (viewOf I k) s) (omega (arith, r .own))
+
+  back-agrees : (p : Packet) (x : ℕ) (b : List ℕ) (B : ℕ) (l : List ℕ) → Reads I p (M.back k x b B l) → ValidMsg (problemOf I) Past (M.back k x b B l)
+      → Agrees I k (u .log) (U.byKind (viewOf I k) (p .kind) s (p .message)) (M.step (problemOf I) u (M.back k x b B l))
+  unfolding U.onCpa
+  back-agrees p x b B l h ok =
+      subst (λ o. Agrees I k (u .log) o (M.step (problemOf I) u (M.back k x b B l))) (sym goes-back)
+      (go (compareOn (suc k) (p .message .stamp) (s .threshold)) (ltb x (u .threshold)) (against-threshold (p .message .stamp) x (h .3 .digits) (h .3 .is)) refl)
+    where
+      goes-back : U.byKind (viewOf I k) (p .kind) s (p .message) ≡ U.onBack (viewOf I k) (compareOn (suc k) (p .message .stamp) (s .threshold)) s (p .message)
+      goes-back = (λ i. U.byKind (viewOf I k) (h .0 i) s (p .message)) ∙ (λ i. U.onEither (viewOf I k) (le-ltb (p .message .sender) (suc k) (omega (arith, h .2)) i) s (p .message))
+
+      of-cpa-out : u .threshold ≤ x
+          → Agrees I k (u .log) (U.onOwn (viewOf I k) (U.isCpaOut (viewOf I k) s (p .message)) s (p .message)) (M.onBackSame (problemOf I) k (M.isCpaOut u x b) u B l)
+      of-cpa-out le =
+          subst (λ t. Agrees I k (u .log) (U.onOwn (viewOf I k) t s (p .message)) (M.onBackSame (problemOf I) k (M.isCpaOut u x b) u B l)) (sym units)
+          (subst (λ t. Agrees I k (u .log) (U.onOwn (viewOf I k) true s (p .message)) (M.onBackSame (problemOf I) k t u B l)) (sym machines)
+          (resume-lower I k k16 s u (p .message) B l (h .6) (h .7) (out-in-hand (sm .0)) (out-ready (sm .0) (sm .3 ∙ sm .1))))
+        where
+          sm : (1 ≤ u .own) × (x ≡ M.stamp u) × (b ≡ M.values u) × (u .threshold ≡ x)
+          sm = the-cpa-out (problemOf I) laws k k<n Past X bf u x b g (own x b (ok .1)) le
+
+          units : U.isCpaOut (viewOf I k) s (p .message) ≡ true
+          units =
+              and-true
+              (and-true
+              (and-true (is-out (sm .0))
+              (same-ranks (suc k) (p .message .stamp) (s .stamp) (h .3 .digits) (r .stamp-digits) (h .3 .is ∙ sm .1 ∙ sym (out-places (sm .0)))))
+              (same-prefixes (suc k) (p .message .values) (s .values) (h .4 .are ∙ sm .2 ∙ sym (out-values (sm .0)))))
+              (subst (λ z. eqb (p .message .cost) z ≡ true) (h .5 ∙ ap (costOf I) (sm .2) ∙ sym (r .cost (sm .0))) (eqb-same (p .message .cost)))
+
+          machines : M.isCpaOut u x b ≡ true
+          machines =
+              and-true (lt-ltb 0 (u .own) (sm .0))
+              (and-true (subst (λ z. eqb x z ≡ true) (sm .1) (eqb-same x)) (subst (λ z. M.sameList b z ≡ true) (sm .2) (same-refl b)))
+
+      go : (o : Order) (t : Bool) → Compared o x (u .threshold) → ltb x (u .threshold) ≡ t → Agrees I k (u .log) (U.onBack (viewOf I k) o s (p .message)) (M.onBack (problemOf I) k t u x b B l)
+      go Smaller true c e = unchanged
+      go Smaller false c e = absurd (omega (arith, c, ltb-false x (u .threshold) e))
+      go Equal true c e = absurd (omega (arith, c, ltb-true x (u .threshold) e))
+      go Bigger true c e = absurd (omega (arith, c, ltb-true x (u .threshold) e))
+      go Equal false c e = of-cpa-out (ltb-false x (u .threshold) e)
+      go Bigger false c e = of-cpa-out (ltb-false x (u .threshold) e)
+
+  -- ---- a request
+
+  reply-reads : (p : Packet) (j x : ℕ) (b : List ℕ) → Reads I p (M.request k j x b) → j < k
+      → Reads I (record { kind = Estimate; message = reply (viewOf I k) (p .message) .message }) (M.estimate j k x (estimateOf I k b))
+  reply-reads p j x b h lt = (
+    refl,
+    h .2,
+    refl,
+    h .3,
+    ap (λ i. estimate (viewOf I k) (p .message .values) i) (h .2) ∙ estimate-prefix I k (p .message .values) (suc j) lt ∙ ap (estimateOf I k) (h .4 .are),
+  )
+
+  request-agrees : (p : Packet) (j x : ℕ) (b : List ℕ) → Reads I p (M.request k j x b) → j < k
+      → Agrees I k (u .log) (U.byKind (viewOf I k) (p .kind) s (p .message)) (M.step (problemOf I) u (M.request k j x b))
+  unfolding U.onRequest packets
+  request-agrees p j x b h lt =
+      subst (λ o. Agrees I k (u .log) o (M.step (problemOf I) u (M.request k j x b))) (λ i. U.byKind (viewOf I k) (sym (h .0) i) s (p .message))
+      (go (compareOn k (p .message .stamp) (s .threshold)) (ltb t (u .threshold / 32)) (ltb (u .threshold / 32) t)
+      (subst (λ z. Compared (compareOn k (p .message .stamp) (s .threshold)) z (u .threshold / 32)) places
+      (subst (λ z. Compared (compareOn k (p .message .stamp) (s .threshold)) (rank k (p .message .stamp)) z) before
+      (order-of-ranks k (p .message .stamp) (s .threshold) (h .3 .digits) (r .common .digits))))
+      refl refl)
+    where
+      t : ℕ
+      t = M.pad (k - suc j) x
+
+      places : rank k (p .message .stamp) ≡ M.pad (k - suc j) x
+      places =
+          let e : suc j + (k - suc j) ≡ k = omega arith in
+          subst (λ z. rank z (p .message .stamp) ≡ rank (suc j) (p .message .stamp) * 32 ^ (k - suc j)) e (rank-pad (k - suc j) (suc j) (p .message .stamp) (h .3 .filled))
+          ∙ ap (λ z. z * 32 ^ (k - suc j)) (h .3 .is)
+
+      before : rank k (s .threshold) ≡ u .threshold / 32
+      before = omega (arith, r .common .threshold, r .common .digits k)
+
+      raised : AtRest I k (withThreshold (p .message .stamp) s) (M.raise true t u)
+      raised =
+          record {
+            common = record {
+              size = h .3 .filled .size;
+              digits = h .3 .digits;
+              threshold = omega (arith, places, h .3 .filled .rest k lt);
+              bound = r .common .bound;
+              best = r .common .best;
+              counter = r .common .counter;
+              stopped = r .common .stopped;
+            };
+            estimates-size = r .estimates-size;
+            estimates = r .estimates;
+            own = r .own;
+            stamp-filled = r .stamp-filled;
+            stamp-digits = r .stamp-digits;
+            values-filled = r .values-filled;
+            prefixStamp = r .prefixStamp;
+            own-stamp = r .own-stamp;
+            prefix = r .prefix;
+            cost = r .cost;
+          }
+
+      go : (o : Order) (a c : Bool) → Compared o t (u .threshold / 32) → ltb t (u .threshold / 32) ≡ a → ltb (u .threshold / 32) t ≡ c
+          → Agrees I k (u .log) (U.onFresh (viewOf I k) o s (p .message)) (M.onRequest (problemOf I) k a u t j x b)
+      go Smaller true q c e f = unchanged
+      go Smaller false q c e f = absurd (omega (arith, c, ltb-false t (u .threshold / 32) e))
+      go Equal true q c e f = absurd (omega (arith, c, ltb-true t (u .threshold / 32) e))
+      go Bigger true q c e f = absurd (omega (arith, c, ltb-true t (u .threshold / 32) e))
+      go Equal false true c e f = absurd (omega (arith, c, ltb-true (u .threshold / 32) t f))
+      go Equal false false c e f =
+          subst (λ z. Agrees I k (u .log) (accepted s (reply (viewOf I k) (p .message)) []) (M.done (M.raise z t u) (M.estimate j k x (estimateOf I k b) ∷ []))) (sym f)
+          (r, (reply-reads p j x b h lt, tt), refl)
+      go Bigger false false c e f = absurd (omega (arith, c, ltb-false (u .threshold / 32) t f))
+      go Bigger false true c e f =
+          subst (λ z. Agrees I k (u .log) (accepted (withThreshold (p .message .stamp) s) (reply (viewOf I k) (p .message)) []) (M.done (M.raise z t u) (M.estimate j k x (estimateOf I k b) ∷ []))) (sym f)
+          (raised, (reply-reads p j x b h lt, tt), refl)
+
+  -- ---- an estimate
+
+  stored-at-rest : (j e : ℕ) → j < 16 → AtRest I k (withEstimates (set (s .estimates) j e) s) (M.store j e u)
+  stored-at-rest j e lt =
+      record {
+        common = record {
+          size = r .common .size;
+          digits = r .common .digits;
+          threshold = r .common .threshold;
+          bound = r .common .bound;
+          best = r .common .best;
+          counter = r .common .counter;
+          stopped = r .common .stopped;
+        };
+        estimates-size = length-set (s .estimates) j e ∙ r .estimates-size;
+        estimates = λ i li. at-place i li (eqb i j) refl;
+        own = r .own;
+        stamp-filled = r .stamp-filled;
+        stamp-digits = r .stamp-digits;
+        values-filled = r .values-filled;
+        prefixStamp = r .prefixStamp;
+        own-stamp = r .own-stamp;
+        prefix = r .prefix;
+        cost = r .cost;
+      }
+    where
+      at-place : (i : ℕ) → i < 16 → (t : Bool) → eqb i j ≡ t → getD (set (s .estimates) j e) i 0 ≡ cond t e (u .estimates i)
+      at-place i li true q = subst (λ x. getD (set (s .estimates) j e) x 0 ≡ e) (sym (eqb-true i j q)) (getD-set-same (s .estimates) j e 0 (omega (arith, r .estimates-size)))
+      at-place i li false q = getD-set-other (s .estimates) j i e 0 (eqb-false i j q) ∙ r .estimates i li
+
+  sum-of-places : (l : List ℕ) (f : ℕ → ℕ) → ((i : ℕ) → i < 16 → getD l i 0 ≡ f i) → (lo m : ℕ) → lo + m ≤ 16 → sumFrom (λ (i : ℕ). getD l i 0) lo m ≡ sumFrom f lo m
+  sum-of-places l f h lo zero le = refl
+  sum-of-places l f h lo (suc m) le = omega (arith, h lo (omega arith), sum-of-places l f h (suc lo) m (omega arith))
+
+  estimate-agrees : (p : Packet) (j x e : ℕ) → Reads I p (M.estimate k j x e) → ValidMsg (problemOf I) Past (M.estimate k j x e)
+      → Agrees I k (u .log) (U.byKind (viewOf I k) (p .kind) s (p .message)) (M.step (problemOf I) u (M.estimate k j x e))
+  unfolding U.onEstimate packets
+  estimate-agrees p j x e h ok =
+      subst (λ o. Agrees I k (u .log) o (M.step (problemOf I) u (M.estimate k j x e))) (λ i. U.byKind (viewOf I k) (sym (h .0) i) s (p .message))
+      (go (compareOn (suc k) (p .message .stamp) (s .threshold)) (ltb x (u .threshold)) (against-threshold (p .message .stamp) x (h .3 .digits) (h .3 .is)) refl)
+    where
+      s′ : UnitState
+      s′ = withEstimates (set (s .estimates) j e) s
+
+      kept : AtRest I k (withEstimates (set (s .estimates) j e) s) (M.store j e u)
+      kept = stored-at-rest j e (omega (arith, ok .3, n16))
+
+      stored-is : stored (p .message) s ≡ withEstimates (set (s .estimates) j e) s
+      stored-is =
+          let q : p .message .sender - 1 ≡ j = omega (arith, h .2) in
+          λ i. withEstimates (set (s .estimates) (q i) (h .4 i)) s
+
+      reached : (1 ≤ u .own) → u .threshold ≡ M.stamp u → (t : Bool) → Agrees I k (u .log) (U.reachedByEstimates (viewOf I k) t s′) (M.assignIf (problemOf I) k t (M.store j e u))
+      reached o et true =
+          let a = out-in-hand o in
+          assign-agrees I k k16 s′ (M.store j e u)
+          (record {
+            common = kept .common;
+            own = a .own;
+            stamp-filled = a .stamp-filled;
+            stamp-digits = a .stamp-digits;
+            prefixStamp = a .prefixStamp;
+            values-filled = a .values-filled;
+            prefix = a .prefix;
+            cost = a .cost;
+          }) (out-ready o et)
+      reached o et false = (kept, tt, refl)
+
+      of-cpa-out : u .threshold ≤ x
+          → Agrees I k (u .log) (U.onOwnEstimate (viewOf I k) (U.isOut (viewOf I k) s && sameOn (suc k) (p .message .stamp) (s .stamp)) (stored (p .message) s))
+          (M.onEstimateSame (problemOf I) k (M.isForCpaOut u x) (M.store j e u))
+      of-cpa-out le =
+          subst (λ t. Agrees I k (u .log) (U.onOwnEstimate (viewOf I k) t (stored (p .message) s)) (M.onEstimateSame (problemOf I) k (M.isForCpaOut u x) (M.store j e u))) (sym units)
+          (subst (λ t. Agrees I k (u .log) (U.onOwnEstimate (viewOf I k) true (stored (p .message) s)) (M.onEstimateSame (problemOf I) k t (M.store j e u))) (sym machines)
+          (subst (λ z. Agrees I k (u .log) (U.onOwnEstimate (viewOf I k) true z) (M.onEstimateSame (problemOf I) k true (M.store j e u))) (sym stored-is)
+          (subst (λ t. Agrees I k (u .log) (U.reachedByEstimates (viewOf I k) t s′) (M.onEstimateSame (problemOf I) k true (M.store j e u))) (sym test)
+          (reached (sm .0) (sm .3 ∙ sm .1) (leb (u .bound) (costOf I (M.values u) + sumFrom (M.store j e u .estimates) (suc k) (I .n - suc k)))))))
+        where
+          sm : (1 ≤ u .own) × (x ≡ M.stamp u) × (ok .2 .0 ≡ M.values u) × (u .threshold ≡ x)
+          sm = the-cpa-out (problemOf I) laws k k<n Past X bf u x (ok .2 .0) g (own x (ok .2 .0) (ok .2 .1)) le
+
+          units : U.isOut (viewOf I k) s && sameOn (suc k) (p .message .stamp) (s .stamp) ≡ true
+          units = and-true (is-out (sm .0)) (same-ranks (suc k) (p .message .stamp) (s .stamp) (h .3 .digits) (r .stamp-digits) (h .3 .is ∙ sm .1 ∙ sym (out-places (sm .0))))
+
+          machines : M.isForCpaOut u x ≡ true
+          machines = and-true (lt-ltb 0 (u .own) (sm .0)) (and-true (subst (λ z. eqb x z ≡ true) (sym (sm .3)) (eqb-same x)) (subst (λ z. eqb x z ≡ true) (sm .1) (eqb-same x)))
+
+          test : leb (s .bound) (s .cost + sumLater (viewOf I k) (set (s .estimates) j e)) ≡ leb (u .bound) (costOf I (M.values u) + sumFrom (M.store j e u .estimates) (suc k) (I .n - suc k))
+          test =
+              most-test (r .common .bound)
+              (omega (arith, r .cost (sm .0), sum-of-places (set (s .estimates) j e) (M.store j e u .estimates) (kept .estimates) (suc k) (I .n - suc k) (omega (arith, n16, k<n))))
+
+      go : (o : Order) (t : Bool) → Compared o x (u .threshold) → ltb x (u .threshold) ≡ t → Agrees I k (u .log) (U.onTimely (viewOf I k) o s (p .message)) (M.onEstimate (problemOf I) k t u x j e)
+      go Smaller true c q = unchanged
+      go Smaller false c q = absurd (omega (arith, c, ltb-false x (u .threshold) q))
+      go Equal true c q = absurd (omega (arith, c, ltb-true x (u .threshold) q))
+      go Bigger true c q = absurd (omega (arith, c, ltb-true x (u .threshold) q))
+      go Equal false c q = of-cpa-out (ltb-false x (u .threshold) q)
+      go Bigger false c q =
+          let sm = the-cpa-out (problemOf I) laws k k<n Past X bf u x (ok .2 .0) g (own x (ok .2 .0) (ok .2 .1)) (ltb-false x (u .threshold) q) in
+          absurd (omega (arith, c, sm .3))
+
+  -- ---- solutions and stops
+
+  lower-at-rest : (m : Message) (B : ℕ) (l : List ℕ) → m .bound ≡ B → BestIs I (m .best) l → AtRest I k (takeBound m s) (M.takeBound B l u)
+  lower-at-rest m B l e q = subst (λ z. AtRest I k (takeLower z (m .bound) (m .best) s) (M.takeBound B l u)) (sym (less-test e (r .common .bound))) (go (ltb B (u .bound)))
+    where
+      go : (t : Bool) → AtRest I k (takeLower t (m .bound) (m .best) s) (M.lower t B l u)
+      go true =
+          record {
+            common = record {
+              size = r .common .size;
+              digits = r .common .digits;
+              threshold = r .common .threshold;
+              bound = e;
+              best = q;
+              counter = r .common .counter;
+              stopped = r .common .stopped;
+            };
+            estimates-size = r .estimates-size;
+            estimates = r .estimates;
+            own = r .own;
+            stamp-filled = r .stamp-filled;
+            stamp-digits = r .stamp-digits;
+            values-filled = r .values-filled;
+            prefixStamp = r .prefixStamp;
+            own-stamp = r .own-stamp;
+            prefix = r .prefix;
+            cost = r .cost;
+          }
+      go false = r
+
+  halted-at-rest : (a : UnitState) (b : Agent) → AtRest I k a b → AtRest I k (withStopped true a) (M.halt b)
+  halted-at-rest a b z =
+      record {
+        common = record {
+          size = z .common .size;
+          digits = z .common .digits;
+          threshold = z .common .threshold;
+          bound = z .common .bound;
+          best = z .common .best;
+          counter = z .common .counter;
+          stopped = refl;
+        };
+        estimates-size = z .estimates-size;
+        estimates = z .estimates;
+        own = z .own;
+        stamp-filled = z .stamp-filled;
+        stamp-digits = z .stamp-digits;
+        values-filled = z .values-filled;
+        prefixStamp = z .prefixStamp;
+        own-stamp = z .own-stamp;
+        prefix = z .prefix;
+        cost = z .cost;
+      }
+
+  solution-agrees : (p : Packet) (B : ℕ) (l : List ℕ) → Reads I p (M.solution k B l)
+      → Agrees I k (u .log) (U.byKind (viewOf I k) (p .kind) s (p .message)) (M.step (problemOf I) u (M.solution k B l))
+  unfolding U.onSolution packets
+  solution-agrees p B l h =
+      subst (λ o. Agrees I k (u .log) o (M.step (problemOf I) u (M.solution k B l))) (λ i. U.byKind (viewOf I k) (sym (h .0) i) s (p .message))
+      (lower-at-rest (p .message) B l (h .2) (h .3), tt, lower-log I k k16 (ltb B (u .bound)) B l u)
+
+  stop-agrees : (p : Packet) (B : ℕ) (l : List ℕ) → Reads I p (M.stop k B l)
+      → Agrees I k (u .log) (U.byKind (viewOf I k) (p .kind) s (p .message)) (M.step (problemOf I) u (M.stop k B l))
+  unfolding U.onStop packets
+  stop-agrees p B l h =
+      subst (λ o. Agrees I k (u .log) o (M.step (problemOf I) u (M.stop k B l))) (λ i. U.byKind (viewOf I k) (sym (h .0) i) s (p .message))
+      (halted-at-rest (takeBound (p .message) s) (M.takeBound B l u) (lower-at-rest (p .message) B l (h .2) (h .3)), tt, lower-log I k k16 (ltb B (u .bound)) B l u)
+
+  -- ---- any message for this unit
+
+  abbrev By : Packet → Msg → Type 0
+  By p m = Agrees I k (u .log) (U.byKind (viewOf I k) (p .kind) s (p .message)) (M.step (problemOf I) u m)
+
+  step-by-kind : (p : Packet) (m : Msg) → M.to m ≡ k → Reads I p m → ValidMsg (problemOf I) Past m → By p m
+  step-by-kind p (M.down j x b B l) e h ok = subst (λ z. Reads I p (M.down z x b B l) → By p (M.down z x b B l)) (sym e) (down-agrees p x b B l) h
+  step-by-kind p (M.back j x b B l) e h ok =
+      subst (λ z. Reads I p (M.back z x b B l) → ValidMsg (problemOf I) Past (M.back z x b B l) → By p (M.back z x b B l)) (sym e) (back-agrees p x b B l) h ok
+  step-by-kind p (M.request j i x b) e h ok = subst (λ z. Reads I p (M.request z i x b) → i < z → By p (M.request z i x b)) (sym e) (request-agrees p i x b) h (ok .1)
+  step-by-kind p (M.estimate j i x c) e h ok =
+      subst (λ z. Reads I p (M.estimate z i x c) → ValidMsg (problemOf I) Past (M.estimate z i x c) → By p (M.estimate z i x c)) (sym e) (estimate-agrees p i x c) h ok
+  step-by-kind p (M.solution j B l) e h ok = subst (λ z. Reads I p (M.solution z B l) → By p (M.solution z B l)) (sym e) (solution-agrees p B l) h
+  step-by-kind p (M.stop j B l) e h ok = subst (λ z. Reads I p (M.stop z B l) → By p (M.stop z B l)) (sym e) (stop-agrees p B l) h
+
+  -- A unit that has not stopped decides what the machine's step gives.
+  pub step-agrees : (p : Packet) (m : Msg) → M.to m ≡ k → Reads I p m → ValidMsg (problemOf I) Past m → s .stopped ≡ false
+      → Agrees I k (u .log) (U.respond (viewOf I k) (p .kind) s (p .message)) (M.step (problemOf I) u m)
+  unfolding U.respond
+  step-agrees p m e h ok st =
+      subst (λ t. Agrees I k (u .log) (U.unlessStopped t (viewOf I k) (p .kind) s (p .message)) (M.step (problemOf I) u m)) (sym st) (step-by-kind p m e h ok)
