@@ -1,7 +1,8 @@
 -- Demand 3 as one statement about a network that a run has come to. Theorem.antt proves it of every list of cells:
 --
---     demand3  : Laws P → 0 < P .n → (room : ℕ) (cells : List ℕ) → Demand3 P (run P room (make P) cells)
---     two-runs : of any two lists after which unit 1 has stopped, the bounds are equal
+--     demand3     Laws P → 0 < P .n → (room : ℕ) (cells : List ℕ) → Demand3 P (run P room (make P) cells)
+--     two-runs    of any two lists after which unit 1 has stopped, and any two rooms, the bounds are equal
+--     counts-fit  with at most 16 units the records and the accepted deliveries are fewer than 2 ^ 128
 --
 -- Read first: Problem.antt (what is asked of costs), Machine.antt (the rules), and this. The rest is proof:
 -- Lists, Tests, Walk            small facts; the ways through a step, a delivery and a run

@@ -1,10 +1,12 @@
 -- How many records there can be: a log's prefixes rise in rank, so none is written twice, and there are no more than prefixes of that length.
 -- So the fees are at most (3n - 1) × N.
+--
+-- In order: the rank is below the number of prefixes; `Distinct`; a sorted log; the logs of a safe network; fees.
 -- Assumes nothing.
 use Prim.Native.Nat.{ℕ, zero, suc, _+_, _*_, _-_, _≤_, _<_}
 use mathlib.Core.Path.{_≡_, refl, sym, ap, subst}
 use mathlib.Core.Logic.{_⊎_, inl, inr}
-use mathlib.Core.Bool.{Bool, true, false, cond}
+use mathlib.Core.Bool.{Bool, true, false}
 use mathlib.Core.List.{List, [], _∷_, _++_, map}
 use native.Mathlib.Omega.{arith}
 use native.Mathlib.Nat.{mul-le-mul-right, mul-le-mul, mul-add}
@@ -18,13 +20,15 @@ use Rattle.protocol.specs.Demand3.{written, Distinct, most}
 use Rattle.protocol.specs.Safety.Facts.{rank, History, Sorted}
 use Rattle.protocol.specs.Safety.Logs.{Safe}
 use Rattle.protocol.specs.Safety.Network.{before}
-use Rattle.protocol.specs.Count.Weights.{extra, fee}
+use Rattle.protocol.specs.Count.Weights.{fee, extra-last, extra-other, fee-last, fee-other}
 use Rattle.protocol.specs.Count.Tally.{fees}
 
 module _ (P : Problem) where
   rank-lt : (b : List ℕ) → InDomains P b → rank P b < prefixCount P (length b)
   rank-lt [] h = omega arith
   rank-lt (v ∷ b) h = omega (arith, mul-le-mul-right (P .size (length b)) (rank-lt b (h .2)), h .0, h .1)
+
+-- ---- lists without repetition
 
 pub distinct-append : (a b : List (List ℕ)) → Distinct a → Distinct b → ((x : List ℕ) → In x a → In x b → ⊥) → Distinct (a ++ b)
 distinct-append [] b h g f = g
@@ -45,6 +49,8 @@ in-map (r ∷ L) x i = go (in-cases i) (λ j. in-map L x j)
     go (inl e) f = (r, here refl, sym e)
     go (inr j) f = up (f j)
 
+-- ---- a sorted log
+
 module _ (P : Problem) where
   pub sorted-distinct : (k : ℕ) (Past : History) (L : List Record) → Sorted P k Past L → Distinct (map valuesOf L)
   sorted-distinct k Past [] h = tt
@@ -53,6 +59,8 @@ module _ (P : Problem) where
   sorted-length : (k : ℕ) (Past : History) (L : List Record) → Sorted P k Past L → (B : ℕ) → Every (λ r. rank P (valuesOf r) < B) L → length L ≤ B
   sorted-length k Past [] h B f = omega arith
   sorted-length k Past (r ∷ L) h B f = omega (arith, f r (here refl), sorted-length k Past L (h .2) (rank P (valuesOf r)) (λ q i. h .1 q i .1))
+
+  -- ---- the logs of a safe network
 
   module _ (us : ℕ → Agent) (safe : Safe P us) where
     pub values-length : (k : ℕ) → k < P .n → (r : Record) → In r (us k .log) → length (valuesOf r) ≡ suc k
@@ -80,37 +88,31 @@ module _ (P : Problem) where
         distinct-append (map valuesOf (us k .log)) (written us k) (sorted-distinct k _ (us k .log) (safe k h .sorted)) (written-once k (omega arith))
         (λ x i j. let q = in-map (us k .log) x i in absurd (omega (arith, values-length k h (q .0) (q .1), ap length (q .2), written-len k (omega arith) x j)))
 
+    -- ---- fees
+
     fee-le : (k : ℕ) → suc k < P .n → fee P k ≤ 3 * P .n - 1
-    fee-le k lt = go (isLast P k) refl
+    fee-le k lt = go (isLast P (suc k)) refl
       where
-        ex : (t : Bool) → isLast P (suc k) ≡ t → 2 + cond t (P .n - 1) 0 + 2 * (P .n - suc k) ≤ 3 * P .n - 1
-        ex true e = omega (arith, eqb-true (suc (suc k)) (P .n) e)
-        ex false e = omega arith
-
-        go : (t : Bool) → isLast P k ≡ t → cond t 0 (2 + extra P (suc k) + 2 * (P .n - suc k)) ≤ 3 * P .n - 1
-        go true e = omega arith
-        go false e = ex (isLast P (suc k)) refl
-
-    fee-last : (k : ℕ) → suc k ≡ P .n → fee P k ≡ 0
-    fee-last k e = go (isLast P k) refl
-      where
-        go : (t : Bool) → isLast P k ≡ t → cond t 0 (2 + extra P (suc k) + 2 * (P .n - suc k)) ≡ 0
-        go true q = refl
-        go false q = absurd (eqb-false (suc k) (P .n) q e)
+        go : (t : Bool) → isLast P (suc k) ≡ t → fee P k ≤ 3 * P .n - 1
+        go true e = let q = eqb-true (suc (suc k)) (P .n) e in omega (arith, fee-other P k (omega arith), extra-last P (suc k) q, q)
+        go false e = omega (arith, fee-other P k (omega arith), extra-other P (suc k) (eqb-false (suc (suc k)) (P .n) e))
 
     sum-le : (f g : ℕ → ℕ) (c n : ℕ) → ((i : ℕ) → i < n → f i ≤ c * g i) → sumTo f n ≤ c * sumTo g n
     sum-le f g c zero h = omega arith
     sum-le f g c (suc n) h = rw (mul-add c (sumTo g n) (g n)) (omega (arith, sum-le f g c n (λ i lt. h i (omega arith)), h n (omega arith)))
 
+    -- unit n's records pay nothing, those of the others at most 3n - 1 each
     pub fees-le : 0 < P .n → fees P us ≤ most P
     fees-le lt = go (P .n - 1) (omega arith)
       where
+        paid : ℕ → ℕ
+        paid k = fee P k * length (us k .log)
+
         go : (p : ℕ) → P .n ≡ suc p → fees P us ≤ most P
         go p e =
-            let l : sumTo (λ k. fee P k * length (us k .log)) p ≤ (3 * P .n - 1) * sumTo (λ k. prefixCount P (suc k)) p =
-            sum-le (λ k. fee P k * length (us k .log)) (λ k. prefixCount P (suc k)) (3 * P .n - 1) p
-            (λ i li. mul-le-mul (fee-le i (omega arith)) (log-length i (omega arith))) in
-            let a : fees P us ≡ sumTo (λ k. fee P k * length (us k .log)) p + fee P p * length (us p .log) = ap (sumTo (λ k. fee P k * length (us k .log))) e in
-            let z : fee P p * length (us p .log) ≡ 0 = rw (fee-last p (sym e)) (omega arith) in
+            let l : sumTo paid p ≤ (3 * P .n - 1) * sumTo (λ k. prefixCount P (suc k)) p =
+            sum-le paid (λ k. prefixCount P (suc k)) (3 * P .n - 1) p (λ i li. mul-le-mul (fee-le i (omega arith)) (log-length i (omega arith))) in
+            let a : fees P us ≡ sumTo paid p + paid p = ap (sumTo paid) e in
+            let z : paid p ≡ 0 = rw (fee-last P p (sym e)) (omega arith) in
             let q : P .n - 1 ≡ p = omega arith in
             subst (λ x. fees P us ≤ (3 * P .n - 1) * sumTo (λ k. prefixCount P (suc k)) x) (sym q) (omega (arith, l, a, z))

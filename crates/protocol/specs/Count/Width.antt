@@ -1,46 +1,33 @@
 -- The counts fit two words: no unit has more than 16 values and there are at most 16 units, so both are below 2 ^ 128.
 -- By bounding the prefixes of k units by 16 ^ k.
 -- Assumes nothing.
-use Prim.Native.Nat.{ℕ, zero, suc, _+_, _*_, _-_, _^_, _≤_, _<_}
-use mathlib.Core.Path.{_≡_, sym, subst}
+use Prim.Native.Nat.{ℕ, zero, suc, _*_, _-_, _^_, _≤_, _<_}
+use mathlib.Core.Path.{_≡_, refl}
+use mathlib.Core.List.{map}
 use native.Mathlib.Omega.{arith}
-use native.Mathlib.Nat.{mul-le-mul-left, mul-le-mul, le-trans, pow-suc, mul-assoc}
+use native.Mathlib.Nat.{pow-le-pow-right, zero-lt-suc, mul-le-mul, le-trans, pow-suc}
 use lib.Dec.{lit≤}
-use lib.ListN.{length}
+use lib.ListN.{length, length-append, length-map}
 use Rattle.base.specs.Sums.{sumTo}
 use Rattle.protocol.specs.Problem.{Problem, Laws, prefixCount, N}
-use Rattle.protocol.specs.Machine.{Agent}
-use Rattle.protocol.specs.Demand3.{most}
+use Rattle.protocol.specs.Machine.{valuesOf, Agent}
+use Rattle.protocol.specs.Demand3.{written, most}
 use Rattle.protocol.specs.Safety.Logs.{Safe}
 use Rattle.protocol.specs.Count.Prefixes.{log-length}
 
 -- ---- the counts fit two words: no unit has more than 16 values, and there are at most 16 units
 module _ (P : Problem) (laws : Laws P) where
-  prod-le : (k : ℕ) → prefixCount P k ≤ 16 ^ k
-  prod-le zero = omega arith
-  prod-le (suc k) = rw (pow-suc 16 k) (mul-le-mul (prod-le k) (laws .size-le-16 k))
+  prefix-count-le : (k : ℕ) → prefixCount P k ≤ 16 ^ k
+  prefix-count-le zero = omega arith
+  prefix-count-le (suc k) = rw (pow-suc 16 k) (mul-le-mul (prefix-count-le k) (laws .size-le-16 k))
 
   -- 16 + .. + 16 ^ m
   sum-pow : (m : ℕ) → sumTo (λ k. prefixCount P (suc k)) m ≤ 2 * 16 ^ m
   sum-pow zero = omega arith
-  sum-pow (suc m) = omega (arith, sum-pow m, prod-le (suc m))
+  sum-pow (suc m) = omega (arith, sum-pow m, prefix-count-le (suc m))
 
   pow-le : (k : ℕ) → k ≤ 16 → 16 ^ k ≤ 16 ^ 16
-  pow-le k h = subst (λ x. 16 ^ k ≤ x) (sym split) (le-mul (16 ^ k) (16 ^ (16 - k)) (pow-pos (16 - k)))
-    where
-      pow-pos : (d : ℕ) → 1 ≤ 16 ^ d
-      pow-pos zero = omega arith
-      pow-pos (suc d) = omega (arith, pow-pos d)
-
-      le-mul : (a b : ℕ) → 1 ≤ b → a ≤ a * b
-      le-mul a b h = omega (arith, mul-le-mul-left a h)
-
-      add : (d : ℕ) → 16 ^ (k + d) ≡ 16 ^ k * 16 ^ d
-      add zero = let e : k + 0 ≡ k = omega arith in rw e (omega arith)
-      add (suc d) = let e : k + suc d ≡ suc (k + d) = omega arith in rw (e, pow-suc 16 (k + d), pow-suc 16 d, add d, mul-assoc (16 ^ k) (16 ^ d) 16)
-
-      split : 16 ^ 16 ≡ 16 ^ k * 16 ^ (16 - k)
-      split = let e : k + (16 - k) ≡ 16 = omega arith in subst (λ x. 16 ^ x ≡ 16 ^ k * 16 ^ (16 - k)) e (add (16 - k))
+  pow-le k h = pow-le-pow-right (zero-lt-suc 15) h
 
   pub most-fits : P .n ≤ 16 → most P < 2 ^ 128
   most-fits h =
@@ -58,3 +45,7 @@ module _ (P : Problem) (laws : Laws P) where
       all : (m : ℕ) → m ≤ P .n → sumTo (λ k. length (us k .log)) m ≤ sumTo (λ k. prefixCount P (suc k)) m
       all zero le = omega arith
       all (suc m) le = omega (arith, all m (omega arith), log-length P us safe m le)
+
+pub length-written : (us : ℕ → Agent) (n : ℕ) → length (written us n) ≡ sumTo (λ k. length (us k .log)) n
+length-written us zero = refl
+length-written us (suc n) = omega (arith, length-append (map valuesOf (us n .log)) (written us n), length-map (us n .log) valuesOf, length-written us n)

@@ -24,8 +24,8 @@ use Rattle.protocol.specs.Liveness.Moves.{NoCpa, Wrote, Backtracked, Mov
 use Rattle.protocol.specs.Liveness.Effect.{IsDown, NotDown, Stale, Threshold, Quiet, Took, Effect, to<n, effect}
 use Rattle.protocol.specs.Liveness.Chain.{Out, Rested, Live, isDown, isBack, deeper, live-out, Delivered, link-down, link-back, link-deeper, peak-live}
 
--- a unit of the chain that has kept its CPA: m was not that CPA coming back, and no CPA was sent
-pub record Kept (k : ℕ) (v : Agent) (m : Msg) (u : Agent) (ms : List Msg) : Type 0 where
+-- a unit of the chain with its CPA still out: m was not that CPA coming back, and no CPA was sent
+pub record StillOut (k : ℕ) (v : Agent) (m : Msg) (u : Agent) (ms : List Msg) : Type 0 where
   pub out : Out u
   pub same-stamp : stamp u ≡ stamp v
   pub same-values : values u ≡ values v
@@ -63,10 +63,10 @@ module _ (P : Problem) (laws : Laws P) (us : ℕ → Agent) (safe : Safe P us) (
 
   -- ---- the unit that steps is in the chain: it keeps its CPA, or moves it
 
-  self : Out (us (to m)) → us (to m) .prefixStamp ≡ X → Kept (to m) (us (to m)) m u ms ⊎ Moved (to m) (us (to m) .prefixStamp) (us (to m) .prefix) (us (to m) .counter) (done u ms)
+  self : Out (us (to m)) → us (to m) .prefixStamp ≡ X → StillOut (to m) (us (to m)) m u ms ⊎ Moved (to m) (us (to m) .prefixStamp) (us (to m) .prefix) (us (to m) .counter) (done u ms)
   self o pk = go effected
     where
-      quiet : Quiet X (us (to m)) m u ms → Threshold X (us (to m)) u → Kept (to m) (us (to m)) m u ms
+      quiet : Quiet X (us (to m)) m u ms → Threshold X (us (to m)) u → StillOut (to m) (us (to m)) m u ms
       quiet q (inr z) = absurd (omega (arith, z .2, z .3, o .1, pk))
       quiet q (inl z) =
           record {
@@ -79,7 +79,7 @@ module _ (P : Problem) (laws : Laws P) (us : ℕ → Agent) (safe : Safe P us) (
             no-cpa = q .no-cpa;
           }
 
-      go : Effect (to m) (Recorded (logs us)) X (us (to m)) m (done u ms) → Kept (to m) (us (to m)) m u ms ⊎ Moved (to m) (us (to m) .prefixStamp) (us (to m) .prefix) (us (to m) .counter) (done u ms)
+      go : Effect (to m) (Recorded (logs us)) X (us (to m)) m (done u ms) → StillOut (to m) (us (to m)) m u ms ⊎ Moved (to m) (us (to m) .prefixStamp) (us (to m) .prefix) (us (to m) .counter) (done u ms)
       go (inl q) = inl (quiet q (q .threshold))
       go (inr (inl t)) = absurd (omega (arith, t .3, o .1, pk, took-le t, safe (to m) to-lt .cpa (o .0) .counter-pos))
       go (inr (inr w)) = inr (w .3)
@@ -164,11 +164,11 @@ module _ (P : Problem) (laws : Laws P) (us : ℕ → Agent) (safe : Safe P us) (
   next-lower k lt t h = omega (arith, safe (suc k) lt .threshold-peak, h)
 
   -- unit k is in the chain and steps. If it keeps its CPA the link is shown by `kept`
-  self-after : (k : ℕ) → k < P .n → to m ≡ k → Out (us k) → us k .prefixStamp ≡ peak (logs us) k → (Kept k (us k) m u ms → Live (P .n) us′ Wait′ k) → After k
+  self-after : (k : ℕ) → k < P .n → to m ≡ k → Out (us k) → us k .prefixStamp ≡ peak (logs us) k → (StillOut k (us k) m u ms → Live (P .n) us′ Wait′ k) → After k
   self-after k lt ek o pk kept = go (subst AtSelf ek (self (subst (λ x. Out (us x)) (sym ek) o) (subst (λ x. us x .prefixStamp ≡ peak (logs us) x) (sym ek) pk)))
     where
       AtSelf : ℕ → Type 0
-      AtSelf x = Kept x (us x) m u ms ⊎ Moved x (us x .prefixStamp) (us x .prefix) (us x .counter) (done u ms)
+      AtSelf x = StillOut x (us x) m u ms ⊎ Moved x (us x .prefixStamp) (us x .prefix) (us x .counter) (done u ms)
 
       new-down : Wrote k (us k .prefixStamp) (us k .prefix) (us k .counter) u ms → Live (P .n) us′ Wait′ k
       new-down w =
