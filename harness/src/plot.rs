@@ -6,8 +6,8 @@ pub struct Curve {
     pub name: String,
     pub colour: &'static str,
     pub dashed: bool,
-    /// (x, y, whether y is only a lower limit), y above 0.
-    pub points: Vec<(f64, f64, bool)>,
+    /// x and y, y above 0.
+    pub points: Vec<(f64, f64)>,
 }
 
 pub struct Plot {
@@ -79,7 +79,7 @@ impl Plot {
     }
 
     fn curve(&self, svg: &mut String, curve: &Curve) {
-        let place = |point: &(f64, f64, bool)| (self.x(point.0), self.y(point.1));
+        let place = |point: &(f64, f64)| (self.x(point.0), self.y(point.1));
         let path: Vec<String> =
             curve.points.iter().map(place).map(|(x, y)| format!("{x:.1},{y:.1}")).collect();
         let _ = writeln!(
@@ -91,12 +91,7 @@ impl Plot {
         );
         for point in &curve.points {
             let (x, y) = place(point);
-            let fill = if point.2 { "white" } else { curve.colour };
-            let _ = writeln!(
-                svg,
-                "<circle cx=\"{x:.1}\" cy=\"{y:.1}\" r=\"3.5\" fill=\"{fill}\" stroke=\"{}\" stroke-width=\"1.5\"/>",
-                curve.colour
-            );
+            let _ = writeln!(svg, "<circle cx=\"{x:.1}\" cy=\"{y:.1}\" r=\"3.5\" fill=\"{}\"/>", curve.colour);
         }
     }
 }

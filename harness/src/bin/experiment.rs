@@ -95,7 +95,7 @@ fn row(point: &Point) -> String {
     format!("{},{},{problems},{:.1},{numbers}", point.density, point.tightness, mean(&point.afb, least))
 }
 
-/// Medians of both algorithms at both densities.
+/// Medians of both algorithms at both densities, those left out that are only a lower limit.
 fn curves(points: &[Point], of: fn(&Effort) -> u64) -> Vec<Curve> {
     let mut curves = Vec::new();
     for (density, colour) in DENSITIES.into_iter().zip(["#0b6fa4", "#c2410c"]) {
@@ -104,13 +104,16 @@ fn curves(points: &[Point], of: fn(&Effort) -> u64) -> Vec<Curve> {
             name: format!("AFB, {density}"),
             colour,
             dashed: false,
-            points: of_density().map(|p| (p.tightness, median(&p.afb, of), false)).collect(),
+            points: of_density().map(|p| (p.tightness, median(&p.afb, of))).collect(),
         });
         curves.push(Curve {
             name: format!("SBB, {density}"),
             colour,
             dashed: true,
-            points: of_density().map(|p| (p.tightness, median(&p.synchronous, of), p.cut_short())).collect(),
+            points: of_density()
+                .filter(|p| !p.cut_short())
+                .map(|p| (p.tightness, median(&p.synchronous, of)))
+                .collect(),
         });
     }
     curves

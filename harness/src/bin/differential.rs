@@ -1,0 +1,37 @@
+//! Every exported call of the Rattle library against the reference implementation, on the same generated inputs.
+//!
+//! differential [ROUNDS] [SEED]: rounds for each call (20,000 and 1 unless named; a fifth for the calls on a whole network).
+//! Prints for each call how often it was accepted and how often each refusal came; ends with 1 at a difference or a refusal never reached.
+
+use harness::calls::{Call, CALLS};
+use harness::differential;
+use harness::linked;
+use std::process::exit;
+
+fn main() {
+    let numbers: Vec<u64> = std::env::args().skip(1).filter_map(|text| text.parse().ok()).collect();
+    let rounds = numbers.first().copied().unwrap_or(20_000);
+    let seed = numbers.get(1).copied().unwrap_or(1);
+    let mut compared = 0;
+    let mut faults = 0;
+    for (call, name, refusals) in CALLS {
+        let rounds = match call {
+            Call::Deliver | Call::Settle | Call::Search => rounds.div_ceil(5),
+            _ => rounds,
+        };
+        let report = differential::compare(call, rounds, seed, linked::linked);
+        println!("{name}: {}", differential::counted(&report.counts, refusals));
+        compared += report.counts.iter().sum::<u64>();
+        if let Some(difference) = &report.difference {
+            print!("  differs in {}", differential::describe(difference));
+            faults += 1;
+            continue;
+        }
+        for refusal in refusals.iter().filter(|refusal| report.counts[**refusal as usize] == 0) {
+            println!("  refusal {refusal} was never reached");
+            faults += 1;
+        }
+    }
+    println!("{compared} inputs compared, {faults} faults");
+    exit(i32::from(faults > 0));
+}

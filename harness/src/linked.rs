@@ -1,0 +1,413 @@
+//! The Rattle library behind the same inputs and outcomes: include/riksamoe.h declared again, and one function that calls it.
+//!
+//! Nothing checks these declarations against the library: the sizes at the end are all that the compiler can hold, the differential test does the rest.
+//! A slice passes as a pointer and a length; structs pass by value and are `repr(C)`.
+
+use crate::calls::{Input, Outcome};
+use crate::reference;
+use crate::reference::network::Network as PlainNetwork;
+use crate::reference::Places;
+
+#[repr(C)]
+#[derive(Clone, Copy)]
+pub struct Sizes {
+    pub places: Places,
+}
+
+#[repr(C)]
+#[derive(Clone, Copy)]
+pub struct Length {
+    pub refusal: u8,
+    pub length: usize,
+}
+
+#[repr(C)]
+#[derive(Clone, Copy)]
+pub struct Message {
+    pub sender: u8,
+    pub receiver: u8,
+    pub stamp: Places,
+    pub values: Places,
+    pub cost: u32,
+    pub bound: u32,
+    pub best: Places,
+}
+
+#[repr(C)]
+#[derive(Clone, Copy)]
+pub struct Parsed {
+    pub refusal: u8,
+    pub kind: u8,
+    pub message: Message,
+}
+
+#[repr(C)]
+#[derive(Clone, Copy)]
+pub struct Unit {
+    pub threshold: Places,
+    pub bound: u32,
+    pub best: Places,
+    pub estimates: [u32; 16],
+    pub stamp: Places,
+    pub values: Places,
+    pub cost: u32,
+    pub counter: u8,
+    pub stopped: bool,
+}
+
+#[repr(C)]
+#[derive(Clone, Copy)]
+pub struct UnitOutcome {
+    pub refusal: u8,
+    pub unit: Unit,
+    pub sent: u8,
+    pub records: u8,
+}
+
+/// What the step in place hands back; the unit is where it was lent.
+#[repr(C)]
+#[derive(Clone, Copy)]
+pub struct Sent {
+    pub refusal: u8,
+    pub sent: u8,
+    pub records: u8,
+}
+
+#[repr(C)]
+#[derive(Clone, Copy)]
+pub struct Network {
+    pub units: [Unit; 16],
+    pub count: u64,
+    pub records_low: u64,
+    pub records_high: u64,
+    pub deliveries_low: u64,
+    pub deliveries_high: u64,
+}
+
+#[repr(C)]
+#[derive(Clone, Copy)]
+pub struct NetworkOutcome {
+    pub refusal: u8,
+    pub network: Network,
+}
+
+#[repr(C)]
+#[derive(Clone, Copy)]
+pub struct Found {
+    pub refusal: u8,
+    pub total: u32,
+    pub assignment: Places,
+}
+
+extern "C" {
+    fn riksamoe_checksum(bytes: *const u8, length: usize) -> u32;
+    fn riksamoe_block_refusal(block: *const u8, length: usize, expected: u16, last: bool) -> u8;
+    fn riksamoe_table_read(file: *const u8, length: usize, stream: *mut u8, room: usize) -> Length;
+    fn riksamoe_table_write(stream: *const u8, length: usize, file: *mut u8, room: usize) -> Length;
+    fn riksamoe_message_parse(n: u8, sizes: Sizes, bytes: *const u8, length: usize) -> Parsed;
+    fn riksamoe_message_write(n: u8, sizes: Sizes, kind: u8, message: Message, out: *mut u8, room: usize) -> u8;
+    fn riksamoe_unit_make(
+        own: u8,
+        n: u8,
+        sizes: Sizes,
+        costs: *const u8,
+        costs_length: usize,
+        out: *mut u8,
+        room: usize,
+    ) -> UnitOutcome;
+    fn riksamoe_unit_step(
+        unit: Unit,
+        own: u8,
+        n: u8,
+        sizes: Sizes,
+        costs: *const u8,
+        costs_length: usize,
+        packet: *const u8,
+        packet_length: usize,
+        out: *mut u8,
+        room: usize,
+    ) -> UnitOutcome;
+    fn riksamoe_unit_step_in_place(
+        unit: &mut Unit,
+        own: u8,
+        n: u8,
+        sizes: Sizes,
+        costs: *const u8,
+        costs_length: usize,
+        packet: *const u8,
+        packet_length: usize,
+        out: *mut u8,
+        room: usize,
+    ) -> Sent;
+    fn riksamoe_network_make(stream: *const u8, length: usize, pool: *mut u8, room: usize) -> NetworkOutcome;
+    fn riksamoe_network_deliver(
+        network: Network,
+        stream: *const u8,
+        length: usize,
+        pool: *mut u8,
+        room: usize,
+        cell: u64,
+    ) -> NetworkOutcome;
+    fn riksamoe_network_settle(stream: *const u8, length: usize, pool: *mut u8, room: usize) -> NetworkOutcome;
+    fn riksamoe_search(stream: *const u8, length: usize) -> Found;
+}
+
+// The calls made safe: every pointer comes with the length of the slice that it points into, and the library keeps none.
+
+pub fn checksum(bytes: &[u8]) -> u32 {
+    unsafe { riksamoe_checksum(bytes.as_ptr(), bytes.len()) }
+}
+
+pub fn block_refusal(block: &[u8], expected: u16, last: bool) -> u8 {
+    unsafe { riksamoe_block_refusal(block.as_ptr(), block.len(), expected, last) }
+}
+
+pub fn table_read(file: &[u8], stream: &mut [u8]) -> Length {
+    unsafe { riksamoe_table_read(file.as_ptr(), file.len(), stream.as_mut_ptr(), stream.len()) }
+}
+
+pub fn table_write(stream: &[u8], file: &mut [u8]) -> Length {
+    unsafe { riksamoe_table_write(stream.as_ptr(), stream.len(), file.as_mut_ptr(), file.len()) }
+}
+
+pub fn message_parse(n: u8, sizes: &Places, bytes: &[u8]) -> Parsed {
+    unsafe { riksamoe_message_parse(n, Sizes { places: *sizes }, bytes.as_ptr(), bytes.len()) }
+}
+
+pub fn message_write(n: u8, sizes: &Places, kind: u8, message: Message, out: &mut [u8]) -> u8 {
+    unsafe { riksamoe_message_write(n, Sizes { places: *sizes }, kind, message, out.as_mut_ptr(), out.len()) }
+}
+
+pub fn unit_make(own: u8, n: u8, sizes: &Places, costs: &[u8], out: &mut [u8]) -> UnitOutcome {
+    let sizes = Sizes { places: *sizes };
+    unsafe { riksamoe_unit_make(own, n, sizes, costs.as_ptr(), costs.len(), out.as_mut_ptr(), out.len()) }
+}
+
+pub fn unit_step(
+    unit: Unit,
+    own: u8,
+    n: u8,
+    sizes: &Places,
+    costs: &[u8],
+    packet: &[u8],
+    out: &mut [u8],
+) -> UnitOutcome {
+    let sizes = Sizes { places: *sizes };
+    let (costs, costs_length) = (costs.as_ptr(), costs.len());
+    let (packet, packet_length) = (packet.as_ptr(), packet.len());
+    let (out, room) = (out.as_mut_ptr(), out.len());
+    unsafe { riksamoe_unit_step(unit, own, n, sizes, costs, costs_length, packet, packet_length, out, room) }
+}
+
+pub fn unit_step_in_place(
+    unit: &mut Unit,
+    own: u8,
+    n: u8,
+    sizes: &Places,
+    costs: &[u8],
+    packet: &[u8],
+    out: &mut [u8],
+) -> Sent {
+    let sizes = Sizes { places: *sizes };
+    let (costs, costs_length) = (costs.as_ptr(), costs.len());
+    let (packet, packet_length) = (packet.as_ptr(), packet.len());
+    let (out, room) = (out.as_mut_ptr(), out.len());
+    unsafe {
+        riksamoe_unit_step_in_place(unit, own, n, sizes, costs, costs_length, packet, packet_length, out, room)
+    }
+}
+
+pub fn network_make(stream: &[u8], pool: &mut [u8]) -> NetworkOutcome {
+    unsafe { riksamoe_network_make(stream.as_ptr(), stream.len(), pool.as_mut_ptr(), pool.len()) }
+}
+
+pub fn network_deliver(network: Network, stream: &[u8], pool: &mut [u8], cell: u64) -> NetworkOutcome {
+    let (pool, room) = (pool.as_mut_ptr(), pool.len());
+    unsafe { riksamoe_network_deliver(network, stream.as_ptr(), stream.len(), pool, room, cell) }
+}
+
+pub fn network_settle(stream: &[u8], pool: &mut [u8]) -> NetworkOutcome {
+    unsafe { riksamoe_network_settle(stream.as_ptr(), stream.len(), pool.as_mut_ptr(), pool.len()) }
+}
+
+pub fn search(stream: &[u8]) -> Found {
+    unsafe { riksamoe_search(stream.as_ptr(), stream.len()) }
+}
+
+// From one side's structs to the other's
+
+impl From<&reference::unit::Unit> for Unit {
+    fn from(u: &reference::unit::Unit) -> Unit {
+        Unit {
+            threshold: u.threshold,
+            bound: u.bound,
+            best: u.best,
+            estimates: u.estimates,
+            stamp: u.stamp,
+            values: u.values,
+            cost: u.cost,
+            counter: u.counter,
+            stopped: u.stopped,
+        }
+    }
+}
+
+impl From<&Unit> for reference::unit::Unit {
+    fn from(u: &Unit) -> reference::unit::Unit {
+        reference::unit::Unit {
+            threshold: u.threshold,
+            bound: u.bound,
+            best: u.best,
+            estimates: u.estimates,
+            stamp: u.stamp,
+            values: u.values,
+            cost: u.cost,
+            counter: u.counter,
+            stopped: u.stopped,
+        }
+    }
+}
+
+impl From<&reference::message::Message> for Message {
+    fn from(m: &reference::message::Message) -> Message {
+        Message {
+            sender: m.sender,
+            receiver: m.receiver,
+            stamp: m.stamp,
+            values: m.values,
+            cost: m.cost,
+            bound: m.bound,
+            best: m.best,
+        }
+    }
+}
+
+impl From<&Message> for reference::message::Message {
+    fn from(m: &Message) -> reference::message::Message {
+        reference::message::Message {
+            sender: m.sender,
+            receiver: m.receiver,
+            stamp: m.stamp,
+            values: m.values,
+            cost: m.cost,
+            bound: m.bound,
+            best: m.best,
+        }
+    }
+}
+
+impl From<&PlainNetwork> for Network {
+    fn from(network: &PlainNetwork) -> Network {
+        Network {
+            units: network.units.each_ref().map(Unit::from),
+            count: network.count,
+            records_low: network.records as u64,
+            records_high: (network.records >> 64) as u64,
+            deliveries_low: network.deliveries as u64,
+            deliveries_high: (network.deliveries >> 64) as u64,
+        }
+    }
+}
+
+// Outcomes
+
+fn length_outcome(answer: Length, lent: Vec<u8>) -> Outcome {
+    Outcome { refusal: answer.refusal, numbers: vec![answer.length as u64], lent, ..Outcome::default() }
+}
+
+fn unit_outcome(answer: &UnitOutcome, lent: Vec<u8>) -> Outcome {
+    Outcome {
+        refusal: answer.refusal,
+        numbers: vec![answer.sent.into(), answer.records.into()],
+        units: vec![(&answer.unit).into()],
+        lent,
+        ..Outcome::default()
+    }
+}
+
+fn network_outcome(answer: &NetworkOutcome, lent: Vec<u8>) -> Outcome {
+    let n = &answer.network;
+    Outcome {
+        refusal: answer.refusal,
+        numbers: vec![n.count, n.records_low, n.records_high, n.deliveries_low, n.deliveries_high],
+        units: n.units.iter().map(|unit| unit.into()).collect(),
+        lent,
+        ..Outcome::default()
+    }
+}
+
+/// The linked library's outcome on an input.
+pub fn linked(input: Input) -> Outcome {
+    match input {
+        Input::Sum { bytes } => Outcome { numbers: vec![checksum(&bytes).into()], ..Outcome::default() },
+        Input::Block { block, expected, last } => {
+            let refusal = block_refusal(&block, expected, last);
+            let lent = if refusal == 0 { payload(&block) } else { Vec::new() };
+            Outcome { refusal, lent, ..Outcome::default() }
+        }
+        Input::Read { file, mut stream } => length_outcome(table_read(&file, &mut stream), stream),
+        Input::Write { stream, mut file } => length_outcome(table_write(&stream, &mut file), file),
+        Input::Parse { n, sizes, packet } => {
+            let answer = message_parse(n, &sizes, &packet);
+            let numbers = vec![answer.kind.into()];
+            Outcome { refusal: answer.refusal, numbers, message: (&answer.message).into(), ..Outcome::default() }
+        }
+        Input::Encode { n, sizes, kind, message, mut out } => {
+            let refusal = message_write(n, &sizes, kind, (&message).into(), &mut out);
+            Outcome { refusal, lent: out, ..Outcome::default() }
+        }
+        Input::Make { own, n, sizes, costs, mut out } => {
+            unit_outcome(&unit_make(own, n, &sizes, &costs, &mut out), out)
+        }
+        Input::Step { unit, own, n, sizes, costs, packet, out } => {
+            step_both_ways((&unit).into(), own, n, &sizes, &costs, &packet, out)
+        }
+        Input::MakeNetwork { stream, mut pool } => network_outcome(&network_make(&stream, &mut pool), pool),
+        Input::Deliver { network, stream, mut pool, cell } => {
+            network_outcome(&network_deliver((&*network).into(), &stream, &mut pool, cell), pool)
+        }
+        Input::Settle { stream, mut pool } => network_outcome(&network_settle(&stream, &mut pool), pool),
+        Input::Search { stream } => {
+            let answer = search(&stream);
+            let numbers = vec![answer.total.into()];
+            Outcome { refusal: answer.refusal, numbers, lent: answer.assignment.to_vec(), ..Outcome::default() }
+        }
+    }
+}
+
+/// The step by value, and in place: the two must agree.
+fn step_both_ways(
+    unit: Unit,
+    own: u8,
+    n: u8,
+    sizes: &Places,
+    costs: &[u8],
+    packet: &[u8],
+    mut out: Vec<u8>,
+) -> Outcome {
+    let mut in_place = unit;
+    let mut again = out.clone();
+    let sent = unit_step_in_place(&mut in_place, own, n, sizes, costs, packet, &mut again);
+    let placed = UnitOutcome { refusal: sent.refusal, unit: in_place, sent: sent.sent, records: sent.records };
+    let answer = unit_step(unit, own, n, sizes, costs, packet, &mut out);
+    let by_value = unit_outcome(&answer, out);
+    assert_eq!(by_value, unit_outcome(&placed, again), "the step in place is the step by value");
+    by_value
+}
+
+/// The part of an accepted block that the library says holds its payload: its count says how long.
+fn payload(block: &[u8]) -> Vec<u8> {
+    let count = u16::from_le_bytes([block[2], block[3]]) as usize;
+    block[4..4 + count].to_vec()
+}
+
+/// Sizes and places as include/riksamoe.h states them.
+const _: () = {
+    use std::mem::{offset_of, size_of};
+    assert!(size_of::<Message>() == 60);
+    assert!(offset_of!(Message, stamp) == 2 && offset_of!(Message, cost) == 36 && offset_of!(Message, best) == 44);
+    assert!(size_of::<Unit>() == 140);
+    assert!(offset_of!(Unit, estimates) == 36 && offset_of!(Unit, cost) == 132 && offset_of!(Unit, stopped) == 137);
+    assert!(size_of::<UnitOutcome>() == 148);
+    assert!(size_of::<Network>() == 2_280);
+};
