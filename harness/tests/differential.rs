@@ -1,0 +1,61 @@
+//! The comparison finds a fault where there is one, and none where there is none.
+
+use harness::calls::{self, Call, Input, Outcome, CALLS};
+use harness::differential::{compare, describe};
+
+#[test]
+fn equal_implementations_agree() {
+    for (call, name, _) in CALLS {
+        let report = compare(call, 300, 4, calls::reference);
+        assert!(report.difference.is_none(), "{name}");
+        assert_eq!(report.counts.iter().sum::<u64>(), 300);
+    }
+}
+
+/// The reference with 01's shortcut in it: a state's own threshold place left as it was on backing up.
+fn backs_up_without_raising(input: Input) -> Outcome {
+    let before = match &input {
+        Input::Step { unit, own, .. } => Some((unit.threshold, *own as usize)),
+        _ => None,
+    };
+    let mut outcome = calls::reference(input);
+    if let Some((threshold, own)) = before {
+        let unit = &mut outcome.units[0];
+        if outcome.refusal == 0 && unit.threshold[own - 1] == threshold[own - 1] + 1 && unit.values == [0; 16] {
+            unit.threshold = threshold;
+        }
+    }
+    outcome
+}
+
+#[test]
+fn a_threshold_left_as_it_was_is_found() {
+    let found = compare(Call::Step, 20_000, 1, backs_up_without_raising).difference.expect("a difference");
+    assert!(describe(&found).contains("unit 1"));
+}
+
+#[test]
+fn one_byte_written_too_much_is_found() {
+    let writes_on = |input: Input| {
+        let mut outcome = calls::reference(input);
+        if let (0, Some(byte)) = (outcome.refusal, outcome.lent.get_mut(64)) {
+            *byte ^= 1;
+        }
+        outcome
+    };
+    let found = compare(Call::Encode, 20_000, 1, writes_on).difference.expect("a difference");
+    assert!(describe(&found).contains("byte 64"));
+}
+
+#[test]
+fn checks_in_another_order_are_found() {
+    let kind_before_ends = |input: Input| {
+        let mut outcome = calls::reference(input);
+        if outcome.refusal == 10 {
+            outcome.refusal = 9;
+        }
+        outcome
+    };
+    let found = compare(Call::Parse, 20_000, 1, kind_before_ends).difference.expect("a difference");
+    assert!(describe(&found).contains("refusal 10 by the reference, 9 by the other"));
+}
