@@ -1,0 +1,393 @@
+-- Reading and writing are inverse. A message that writing accepts reads back as itself, and accepted bytes are written again as
+-- the same bytes, so reading is injective on them.
+--     Fields in bytes           a field laid at its place is read there, and read bytes are laid again
+--     parse-encode, parse-encode-any, parse-written     a message written and read
+--     Accepted, accepted        what is known of accepted bytes
+--     encode-parse, parse-injective     accepted bytes read and written
+--     refused-blank             beside a refusal every field is zero
+-- Assumes nothing.
+use Prim.Native.Nat.{ℕ, suc, _+_, _≤_, _<_}
+use mathlib.Core.Path.{_≡_, refl, sym, ap, _∙_}
+use mathlib.Core.Bool.{Bool, true, false, _&&_, _||_}
+use mathlib.Core.List.{List, [], _∷_, _++_, append-assoc}
+use native.Mathlib.Omega.{arith}
+use native.Mathlib.Nat.{add-zero}
+use borrow.Author.Tests.{eq-eqb, eqb-true, ltb-false}
+use lib.Dec.{eqb, ltb}
+use lib.ListN.{length, take, drop, getD, length-append, length-take, length-drop}
+use lib.Seq.{take-at, drop-at, take-all, take-add, drop-cons, getD-append-add}
+use Rattle.base.specs.Bytes.{u16At, u32At, le16, le32, u16-of-le16, u32-of-le32, le16-of-u16, le32-of-u32}
+use Rattle.base.specs.Shape.{shapeGood, and-left, and-right}
+use Rattle.checksum.specs.Sum.{sumOf, sum-small}
+use Rattle.message.specs.declared.Kind.{Kind}
+use Rattle.message.specs.declared.Kind.the-variants.{Cpa, Request, Estimate, Solution, Stop}
+use Rattle.message.specs.declared.Read.{Read}
+use Rattle.message.specs.declared.Read.the-variants.{Good, Refused}
+use Rattle.message.specs.declared.Message.{Message}
+use Rattle.message.specs.declared.Parsed.{Parsed}
+use Rattle.message.specs.Message.{kindCode, noMessage, Sized, addressGood, wellFormed}
+use Rattle.message.specs.Encode.{body, encode, head, putAt, length-body, length-encode, put-fits}
+use Rattle.message.specs.Decode.{messageIn, kindOf, checkGood, restZero, forUnit, parseKind, parseFor, check-length, parse-5, parse-8, parse-10, parse-on, kind-refused, kind-rest, kind-unfit, kind-good, refused, writeRefusal, writeOf, write-done}
+
+-- ------------------------------------------------------------------------------------------------------------------
+-- Fields in bytes.
+
+-- the bytes q after p, and then r, read by their place
+field-after : (p q r : List ℕ) (at n : ℕ) → length p ≡ at → length q ≡ n → take n (drop at (p ++ q ++ r)) ≡ q
+field-after p q r at n e f = rw (append-assoc, drop-at p (q ++ r) at e, take-at q r n f)
+
+byte-after : (p q : List ℕ) (at j : ℕ) → length p ≡ at → getD (p ++ q) (at + j) 0 ≡ getD q j 0
+byte-after p q at j e = rw (← e) (getD-append-add p q j 0)
+
+u16-after : (p q : List ℕ) (at : ℕ) → length p ≡ at → u16At (p ++ q) at ≡ u16At q 0
+u16-after p q at e =
+    let f : getD (p ++ q) at 0 ≡ getD q 0 0 = rw add-zero at (byte-after p q at 0 e) in
+    rw (f, byte-after p q at 1 e)
+
+u32-after : (p q : List ℕ) (at : ℕ) → length p ≡ at → u32At (p ++ q) at ≡ u32At q 0
+u32-after p q at e =
+    let f : at + 2 + 1 ≡ at + 3 = omega arith in
+    rw (u16-after p q at e, byte-after p q at 2 e, f, byte-after p q at 3 e)
+
+-- bytes of a list by their place
+two-bytes : (s : List ℕ) (at : ℕ) → at + 2 ≤ length s → take 2 (drop at s) ≡ getD s at 0 ∷ getD s (at + 1) 0 ∷ []
+two-bytes s at h =
+    let e1 : at + 1 ≡ suc at = omega arith in
+    rw (e1, drop-cons s at 0 (omega arith), drop-cons s (suc at) 0 (omega arith))
+
+four-bytes : (s : List ℕ) (at : ℕ) → at + 4 ≤ length s → take 4 (drop at s) ≡ getD s at 0 ∷ getD s (at + 1) 0 ∷ getD s (at + 2) 0 ∷ getD s (at + 3) 0 ∷ []
+four-bytes s at h =
+    let e1 : at + 1 ≡ suc at = omega arith in
+    let e2 : at + 2 ≡ suc (suc at) = omega arith in
+    let e3 : at + 3 ≡ suc (suc (suc at)) = omega arith in
+    rw (e1, e2, e3, drop-cons s at 0 (omega arith), drop-cons s (suc at) 0 (omega arith), drop-cons s (suc (suc at)) 0 (omega arith), drop-cons s (suc (suc (suc at))) 0 (omega arith))
+
+-- a list of bytes
+abbrev pub AllBytes : List ℕ → Type 0
+AllBytes s = (j : ℕ) → getD s j 0 < 256
+
+le16-again : (s : List ℕ) (at : ℕ) → at + 2 ≤ length s → AllBytes s → le16 (u16At s at) ≡ take 2 (drop at s)
+le16-again s at h b = le16-of-u16 (getD s at 0) (getD s (at + 1) 0) (b at) (b (at + 1)) ∙ sym (two-bytes s at h)
+
+le32-again : (s : List ℕ) (at : ℕ) → at + 4 ≤ length s → AllBytes s → le32 (u32At s at) ≡ take 4 (drop at s)
+le32-again s at h b =
+    let f : at + 2 + 1 ≡ at + 3 = omega arith in
+    rw f (le32-of-u32 (getD s at 0) (getD s (at + 1) 0) (getD s (at + 2) 0) (getD s (at + 3) 0) (b at) (b (at + 1)) (b (at + 2)) (b (at + 3))) ∙ sym (four-bytes s at h)
+
+-- eight pieces in a row, grouped around one of them
+module _ (a b c d e f g w : List ℕ) where
+  around-b : a ++ b ++ c ++ d ++ e ++ f ++ g ++ w ≡ a ++ b ++ (c ++ d ++ e ++ f ++ g ++ w)
+  around-b = simp append-assoc
+
+  around-c : a ++ b ++ c ++ d ++ e ++ f ++ g ++ w ≡ a ++ b ++ c ++ (d ++ e ++ f ++ g ++ w)
+  around-c = simp append-assoc
+
+  around-d : a ++ b ++ c ++ d ++ e ++ f ++ g ++ w ≡ (a ++ b ++ c) ++ (d ++ (e ++ f ++ g ++ w))
+  around-d = simp append-assoc
+
+  around-e : a ++ b ++ c ++ d ++ e ++ f ++ g ++ w ≡ (a ++ b ++ c ++ d) ++ (e ++ (f ++ g ++ w))
+  around-e = simp append-assoc
+
+  around-f : a ++ b ++ c ++ d ++ e ++ f ++ g ++ w ≡ a ++ b ++ c ++ d ++ e ++ f ++ (g ++ w)
+  around-f = simp append-assoc
+
+  around-g : a ++ b ++ c ++ d ++ e ++ f ++ g ++ w ≡ (a ++ b ++ c ++ d ++ e ++ f) ++ (g ++ w)
+  around-g = simp append-assoc
+
+-- ------------------------------------------------------------------------------------------------------------------
+-- A message written and read.
+
+-- the pieces of the 64 bytes that are no field as it stands
+abbrev first : Kind → Message → List ℕ
+first k m = head (kindCode k) m
+
+abbrev last : Kind → Message → List ℕ
+last k m = le16 (sumOf (body k m))
+
+abbrev zeros : List ℕ
+zeros = 0 ∷ 0 ∷ []
+
+or-right : (a : Bool) {b : Bool} → b ≡ true → (a || b) ≡ true
+or-right true e = refl
+or-right false e = e
+
+module _ (k : Kind) (m : Message) (z : Sized m) where
+  check-of-encode : checkGood (encode k m) ≡ true
+  unfolding checkGood encode
+  check-of-encode =
+      let b : List ℕ = body k m in
+      let x : ℕ = sumOf b in
+      let h : length b ≡ 62 = length-body k m z in
+      let l : length (b ++ le16 x) ≡ 64 = length-encode k m z in
+      let u : u16At (b ++ le16 x) 62 ≡ x = u16-after b (le16 x) 62 h ∙ u16-of-le16 x (omega (arith, sum-small b)) in
+      rw (eq-eqb (length (b ++ le16 x)) 64 l, take-at b (le16 x) 62 h) (eq-eqb (u16At (b ++ le16 x) 62) x u)
+
+  -- each field is read where it was laid
+  stamp-of-encode : take 16 (drop 4 (encode k m)) ≡ m .stamp
+  unfolding encode body
+  stamp-of-encode =
+      ap (λ (s : List ℕ). take 16 (drop 4 s)) (around-b (first k m) (m .stamp) (m .values) (le32 (m .cost)) (le32 (m .bound)) (m .best) zeros (last k m))
+      ∙ field-after (first k m) (m .stamp) (m .values ++ le32 (m .cost) ++ le32 (m .bound) ++ m .best ++ zeros ++ last k m) 4 16 refl (z .stamp)
+
+  values-of-encode : take 16 (drop 20 (encode k m)) ≡ m .values
+  unfolding encode body
+  values-of-encode =
+      let h : length (first k m ++ m .stamp) ≡ 20 = simp length-append (omega arith) in
+      ap (λ (s : List ℕ). take 16 (drop 20 s)) (around-c (first k m) (m .stamp) (m .values) (le32 (m .cost)) (le32 (m .bound)) (m .best) zeros (last k m))
+      ∙ field-after (first k m ++ m .stamp) (m .values) (le32 (m .cost) ++ le32 (m .bound) ++ m .best ++ zeros ++ last k m) 20 16 h (z .values)
+
+  cost-of-encode : u32At (encode k m) 36 ≡ m .cost
+  unfolding encode body
+  cost-of-encode =
+      let h : length (first k m ++ m .stamp ++ m .values) ≡ 36 = simp length-append (omega arith) in
+      ap (λ (s : List ℕ). u32At s 36) (around-d (first k m) (m .stamp) (m .values) (le32 (m .cost)) (le32 (m .bound)) (m .best) zeros (last k m))
+      ∙ u32-after (first k m ++ m .stamp ++ m .values) (le32 (m .cost) ++ (le32 (m .bound) ++ m .best ++ zeros ++ last k m)) 36 h ∙ u32-of-le32 (m .cost) (z .cost)
+
+  bound-of-encode : u32At (encode k m) 40 ≡ m .bound
+  unfolding encode body
+  bound-of-encode =
+      let h : length (first k m ++ m .stamp ++ m .values ++ le32 (m .cost)) ≡ 40 = simp length-append (omega arith) in
+      ap (λ (s : List ℕ). u32At s 40) (around-e (first k m) (m .stamp) (m .values) (le32 (m .cost)) (le32 (m .bound)) (m .best) zeros (last k m))
+      ∙ u32-after (first k m ++ m .stamp ++ m .values ++ le32 (m .cost)) (le32 (m .bound) ++ (m .best ++ zeros ++ last k m)) 40 h ∙ u32-of-le32 (m .bound) (z .bound)
+
+  best-of-encode : take 16 (drop 44 (encode k m)) ≡ m .best
+  unfolding encode body
+  best-of-encode =
+      let h : length (first k m ++ m .stamp ++ m .values ++ le32 (m .cost) ++ le32 (m .bound)) ≡ 44 = simp length-append (omega arith) in
+      ap (λ (s : List ℕ). take 16 (drop 44 s)) (around-f (first k m) (m .stamp) (m .values) (le32 (m .cost)) (le32 (m .bound)) (m .best) zeros (last k m))
+      ∙ field-after (first k m ++ m .stamp ++ m .values ++ le32 (m .cost) ++ le32 (m .bound)) (m .best) (zeros ++ last k m) 44 16 h (z .best)
+
+  rest-of-encode : restZero (encode k m) ≡ true
+  unfolding restZero encode body
+  rest-of-encode =
+      let h : length (first k m ++ m .stamp ++ m .values ++ le32 (m .cost) ++ le32 (m .bound) ++ m .best) ≡ 60 = simp length-append (omega arith) in
+      let e : u16At (encode k m) 60 ≡ 0 = ap (λ (s : List ℕ). u16At s 60) (around-g (first k m) (m .stamp) (m .values) (le32 (m .cost)) (le32 (m .bound)) (m .best) zeros (last k m))
+      ∙ u16-after (first k m ++ m .stamp ++ m .values ++ le32 (m .cost) ++ le32 (m .bound) ++ m .best) (zeros ++ last k m) 60 h in
+      eq-eqb (u16At (encode k m) 60) 0 e
+
+  pub sender-of-encode : getD (encode k m) 1 0 ≡ m .sender
+  unfolding encode body
+  sender-of-encode = refl
+
+  pub receiver-of-encode : getD (encode k m) 2 0 ≡ m .receiver
+  unfolding encode body
+  receiver-of-encode = refl
+
+  pub message-of-encode : messageIn (encode k m) ≡ m
+  unfolding messageIn
+  message-of-encode = rw (sender-of-encode, receiver-of-encode, stamp-of-encode, values-of-encode, cost-of-encode, bound-of-encode, best-of-encode)
+
+  kind-of-encode : kindOf (getD (encode k m) 0 0) ≡ Good k
+  unfolding encode body
+  kind-of-encode = go k
+    where
+      go : (k : Kind) → kindOf (kindCode k) ≡ Good k
+      go Cpa = refl
+      go Request = refl
+      go Estimate = refl
+      go Solution = refl
+      go Stop = refl
+
+-- a message that fits its kind, written and read; own is 0 or the receiver
+module _ (n : ℕ) (sizes : List ℕ) (k : Kind) (m : Message) (shape : shapeGood n sizes ≡ true) (address : addressGood n m ≡ true) (formed : wellFormed n sizes k m ≡ true) (z : Sized m) where
+  parse-encode-for : (own : ℕ) → forUnit own m ≡ true → parseFor n sizes own (encode k m) ≡ record { answer = Good k; message = m }
+  parse-encode-for own f =
+      let e : messageIn (encode k m) ≡ m = message-of-encode k m z in
+      let h : (addressGood n (messageIn (encode k m)) && forUnit own (messageIn (encode k m))) ≡ true = rw (e, address, f) in
+      parse-on n sizes own (encode k m) shape (check-of-encode k m z) h
+      ∙ rw e (kind-good n sizes (encode k m) m (kindOf (getD (encode k m) 0 0)) k (kind-of-encode k m z) (rest-of-encode k m z) formed)
+
+  pub parse-encode : parseFor n sizes (m .receiver) (encode k m) ≡ record { answer = Good k; message = m }
+  unfolding forUnit
+  parse-encode = parse-encode-for (m .receiver) (or-right (eqb (m .receiver) 0) (eq-eqb (m .receiver) (m .receiver) refl))
+
+  pub parse-encode-any : parseFor n sizes 0 (encode k m) ≡ record { answer = Good k; message = m }
+  unfolding forUnit
+  parse-encode-any = parse-encode-for 0 refl
+
+-- ------------------------------------------------------------------------------------------------------------------
+-- What `write` accepts.
+
+pub record Writable (n : ℕ) (sizes : List ℕ) (k : Kind) (m : Message) (room : ℕ) : Type 0 where
+  pub shape : shapeGood n sizes ≡ true
+  pub address : addressGood n m ≡ true
+  pub formed : wellFormed n sizes k m ≡ true
+  pub fits : 64 ≤ room
+
+pub writable : (n : ℕ) (sizes : List ℕ) (k : Kind) (m : Message) (room : ℕ) → writeRefusal n sizes k m room ≡ 0 → Writable n sizes k m room
+unfolding writeRefusal
+writable n sizes k m room e = go (shapeGood n sizes) refl (addressGood n m) refl (wellFormed n sizes k m) refl (ltb room 64) refl
+  where
+    never : (r : ℕ) → 0 < r → r ≡ 0 → Writable n sizes k m room
+    never r h q = absurd (omega arith)
+
+    go : (a : Bool) → shapeGood n sizes ≡ a → (b : Bool) → addressGood n m ≡ b → (c : Bool) → wellFormed n sizes k m ≡ c → (d : Bool) → ltb room 64 ≡ d → Writable n sizes k m room
+    go false p b q c t d u = never 5 (omega arith) (rw p at e)
+    go true p false q c t d u = never 10 (omega arith) (rw (p, q) at e)
+    go true p true q false t d u = never 9 (omega arith) (rw (p, q, t) at e)
+    go true p true q true t true u = never 13 (omega arith) (rw (p, q, t, u) at e)
+    go true p true q true t false u = record { shape = p; address = q; formed = t; fits = ltb-false room 64 u }
+
+-- what `write` accepts and puts first in the output reads back as the same message and kind
+pub parse-written : (n : ℕ) (sizes : List ℕ) (k : Kind) (m : Message) (out : List ℕ) → Sized m → writeRefusal n sizes k m (length out) ≡ 0
+    → parseFor n sizes 0 (take 64 (writeOf n sizes k m out)) ≡ record { answer = Good k; message = m }
+parse-written n sizes k m out z e =
+    let a : Writable n sizes k m (length out) = writable n sizes k m (length out) e in
+    let f : writeOf n sizes k m out ≡ putAt out 0 (encode k m) = write-done n sizes k m out e ∙ put-fits k m out 0 (omega arith) in
+    let g : take 64 (writeOf n sizes k m out) ≡ encode k m = ap (λ (l : List ℕ). take 64 l) f ∙ take-at (encode k m) (drop (0 + length (encode k m)) out) 64 (length-encode k m z) in
+    rw g (parse-encode-any n sizes k m (a .shape) (a .address) (a .formed) z)
+
+-- ------------------------------------------------------------------------------------------------------------------
+-- Accepted bytes, read and written.
+
+-- what is known of bytes that reading accepts
+pub record Accepted (n : ℕ) (sizes : List ℕ) (own : ℕ) (s : List ℕ) (k : Kind) : Type 0 where
+  pub shape : shapeGood n sizes ≡ true
+  pub check : checkGood s ≡ true
+  pub address : addressGood n (messageIn s) ≡ true
+  pub receiver : forUnit own (messageIn s) ≡ true
+  pub kind : kindOf (getD s 0 0) ≡ Good k
+  pub rest : restZero s ≡ true
+  pub formed : wellFormed n sizes k (messageIn s) ≡ true
+  pub whole : parseFor n sizes own s ≡ record { answer = Good k; message = messageIn s }
+
+module _ (n : ℕ) (sizes : List ℕ) (own : ℕ) (s : List ℕ) (k : Kind) (good : parseFor n sizes own s .answer ≡ Good k) where
+  -- an answer that refuses is none that accepts
+  never-refused : (r : ℕ) → parseFor n sizes own s ≡ refused r → ⊥
+  never-refused r e = let h = ap (λ (x : Parsed). x .answer) e in let c : _≡_ {A = ℕ} 0 1 = cc in omega arith
+
+  -- past check 10, by the kind read and the two parts of check 9
+  module _ (p : shapeGood n sizes ≡ true) (q : checkGood s ≡ true) (t : (addressGood n (messageIn s) && forUnit own (messageIn s)) ≡ true) where
+    on : parseFor n sizes own s ≡ parseKind n sizes s (messageIn s) (kindOf (getD s 0 0))
+    on = parse-on n sizes own s p q t
+
+    by-fields : (j : Kind) → kindOf (getD s 0 0) ≡ Good j → (r : Bool) → restZero s ≡ r → (w : Bool) → wellFormed n sizes j (messageIn s) ≡ w → Accepted n sizes own s k
+    by-fields j e false f w g = absurd (never-refused 9 (on ∙ kind-rest n sizes s (messageIn s) _ j e f))
+    by-fields j e true f false g = absurd (never-refused 9 (on ∙ kind-unfit n sizes s (messageIn s) _ j e f g))
+    by-fields j e true f true g =
+        let h : parseFor n sizes own s ≡ record { answer = Good j; message = messageIn s } = on ∙ kind-good n sizes s (messageIn s) _ j e f g in
+        let h′ = ap (λ (x : Parsed). x .answer) h in
+        let i : j ≡ k = cc in
+        record {
+          shape = p;
+          check = q;
+          address = and-left _ _ t;
+          receiver = and-right (addressGood n (messageIn s)) _ t;
+          kind = rw i at e;
+          rest = f;
+          formed = rw i at g;
+          whole = rw i at h;
+        }
+
+    by-kind : (a : Read) → kindOf (getD s 0 0) ≡ a → Accepted n sizes own s k
+    by-kind (Good j) e = by-fields j e (restZero s) refl (wellFormed n sizes j (messageIn s)) refl
+    by-kind (Refused r) e = absurd (never-refused r (on ∙ kind-refused n sizes s (messageIn s) _ r e))
+
+  pub accepted : Accepted n sizes own s k
+  accepted = go (shapeGood n sizes) refl (checkGood s) refl (addressGood n (messageIn s) && forUnit own (messageIn s)) refl
+    where
+      go : (a : Bool) → shapeGood n sizes ≡ a → (b : Bool) → checkGood s ≡ b → (d : Bool) → (addressGood n (messageIn s) && forUnit own (messageIn s)) ≡ d → Accepted n sizes own s k
+      go false p b q d t = absurd (never-refused 5 (parse-5 n sizes own s p))
+      go true p false q d t = absurd (never-refused 8 (parse-8 n sizes own s p q))
+      go true p true q false t = absurd (never-refused 10 (parse-10 n sizes own s p q t))
+      go true p true q true t = by-kind p q t (kindOf (getD s 0 0)) refl
+
+-- byte 0 is the number of the kind read
+kind-code : (b : ℕ) (k : Kind) → kindOf b ≡ Good k → kindCode k ≡ b
+kind-code b k e = go (eqb b 1) refl (eqb b 2) refl (eqb b 3) refl (eqb b 4) refl (eqb b 5) refl
+  where
+    same : (i : ℕ) (j : Kind) → eqb b i ≡ true → Good j ≡ Good k → kindCode j ≡ i → kindCode k ≡ b
+    same i j t h c = let f : j ≡ k = cc in rw f at c ∙ sym (eqb-true b i t)
+
+    go : (p : Bool) → eqb b 1 ≡ p → (q : Bool) → eqb b 2 ≡ q → (r : Bool) → eqb b 3 ≡ r → (t : Bool) → eqb b 4 ≡ t → (u : Bool) → eqb b 5 ≡ u → kindCode k ≡ b
+    go true p q _ r _ t _ u _ = same 1 Cpa p (rw p at e) refl
+    go false p true q r _ t _ u _ = same 2 Request q (rw (p, q) at e) refl
+    go false p false q true r t _ u _ = same 3 Estimate r (rw (p, q, r) at e) refl
+    go false p false q false r true t u _ = same 4 Solution t (rw (p, q, r, t) at e) refl
+    go false p false q false r false t true u = same 5 Stop u (rw (p, q, r, t, u) at e) refl
+    go false p false q false r false t false u = let h : Refused 9 ≡ Good k = rw (p, q, r, t, u) at e in let c : _≡_ {A = ℕ} 0 1 = cc in absurd (omega arith)
+
+-- the first 62 bytes, cut where the fields are
+cut : (s : List ℕ) → take 62 s ≡ take 4 s ++ take 16 (drop 4 s) ++ take 16 (drop 20 s) ++ take 4 (drop 36 s) ++ take 4 (drop 40 s) ++ take 16 (drop 44 s) ++ take 2 (drop 60 s)
+cut s = rw (take-add 60 2 s, take-add 44 16 s, take-add 40 4 s, take-add 36 4 s, take-add 20 16 s, take-add 4 16 s)
+
+same-pieces : {a a′ c c′ d d′ g g′ : List ℕ} (x y w : List ℕ) → a ≡ a′ → c ≡ c′ → d ≡ d′ → g ≡ g′ → a ++ x ++ y ++ c ++ d ++ w ++ g ≡ a′ ++ x ++ y ++ c′ ++ d′ ++ w ++ g′
+same-pieces x y w p q r t = cc
+
+module _ (s : List ℕ) (l : length s ≡ 64) (bytes : AllBytes s) (k : Kind) (kind : kindOf (getD s 0 0) ≡ Good k) (rest : restZero s ≡ true) (check : checkGood s ≡ true) where
+  first-again : head (kindCode k) (messageIn s) ≡ take 4 s
+  unfolding messageIn restZero
+  first-again =
+      let z : getD s 3 0 ≡ 0 = eqb-true (getD s 3 0) 0 (and-left _ _ rest) in
+      rw (kind-code (getD s 0 0) k kind) (ap (λ (x : ℕ). getD s 0 0 ∷ getD s 1 0 ∷ getD s 2 0 ∷ x ∷ []) (sym z) ∙ sym (four-bytes s 0 (omega arith)))
+
+  zeros-again : zeros ≡ take 2 (drop 60 s)
+  unfolding restZero
+  zeros-again =
+      let z : u16At s 60 ≡ 0 = eqb-true (u16At s 60) 0 (and-right (eqb (getD s 3 0) 0) _ rest) in
+      ap le16 (sym z) ∙ le16-again s 60 (omega arith) bytes
+
+  body-again : body k (messageIn s) ≡ take 62 s
+  unfolding body messageIn
+  body-again =
+      same-pieces (take 16 (drop 4 s)) (take 16 (drop 20 s)) (take 16 (drop 44 s)) first-again (le32-again s 36 (omega arith) bytes) (le32-again s 40 (omega arith) bytes) zeros-again
+      ∙ sym (cut s)
+
+  pub encode-again : encode k (messageIn s) ≡ s
+  unfolding encode checkGood
+  encode-again =
+      let c : u16At s 62 ≡ sumOf (take 62 s) = eqb-true (u16At s 62) (sumOf (take 62 s)) (and-right (eqb (length s) 64) _ check) in
+      let e : le16 (sumOf (body k (messageIn s))) ≡ take 2 (drop 62 s) = ap (λ (b : List ℕ). le16 (sumOf b)) body-again ∙ ap le16 (sym c) ∙ le16-again s 62 (omega arith) bytes in
+      ap (λ (b : List ℕ). b ++ le16 (sumOf (body k (messageIn s)))) body-again ∙ ap (λ (w : List ℕ). take 62 s ++ w) e ∙ sym (take-add 62 2 s) ∙ take-all 64 s (omega arith)
+
+-- the fields of 64 bytes are sized as the types of the code say
+pub sized-in : (s : List ℕ) → length s ≡ 64 → AllBytes s → Sized (messageIn s)
+unfolding messageIn
+sized-in s l bytes = record {
+  stamp = simp (length-take, length-drop) (omega arith);
+  values = simp (length-take, length-drop) (omega arith);
+  best = simp (length-take, length-drop) (omega arith);
+  cost = omega (arith, bytes 36, bytes 37, bytes 38, bytes 39);
+  bound = omega (arith, bytes 40, bytes 41, bytes 42, bytes 43);
+}
+
+-- accepted bytes, read and written again, are the same bytes
+pub encode-parse : (n : ℕ) (sizes : List ℕ) (own : ℕ) (s : List ℕ) (k : Kind) → AllBytes s → parseFor n sizes own s .answer ≡ Good k → encode k (parseFor n sizes own s .message) ≡ s
+encode-parse n sizes own s k b e =
+    let a : Accepted n sizes own s k = accepted n sizes own s k e in
+    ap (λ (p : Parsed). encode k (p .message)) (a .whole) ∙ encode-again s (check-length s (a .check)) b k (a .kind) (a .rest) (a .check)
+
+-- so no two of them read alike
+pub parse-injective : (n : ℕ) (sizes : List ℕ) (own : ℕ) (s t : List ℕ) (k : Kind) → AllBytes s → AllBytes t
+    → parseFor n sizes own s .answer ≡ Good k → parseFor n sizes own s ≡ parseFor n sizes own t → s ≡ t
+parse-injective n sizes own s t k b c e f =
+    let g : parseFor n sizes own t .answer ≡ Good k = rw (← f) e in
+    sym (encode-parse n sizes own s k b e) ∙ ap (λ (p : Parsed). encode k (p .message)) f ∙ encode-parse n sizes own t k c g
+
+-- ------------------------------------------------------------------------------------------------------------------
+-- Where reading refuses, every field beside the number is zero.
+
+module _ (n : ℕ) (sizes : List ℕ) (own : ℕ) (s : List ℕ) (r : ℕ) (bad : parseFor n sizes own s .answer ≡ Refused r) where
+  blank : (r : ℕ) → parseFor n sizes own s ≡ refused r → parseFor n sizes own s .message ≡ noMessage
+  blank r e = ap (λ (p : Parsed). p .message) e
+
+  blank-past-10 : parseFor n sizes own s ≡ parseKind n sizes s (messageIn s) (kindOf (getD s 0 0)) → (a : Read) → kindOf (getD s 0 0) ≡ a → parseFor n sizes own s .message ≡ noMessage
+  blank-past-10 on (Refused q) e = blank q (on ∙ kind-refused n sizes s (messageIn s) _ q e)
+  blank-past-10 on (Good j) e = go (restZero s) refl (wellFormed n sizes j (messageIn s)) refl
+    where
+      go : (a : Bool) → restZero s ≡ a → (b : Bool) → wellFormed n sizes j (messageIn s) ≡ b → parseFor n sizes own s .message ≡ noMessage
+      go false f b g = blank 9 (on ∙ kind-rest n sizes s (messageIn s) _ j e f)
+      go true f false g = blank 9 (on ∙ kind-unfit n sizes s (messageIn s) _ j e f g)
+      go true f true g =
+          let h = ap (λ (p : Parsed). p .answer) (on ∙ kind-good n sizes s (messageIn s) _ j e f g) in
+          let c : _≡_ {A = ℕ} 0 1 = cc in
+          absurd (omega arith)
+
+  pub refused-blank : parseFor n sizes own s .message ≡ noMessage
+  refused-blank = go (shapeGood n sizes) refl (checkGood s) refl (addressGood n (messageIn s) && forUnit own (messageIn s)) refl
+    where
+      go : (a : Bool) → shapeGood n sizes ≡ a → (b : Bool) → checkGood s ≡ b → (d : Bool) → (addressGood n (messageIn s) && forUnit own (messageIn s)) ≡ d → parseFor n sizes own s .message ≡ noMessage
+      go false p b q d t = blank 5 (parse-5 n sizes own s p)
+      go true p false q d t = blank 8 (parse-8 n sizes own s p q)
+      go true p true q false t = blank 10 (parse-10 n sizes own s p q t)
+      go true p true q true t = blank-past-10 (parse-on n sizes own s p q t) (kindOf (getD s 0 0)) refl
