@@ -7,15 +7,8 @@ ghost use lib.Dec.{eqb};
 ghost use lib.ListN.{getD};
 ghost use Rattle.costs.specs.Instance.{domIn, isValue, inPair, costNumber, lentView};
 ghost use Rattle.costs.specs.Bounds.{costWith, h, estimate};
-ghost use Rattle.costs.specs.Lent.{
-  lentCostsGood,
-  lentCount,
-  lentRefusal,
-  viewAt,
-  othersBefore,
-  pairFrom,
-  leastRun,
-};
+ghost use Rattle.costs.specs.Lent.{lentCostsGood, lentCount, lentRefusal};
+ghost use Rattle.costs.specs.Lent.Parts.{viewAt, othersBefore, pairFrom, leastRun};
 
 // Refusal 6 or 7 of the costs lent with unit `own`, or 0.
 pub fn lent_refusal(own: u8, n: u8, sizes: [u8; 16], costs: &[u8]) -> u8

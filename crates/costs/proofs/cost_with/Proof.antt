@@ -1,6 +1,5 @@
 -- `cost_with` meets its contract: the unit's view is that at its place.
 -- Assumes nothing.
-use mathlib.Core.Path.{_≡_, sym, ap, _∙_}
 use borrow.Author.Needs.{needs}
 use Rattle.costs.specs.Lent.Steps.{view-at}
 use Rattle.costs.proofs.cost_with.Statement.{statement}

@@ -1,13 +1,13 @@
 -- `later_cost` meets its contract. The loop's invariant: the whole is the sum and what comes from place j on; `passed` counts the values of the others before place j.
 -- Assumes nothing.
 use Prim.Native.Nat.{_≤_, _<_, _+_, _*_, _-_}
-use mathlib.Core.Path.{_≡_, refl, sym, _∙_}
+use mathlib.Core.Path.{_≡_, sym, _∙_}
 use native.Mathlib.Nat.{mul-le-mul, zero-add, add-zero, add-assoc}
 use native.Mathlib.Omega.{arith}
 use borrow.Author.Needs.{needs}
 use borrow.Author.Tests.{not-true, not-false}
 use Rattle.costs.specs.Bounds.{h}
-use Rattle.costs.specs.Lent.{viewAt, othersBefore, laterFrom}
+use Rattle.costs.specs.Lent.Parts.{viewAt, othersBefore, laterFrom}
 use Rattle.costs.specs.Laws.Stream.{value-range}
 use Rattle.costs.specs.Lent.Steps.{others-later, later-start, later-step, later-done, later-no-value}
 use Rattle.costs.proofs.later_cost.Statement.{statement}

@@ -1,10 +1,10 @@
 -- `least_cost` meets its contract. The loop's invariant: the best is the least of the values up to v.
 -- Assumes nothing.
 use Prim.Native.Nat.{_≤_, _-_}
-use mathlib.Core.Path.{_≡_, refl, sym, _∙_}
+use mathlib.Core.Path.{_≡_, sym, _∙_}
 use native.Mathlib.Omega.{arith}
 use borrow.Author.Needs.{needs}
-use Rattle.costs.specs.Lent.{viewAt, leastCost}
+use Rattle.costs.specs.Lent.Parts.{viewAt, leastCost}
 use Rattle.costs.specs.Lent.Steps.{estimate-least, leastCost-one, leastCost-more}
 use Rattle.costs.proofs.least_cost.Statement.{statement}
 use Rattle.costs.proofs.least_cost.Tie as tie

@@ -1,12 +1,10 @@
 -- `least_run` meets its contract. The loop's invariant: the best is the least of the first u costs.
 -- Assumes nothing.
-use Prim.Native.Nat.{ℕ, _≤_, _-_, _+_}
-use mathlib.Core.Path.{_≡_, refl, sym, ap, _∙_}
-use native.Mathlib.Nat.{add-sub-cancel, add-zero}
+use Prim.Native.Nat.{_≤_, _-_}
+use mathlib.Core.Path.{_≡_, sym, _∙_}
 use native.Mathlib.Omega.{arith}
 use borrow.Author.Needs.{needs}
-use Rattle.costs.specs.Instance.{costNumber}
-use Rattle.costs.specs.Lent.{leastRun}
+use Rattle.costs.specs.Lent.Parts.{leastRun}
 use Rattle.costs.specs.Lent.Steps.{run-one, run-more}
 use Rattle.costs.proofs.least_run.Statement.{statement}
 use Rattle.costs.proofs.least_run.Tie as tie

@@ -1,7 +1,7 @@
 -- `lent_refusal` meets its contract: each way out fixes the tests of the definition.
 -- Assumes nothing.
-use mathlib.Core.Path.{_≡_, sym, _∙_}
-use mathlib.Core.Bool.{Bool, true, false}
+use mathlib.Core.Path.{sym, _∙_}
+use mathlib.Core.Bool.{true, false}
 use borrow.Author.Needs.{needs}
 use borrow.Author.Tests.{not-true, not-false}
 use Rattle.costs.specs.Lent.Checks.{refusal-length, refusal-costs}

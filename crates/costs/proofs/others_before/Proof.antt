@@ -1,10 +1,10 @@
 -- `others_before` meets its contract. The loop's invariant: the sum is that of the places passed, at most 255 for each.
 -- Assumes nothing.
 use Prim.Native.Nat.{_≤_, _*_, _-_}
-use mathlib.Core.Path.{_≡_, refl, sym, _∙_}
+use mathlib.Core.Path.{_≡_}
 use native.Mathlib.Omega.{arith}
 use borrow.Author.Needs.{needs}
-use Rattle.costs.specs.Lent.{othersBefore}
+use Rattle.costs.specs.Lent.Parts.{othersBefore}
 use Rattle.costs.specs.Lent.Steps.{sumTo-more}
 use Rattle.costs.proofs.others_before.Statement.{statement}
 use Rattle.costs.proofs.others_before.Tie as tie

@@ -1,13 +1,11 @@
 -- `pair_cost` meets its contract: each way out fixes the tests of the definition.
 -- Assumes nothing.
-use Prim.Native.Nat.{_≤_, _<_, _*_}
-use mathlib.Core.Path.{_≡_, sym, _∙_}
-use mathlib.Core.Bool.{true, false}
+use Prim.Native.Nat.{_<_}
+use mathlib.Core.Path.{sym, _∙_}
 use native.Mathlib.Nat.{mul-le-mul}
 use native.Mathlib.Omega.{arith}
 use borrow.Author.Needs.{needs}
 use borrow.Author.Tests.{not-true, not-false}
-use Rattle.costs.specs.Instance.{isValue}
 use Rattle.costs.specs.Laws.Stream.{value-range}
 use Rattle.costs.specs.Lent.Steps.{pair-self, pair-no-other, pair-no-own, pair-lower, pair-higher}
 use Rattle.costs.proofs.pair_cost.Statement.{statement}

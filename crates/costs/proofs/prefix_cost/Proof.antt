@@ -1,11 +1,11 @@
 -- `prefix_cost` meets its contract. The loop's invariant: the sum is the cost with the units passed, and `before` counts the values of the others among them.
 -- Assumes nothing.
 use Prim.Native.Nat.{_≤_, _*_, _-_}
-use mathlib.Core.Path.{_≡_, refl, sym, _∙_}
+use mathlib.Core.Path.{_≡_, refl, sym}
 use native.Mathlib.Omega.{arith}
 use borrow.Author.Needs.{needs}
 use Rattle.costs.specs.Bounds.{costWith}
-use Rattle.costs.specs.Lent.{viewAt, othersBefore}
+use Rattle.costs.specs.Lent.Parts.{viewAt, othersBefore}
 use Rattle.costs.specs.Lent.Steps.{sumTo-more, cost-none, cost-more, pair-from}
 use Rattle.costs.proofs.prefix_cost.Statement.{statement}
 use Rattle.costs.proofs.prefix_cost.Tie as tie

@@ -1,10 +1,9 @@
 -- `size_of` meets its contract: past the array or the count there is no size, and below both it is the array's.
 -- Assumes nothing.
-use mathlib.Core.Path.{sym, _∙_}
+use mathlib.Core.Path.{_≡_, sym, _∙_}
 use native.Mathlib.Omega.{arith}
 use borrow.Author.Needs.{needs}
 use lib.ListN.{length}
-use mathlib.Core.Path.{_≡_}
 use Rattle.costs.specs.Lent.Steps.{dom-past-count, dom-past-list, dom-at}
 use Rattle.costs.proofs.size_of.Statement.{statement}
 use Rattle.costs.proofs.size_of.Tie as tie

@@ -13,7 +13,7 @@ use borrow.Author.Tests.{leb-true, ltb-true, ltb-false, eqb-true}
 use Rattle.base.specs.Bytes.{u16-past}
 use Rattle.base.specs.Shape.{and-left, and-right}
 use Rattle.base.specs.Sums.{least}
-use Rattle.costs.specs.Instance.{View, domIn, isValue, costNumber, otherStart, inOther, lentCost, lentView}
+use Rattle.costs.specs.Instance.{View, domIn, isValue, costNumber, otherStart, inOther, lentView}
 use Rattle.costs.specs.Bounds.{costWith, h, estimate}
 use Rattle.costs.specs.Laws.Sums.{sumFrom-le, sumTo-le, least-bound}
 use Rattle.costs.specs.Lent.{lentCostsGood, lentCount, lentRefusal}

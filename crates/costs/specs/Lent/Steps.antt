@@ -3,19 +3,19 @@
 -- Assumes nothing.
 use Prim.Native.Nat.{ℕ, zero, suc, _+_, _*_, _-_, _≤_, _<_, pred, min}
 use mathlib.Core.Path.{_≡_, refl, sym, ap, _∙_}
-use mathlib.Core.Bool.{Bool, true, false, cond, not, _&&_, and-true, and-false}
+use mathlib.Core.Bool.{Bool, true, false, and-true, and-false}
 use mathlib.Core.List.{List}
 use native.Mathlib.Nat.{add-assoc, add-sub-cancel, add-zero, sub-self}
 use native.Mathlib.Numerals.{add-one}
 use native.Mathlib.Omega.{arith}
-use lib.Dec.{ltb, leb, eqb}
+use lib.Dec.{ltb}
 use lib.ListN.{getD, take, length, length-take, List·getD-eq-default}
 use lib.Seq.{getD-take}
 use borrow.Author.Tests.{lt-ltb, le-ltb, le-leb, lt-leb, ltb-false, eq-eqb, ne-eqb}
 use Rattle.base.specs.Sums.{sumFrom, sumTo, least}
 use Rattle.costs.specs.Instance.{View, domIn, isValue, inPair, costNumber, lentCost, lentView}
 use Rattle.costs.specs.Bounds.{costWith, h, estimate}
-use Rattle.costs.specs.Lent.{viewAt, othersBefore, pairFrom, leastRun, laterFrom, leastCost}
+use Rattle.costs.specs.Lent.Parts.{viewAt, othersBefore, pairFrom, leastRun, laterFrom, leastCost}
 
 -- ---- domain sizes
 
