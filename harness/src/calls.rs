@@ -121,9 +121,7 @@ pub fn reference(input: Input) -> Outcome {
             Err(refusal) => network_outcome(refusal, &Network::default(), pool),
         },
         Input::Search { stream } => match search::exhaustive(&stream) {
-            Ok((total, values)) => {
-                Outcome { numbers: vec![total.into()], lent: values.to_vec(), ..Outcome::default() }
-            }
+            Ok((total, values)) => Outcome { numbers: vec![total.into()], lent: values.to_vec(), ..Outcome::default() },
             Err(refusal) => Outcome { refusal, numbers: vec![0], lent: vec![0; 16], ..Outcome::default() },
         },
     }

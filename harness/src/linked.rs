@@ -212,9 +212,7 @@ pub fn unit_step_in_place(
     let (costs, costs_length) = (costs.as_ptr(), costs.len());
     let (packet, packet_length) = (packet.as_ptr(), packet.len());
     let (out, room) = (out.as_mut_ptr(), out.len());
-    unsafe {
-        riksamoe_unit_step_in_place(unit, own, n, sizes, costs, costs_length, packet, packet_length, out, room)
-    }
+    unsafe { riksamoe_unit_step_in_place(unit, own, n, sizes, costs, costs_length, packet, packet_length, out, room) }
 }
 
 pub fn network_make(stream: &[u8], pool: &mut [u8]) -> NetworkOutcome {

@@ -27,6 +27,7 @@ pub struct Effort {
 }
 
 /// A pair has a constraint with probability `density`; two of its values then cost 1 with probability `tightness`.
+#[allow(clippy::needless_range_loop)] // both triangles are written
 pub fn problem(random: &mut Random, n: usize, values: usize, density: f64, tightness: f64) -> Problem {
     let mut stream = vec![n as u8];
     stream.extend(vec![values as u8; n]);
@@ -63,8 +64,7 @@ struct Clocked<'a> {
 pub fn forward_bounding(problem: &Problem) -> Effort {
     let (n, sizes) = table::head(&problem.stream);
     let costs: Vec<Vec<u8>> = (1..=n as usize).map(|own| costs::of_unit(&problem.stream, own)).collect();
-    let views: Vec<View> =
-        (1..=n as usize).map(|own| View::new(own, n as usize, &sizes, &costs[own - 1])).collect();
+    let views: Vec<View> = (1..=n as usize).map(|own| View::new(own, n as usize, &sizes, &costs[own - 1])).collect();
     let mut shed = Clocked {
         views,
         problem,
@@ -89,10 +89,8 @@ impl Clocked<'_> {
     fn make(&mut self, own: usize) {
         let view = &self.views[own - 1];
         let later = own + 1..=view.n;
-        let for_h: usize = later
-            .filter(|j| self.problem.constrained[own - 1][j - 1])
-            .map(|j| view.size(own) * view.size(j))
-            .sum();
+        let for_h: usize =
+            later.filter(|j| self.problem.constrained[own - 1][j - 1]).map(|j| view.size(own) * view.size(j)).sum();
         self.units.push(Unit::default());
         self.clocks.push(for_h as u64);
         let decision = unit::start(view);
@@ -136,7 +134,7 @@ pub fn branch_and_bound(problem: &Problem, most_checks: u64) -> (Effort, bool) {
         (1..=n).map(|i| (1..i).filter(|j| problem.constrained[i - 1][j - 1]).collect()).collect();
     let mut search =
         Synchronous { views, earlier, values: vec![0; n], least: NONE, messages: 0, checks: 0, most_checks };
-    search.from_unit(1, 0);
+    search.extend_at(1, 0);
     let effort = Effort { least: search.least, messages: search.messages, checks: search.checks, waiting: 1 };
     (effort, search.checks <= most_checks)
 }
@@ -153,7 +151,7 @@ struct Synchronous<'a> {
 }
 
 impl Synchronous<'_> {
-    fn from_unit(&mut self, own: usize, cost: u32) {
+    fn extend_at(&mut self, own: usize, cost: u32) {
         let n = self.views.len();
         for value in 1..=self.views[own - 1].size(own) {
             let total = cost + self.added(own, value);
@@ -165,7 +163,7 @@ impl Synchronous<'_> {
                 self.least = total;
             } else {
                 self.messages += 2; // the CPA down, and later back
-                self.from_unit(own + 1, total);
+                self.extend_at(own + 1, total);
             }
         }
     }

@@ -80,8 +80,7 @@ impl Plot {
 
     fn curve(&self, svg: &mut String, curve: &Curve) {
         let place = |point: &(f64, f64)| (self.x(point.0), self.y(point.1));
-        let path: Vec<String> =
-            curve.points.iter().map(place).map(|(x, y)| format!("{x:.1},{y:.1}")).collect();
+        let path: Vec<String> = curve.points.iter().map(place).map(|(x, y)| format!("{x:.1},{y:.1}")).collect();
         let _ = writeln!(
             svg,
             "<polyline points=\"{}\" fill=\"none\" stroke=\"{}\" stroke-width=\"2\"{}/>",

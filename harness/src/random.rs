@@ -9,7 +9,7 @@ impl Random {
         Random { state: seed }
     }
 
-    pub fn next(&mut self) -> u64 {
+    pub fn word(&mut self) -> u64 {
         self.state = self.state.wrapping_add(0x9e37_79b9_7f4a_7c15);
         let mut z = self.state;
         z = (z ^ (z >> 30)).wrapping_mul(0xbf58_476d_1ce4_e5b9);
@@ -22,7 +22,7 @@ impl Random {
         if limit == 0 {
             return 0;
         }
-        ((self.next() as u128 * limit as u128) >> 64) as u64
+        ((self.word() as u128 * limit as u128) >> 64) as u64
     }
 
     /// A number from `low` to `high`, both included.
@@ -31,7 +31,7 @@ impl Random {
     }
 
     pub fn byte(&mut self) -> u8 {
-        self.next() as u8
+        self.word() as u8
     }
 
     /// True about once in `times` calls.
@@ -41,7 +41,7 @@ impl Random {
 
     /// True with this probability.
     pub fn chance(&mut self, probability: f64) -> bool {
-        ((self.next() >> 11) as f64 / (1u64 << 53) as f64) < probability
+        ((self.word() >> 11) as f64 / (1u64 << 53) as f64) < probability
     }
 
     pub fn pick<'a, T>(&mut self, from: &'a [T]) -> &'a T {

@@ -67,8 +67,7 @@ pub struct View<'a> {
 impl<'a> View<'a> {
     /// All of it has been checked: n, sizes, own number and the number of costs.
     pub fn new(own: usize, n: usize, sizes: &Places, costs: &'a [u8]) -> View<'a> {
-        let mut view =
-            View { own, n, sizes: *sizes, costs, starts: [0; 16], h: [0; 16], checks: Default::default() };
+        let mut view = View { own, n, sizes: *sizes, costs, starts: [0; 16], h: [0; 16], checks: Default::default() };
         let mut at = 0;
         for j in (1..=n).filter(|j| *j != own) {
             view.starts[j - 1] = at;
@@ -86,11 +85,7 @@ impl<'a> View<'a> {
 
     /// The cost of own value v with unit j's value u.
     pub fn pair(&self, j: usize, u: usize, v: usize) -> u32 {
-        let place = if j < self.own {
-            (u - 1) * self.size(self.own) + v - 1
-        } else {
-            (v - 1) * self.size(j) + u - 1
-        };
+        let place = if j < self.own { (u - 1) * self.size(self.own) + v - 1 } else { (v - 1) * self.size(j) + u - 1 };
         let at = self.starts[j - 1] + 2 * place;
         u32::from(u16::from_le_bytes([self.costs[at], self.costs[at + 1]]))
     }

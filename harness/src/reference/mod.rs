@@ -31,13 +31,7 @@ pub fn cost_limit(filled: usize) -> u32 {
 
 /// 01: "Filled stamp and value bytes are 1 to d(k), others 0".
 pub fn filled(places: &Places, count: usize, sizes: &Places) -> bool {
-    (0..16).all(|k| {
-        if k < count {
-            places[k] >= 1 && places[k] <= sizes[k]
-        } else {
-            places[k] == 0
-        }
-    })
+    (0..16).all(|k| if k < count { places[k] >= 1 && places[k] <= sizes[k] } else { places[k] == 0 })
 }
 
 /// 01: "A bound is at most 7,200,000 with best filled for all n and zero after".

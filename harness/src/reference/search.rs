@@ -13,7 +13,7 @@ pub fn exhaustive(stream: &[u8]) -> Result<(u32, Places), Refusal> {
         return Err(16);
     }
     let mut search = Search { n: n as usize, sizes, pairs: pair_tables(stream), values: [0; 16], best: None };
-    search.from_unit(0, 0);
+    search.extend_at(0, 0);
     Ok(search.best.expect("some assignment"))
 }
 
@@ -43,7 +43,7 @@ struct Search {
 
 impl Search {
     /// 01: "The bench search goes unit by unit, each choice handing on to the next unit's".
-    fn from_unit(&mut self, unit: usize, cost: u32) {
+    fn extend_at(&mut self, unit: usize, cost: u32) {
         if unit == self.n {
             if self.best.is_none_or(|(least, _)| cost < least) {
                 self.best = Some((cost, self.values));
@@ -53,7 +53,7 @@ impl Search {
         for value in 1..=self.sizes[unit] {
             self.values[unit] = value;
             let added: u32 = (0..unit).map(|before| self.pair(before, unit)).sum();
-            self.from_unit(unit + 1, cost + added);
+            self.extend_at(unit + 1, cost + added);
         }
     }
 

@@ -35,7 +35,7 @@ pub fn read(file: &[u8], stream: &mut [u8]) -> Result<usize, Refusal> {
     if stream.len() < MAX_STREAM {
         return Err(13);
     }
-    if file.is_empty() || file.len() % BLOCK != 0 || file.len() > MAX_FILE {
+    if file.is_empty() || !file.len().is_multiple_of(BLOCK) || file.len() > MAX_FILE {
         return Err(1);
     }
     let blocks = file.len() / BLOCK;

@@ -134,9 +134,8 @@ fn cpa_in_range(view: &View, unit: &Unit) -> bool {
     if value == 0 {
         return unit.stamp == [0; 16] && unit.values == [0; 16] && unit.cost == 0;
     }
-    let message_limits = filled(&unit.stamp, own, &view.sizes)
-        && filled(&unit.values, own, &view.sizes)
-        && unit.cost <= cost_limit(own);
+    let message_limits =
+        filled(&unit.stamp, own, &view.sizes) && filled(&unit.values, own, &view.sizes) && unit.cost <= cost_limit(own);
     if !message_limits {
         return false;
     }
