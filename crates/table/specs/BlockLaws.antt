@@ -7,15 +7,16 @@ use native.Mathlib.Nat.{zero-add, add-zero, le-of-suc-le-suc, not-suc-le-zero}
 use native.Mathlib.Numerals.{add-one}
 use native.Mathlib.Omega.{arith}
 use mathlib.Core.Bool.{Bool, true, false, cond, _&&_}
-use mathlib.Core.List.{List, [], _∷_, _++_}
+use mathlib.Core.List.{List, [], _∷_, _++_, append-assoc, append-nil}
 use mathlib.Core.Path.{_≡_, refl, sym, ap, _∙_}
 use lib.Dec.{eqb, leb, ltb}
-use lib.ListN.{length, getD, take, drop, replicate, length-take, length-drop, length-append, length-replicate, drop-of-length-le}
-use lib.Seq.{take-suc, drop-cons, length-take-le, getD-take, getD-drop}
+use lib.ListN.{length, getD, take, drop, replicate, length-take, length-drop, length-append, length-replicate, drop-of-length-le, take-append-drop}
+use lib.Seq.{take-suc, drop-cons, length-take-le, getD-take, getD-drop, take-take, take-at, drop-at, drop-drop, getD-append-add}
 use borrow.Author.Tests.{eqb-true, leb-true, eq-eqb, ne-eqb, le-leb, lt-leb}
 use Rattle.base.specs.Bytes.{u16At, le16}
 use Rattle.base.specs.Shape.{and-left, and-right}
 use Rattle.checksum.specs.Sum.{sumOf, sum-small}
+use Rattle.table.specs.Put.{putAt, put-next}
 use Rattle.table.specs.Block.{numberOf, countOf, payloadOf, unusedOf, checkOf, countGood, allZero, blockRefusal, readBlockOf, bodyOf, blockOf}
 
 -- ---- unused bytes: a turn of a loop from place i to place m, and its end
@@ -125,3 +126,138 @@ read-refused k last b h = rw (ne-eqb (blockRefusal k last b) 0 h)
 pub read-accepted : (k : ℕ) (last : Bool) (b : List ℕ) → blockRefusal k last b ≡ 0 → payloadOf b ≡ readBlockOf k last b
 unfolding readBlockOf
 read-accepted k last b h = rw (eq-eqb (blockRefusal k last b) 0 h)
+
+-- ---- a written block
+
+zeros : (n : ℕ) → allZero (replicate n 0) ≡ true
+unfolding allZero
+zeros zero = refl
+zeros (suc n) = zeros n
+
+-- a number below 65,536 is what its two bytes say
+le16-back : (x : ℕ) → x < 65536 → x % 256 + 256 * (x / 256 % 256) ≡ x
+le16-back x h = omega arith
+
+-- the two bytes behind a body
+check-back : (a : List ℕ) (x : ℕ) → length a ≡ 510 → x < 65536 → u16At (a ++ le16 x) 510 ≡ x
+check-back a x e h =
+    let i : 510 ≡ length a + 0 = omega arith in
+    let j : 511 ≡ length a + 1 = omega arith in
+    let u : getD (a ++ le16 x) 510 0 ≡ x % 256 = ap (λ (n : ℕ). getD (a ++ le16 x) n 0) i ∙ getD-append-add a (le16 x) 0 0 in
+    let v : getD (a ++ le16 x) 511 0 ≡ x / 256 % 256 = ap (λ (n : ℕ). getD (a ++ le16 x) n 0) j ∙ getD-append-add a (le16 x) 1 0 in
+    rw (u, v) (le16-back x h)
+
+module _ (k : ℕ) (p : List ℕ) (h : length p ≤ 506) where
+  pub body-length : length (bodyOf k p) ≡ 510
+  body-length = simp (length-append, length-replicate) (omega arith)
+
+  pub written-size : length (blockOf k p) ≡ 512
+  unfolding blockOf
+  written-size = length-append (bodyOf k p) (le16 (sumOf (bodyOf k p))) ∙ rw body-length
+
+  written-body : take 510 (blockOf k p) ≡ bodyOf k p
+  unfolding blockOf
+  written-body = take-at (bodyOf k p) (le16 (sumOf (bodyOf k p))) 510 body-length
+
+  written-count : countOf (blockOf k p) ≡ length p
+  unfolding blockOf
+  written-count = le16-back (length p) (omega arith)
+
+  pub written-payload : payloadOf (blockOf k p) ≡ p
+  unfolding blockOf
+  written-payload =
+      ap (λ (n : ℕ). take n (drop 4 (blockOf k p))) written-count
+      ∙ rw (append-assoc p (replicate (506 - length p) 0) (le16 (sumOf (bodyOf k p)))) (take-at p (replicate (506 - length p) 0 ++ le16 (sumOf (bodyOf k p))) (length p) refl)
+
+  written-unused : unusedOf (blockOf k p) ≡ replicate (506 - length p) 0
+  written-unused =
+      ap (λ (n : ℕ). drop (4 + n) (take 510 (blockOf k p))) written-count ∙ ap (λ (l : List ℕ). drop (4 + length p) l) written-body
+      ∙ sym (drop-drop (length p) 4 (bodyOf k p)) ∙ drop-at p (replicate (506 - length p) 0) (length p) refl
+
+  written-check : checkOf (blockOf k p) ≡ sumOf (bodyOf k p)
+  unfolding blockOf
+  written-check = check-back (bodyOf k p) (sumOf (bodyOf k p)) body-length (omega (arith, sum-small (bodyOf k p)))
+
+  written-number : k < 65536 → numberOf (blockOf k p) ≡ k
+  unfolding blockOf
+  written-number l = le16-back k l
+
+  -- is accepted where the count fits its place
+  pub written-good : k < 65536 → (last : Bool) → countGood last (length p) ≡ true → blockRefusal k last (blockOf k p) ≡ 0
+  written-good l last c =
+      sym (accepted-of k last (blockOf k p) written-size (written-check ∙ ap sumOf (sym written-body)) (written-number l) (length p) (sym written-count) c
+      (ap (λ (n : ℕ). allZero (drop (4 + n) (take 510 (blockOf k p)))) (sym written-count) ∙ ap allZero written-unused ∙ zeros (506 - length p)))
+
+pub sum-fits : (x : ℕ) (s : List ℕ) → x ≡ sumOf s → x < 65536
+sum-fits x s e = omega (arith, sum-small s)
+
+two-left : (n c : ℕ) → n ≡ 512 → c ≤ 506 → n - 2 - 2 - c - (506 - c) ≤ 2
+two-left n c e h = omega arith
+
+-- a block filled part by part in a buffer o of 512 bytes
+pub filled : (k : ℕ) (p o : List ℕ) → length o ≡ 512 → length p ≤ 506 → {b1 b2 b3 b4 b5 : List ℕ} {x : ℕ}
+    → b1 ≡ putAt o 0 (le16 k) → b2 ≡ putAt b1 2 (le16 (length p)) → b3 ≡ putAt b2 4 p
+    → b4 ≡ putAt b3 (4 + length p) (replicate (510 - (4 + length p)) 0) → x ≡ sumOf (take 510 b4) → b5 ≡ putAt b4 510 (le16 x) → b5 ≡ blockOf k p
+unfolding blockOf
+filled k p o l h {b1} {b2} {b3} {b4} {b5} {x} e1 e2 e3 e4 e5 e6 =
+    let z : List ℕ = replicate (506 - length p) 0 in
+    let q2 : List ℕ = drop 2 (drop 2 o) in
+    let q3 : List ℕ = drop (length p) q2 in
+    let q4 : List ℕ = drop (length z) q3 in
+    let f1 : b1 ≡ le16 k ++ drop 2 o = e1 ∙ put-next [] o (le16 k) 0 refl in
+    let f2 : b2 ≡ le16 k ++ le16 (length p) ++ q2 = e2 ∙ rw f1 (put-next (le16 k) (drop 2 o) (le16 (length p)) 2 refl) in
+    let f3 : b3 ≡ le16 k ++ le16 (length p) ++ p ++ q3 = e3 ∙ rw f2 (put-next (le16 k ++ le16 (length p)) q2 p 4 refl) in
+    let n : 510 - (4 + length p) ≡ 506 - length p = omega arith in
+    let m : length (le16 k ++ le16 (length p) ++ p) ≡ 4 + length p = simp length-append (omega arith) in
+    let f4 : b4 ≡ bodyOf k p ++ q4 = e4 ∙ rw (f3, n) (put-next (le16 k ++ le16 (length p) ++ p) q3 z (4 + length p) m) in
+    let s : x ≡ sumOf (bodyOf k p) = e5 ∙ ap sumOf (rw f4 (take-at (bodyOf k p) q4 510 (body-length k p h))) in
+    let r : length q4 ≤ 2 = simp (length-drop, length-replicate) (two-left (length o) (length p) l h) in
+    let f5 : b5 ≡ bodyOf k p ++ le16 (sumOf (bodyOf k p)) ++ drop 2 q4 = e6 ∙ rw (f4, s) (put-next (bodyOf k p) q4 (le16 (sumOf (bodyOf k p))) 510 (body-length k p h)) in
+    f5 ∙ ap (λ (q : List ℕ). bodyOf k p ++ le16 (sumOf (bodyOf k p)) ++ q) (drop-of-length-le q4 r) ∙ append-nil (bodyOf k p ++ le16 (sumOf (bodyOf k p)))
+
+-- ---- a block written again is the same block
+
+all-zero : (l : List ℕ) → allZero l ≡ true → l ≡ replicate (length l) 0
+unfolding allZero
+all-zero [] e = refl
+all-zero (x ∷ l) e = cc (eqb-true x 0 (and-left (eqb x 0) (allZero l) e), all-zero l (and-right (eqb x 0) (allZero l) e))
+
+-- two bytes are those of their number
+le16-of : (x lo hi : ℕ) → lo < 256 → hi < 256 → lo + 256 * hi ≡ x → le16 x ≡ lo ∷ hi ∷ []
+le16-of x lo hi l h e =
+    let a : x % 256 ≡ lo = omega arith in
+    let d : x / 256 ≡ hi = omega arith in
+    let b : x / 256 % 256 ≡ hi = rw d (omega arith) in
+    rw (a, b)
+
+-- the four parts of a body, each by its own equation
+parts : {a b p z a' b' p' z' : List ℕ} → a ≡ a' → b ≡ b' → p ≡ p' → z ≡ z' → a ++ b ++ p ++ z ≡ a' ++ b' ++ p' ++ z'
+parts e f g h = cc
+
+last-two : (r : List ℕ) → length r ≡ 508 → drop 506 r ≡ getD r 506 0 ∷ getD r 507 0 ∷ []
+last-two r e =
+    let h : 506 < length r = omega arith in
+    let g : 507 < length r = omega arith in
+    let m : length r ≤ 508 = omega arith in
+    drop-cons r 506 0 h ∙ ap (λ (l : List ℕ). getD r 506 0 ∷ l) (drop-cons r 507 0 g ∙ ap (λ (l : List ℕ). getD r 507 0 ∷ l) (drop-of-length-le r m))
+
+pub written-again : (k : ℕ) (last : Bool) (b : List ℕ) → blockRefusal k last b ≡ 0 → ((i : ℕ) → getD b i 0 < 256) → blockOf k (payloadOf b) ≡ b
+unfolding blockOf
+written-again k last [] ok bytes = absurd (omega (arith, block-size k last [] ok))
+written-again k last (x0 ∷ []) ok bytes = absurd (omega (arith, block-size k last (x0 ∷ []) ok))
+written-again k last (x0 ∷ x1 ∷ []) ok bytes = absurd (omega (arith, block-size k last (x0 ∷ x1 ∷ []) ok))
+written-again k last (x0 ∷ x1 ∷ x2 ∷ []) ok bytes = absurd (omega (arith, block-size k last (x0 ∷ x1 ∷ x2 ∷ []) ok))
+written-again k last (x0 ∷ x1 ∷ x2 ∷ x3 ∷ r) ok bytes =
+    let b : List ℕ = x0 ∷ x1 ∷ x2 ∷ x3 ∷ r in
+    let p : List ℕ = payloadOf b in
+    let n : length p ≡ countOf b = block-payload-length k last b ok in
+    let most : countOf b ≤ 506 = block-most k last b ok in
+    let long : length r ≡ 508 = omega (arith, block-size k last b ok) in
+    let u : unusedOf b ≡ drop (countOf b) (take 506 r) = sym (drop-drop (countOf b) 4 (take 510 b)) in
+    let l : length (unusedOf b) ≡ 506 - length p = rw u (simp (length-drop, length-take) (omega arith)) in
+    let z : replicate (506 - length p) 0 ≡ drop (countOf b) (take 506 r) = rw (← l) (sym (all-zero (unusedOf b) (block-unused k last b ok))) ∙ u in
+    let body : bodyOf k p ≡ take 510 b =
+    parts (le16-of k x0 x1 (bytes 0) (bytes 1) (block-number k last b ok)) (le16-of (length p) x2 x3 (bytes 2) (bytes 3) (sym n)) (sym (take-take (countOf b) 506 r most)) z
+    ∙ ap (λ (q : List ℕ). x0 ∷ x1 ∷ x2 ∷ x3 ∷ q) (take-append-drop (countOf b) (take 506 r)) in
+    let check : le16 (sumOf (take 510 b)) ≡ drop 506 r = le16-of (sumOf (take 510 b)) (getD r 506 0) (getD r 507 0) (bytes 510) (bytes 511) (block-check k last b ok) ∙ sym (last-two r long) in
+    ap (λ (q : List ℕ). q ++ le16 (sumOf q)) body ∙ ap (λ (q : List ℕ). take 510 b ++ q) check ∙ take-append-drop 510 b

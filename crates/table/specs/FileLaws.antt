@@ -11,16 +11,18 @@ use mathlib.Core.List.{List, [], _∷_, _++_, append-nil, append-assoc}
 use mathlib.Core.Path.{_≡_, refl, sym, ap, _∙_}
 use lib.Dec.{eqb, leb, ltb, eqb·suc-zero}
 use lib.ListN.{length, getD, take, drop, set, length-take, length-drop, length-append, List·getD-append, drop-of-length-le}
-use lib.Seq.{take-suc, drop-cons, drop-drop, length-take-le, getD-take, getD-drop, getD-append-add, set-at}
-use borrow.Author.Tests.{eqb-true, eqb-false, leb-true, eq-eqb, ne-eqb, le-leb, lt-leb, lt-ltb, le-ltb, ltb-true, ltb-false}
+use lib.Seq.{take-suc, take-all, drop-cons, drop-drop, length-take-le, getD-take, getD-drop, getD-append-add, set-at}
+use borrow.Author.Tests.{eqb-true, eqb-false, leb-true, leb-false, eq-eqb, ne-eqb, le-leb, lt-leb, lt-ltb, le-ltb, ltb-true, ltb-false}
 use Rattle.base.specs.Bytes.{u16At}
 use Rattle.base.specs.Shape.{and-left, and-right}
 use Rattle.table.specs.declared.ReadTable.{ReadTable}
+use Rattle.table.specs.declared.Written.{Written}
 use Rattle.table.specs.Stream.{streamRefusal, Accepted}
 use Rattle.table.specs.StreamLaws.{accepted-most}
-use Rattle.table.specs.Block.{countOf, payloadOf, blockRefusal}
-use Rattle.table.specs.BlockLaws.{block-size, block-count, block-most, block-payload-length}
-use Rattle.table.specs.File.{orElse, sizeGood, blocksRefusal, joined, streamOf, streamAt, readRefusal, readOf, readInto}
+use Rattle.table.specs.Block.{countOf, payloadOf, blockRefusal, blockOf}
+use Rattle.table.specs.BlockLaws.{block-size, block-count, block-most, block-payload-length, written-size}
+use Rattle.table.specs.File.{orElse, sizeGood, blocksRefusal, joined, streamOf, streamAt, readRefusal, readOf, readInto, blocksFor, fileFrom, fileOf, writeRefusal, writeOf, writeInto}
+use Rattle.table.specs.Put.{putAt, put-next}
 use Rattle.table.specs.View.{viewOf, placeOf, Viewed}
 
 -- ---- first refusals
@@ -251,3 +253,101 @@ pub copy-more : (i : ℕ) (s t : List ℕ) → i < length s → i < length t →
 copy-more i s t hs ht =
     let e : length (take i s) ≡ i = length-take-le i s (omega arith) in
     rw (drop-cons t i 0 ht, set-at (take i s) (getD t i 0) (drop (suc i) t) (getD s i 0) i e, add-one, take-suc s i 0 hs, append-assoc)
+
+-- ---- writing: blocks one behind the other
+
+take-most : (s : List ℕ) → length (take 506 s) ≤ 506
+take-most s = simp length-take (omega arith)
+
+pub block-long : (k : ℕ) (s : List ℕ) → length (blockOf k (take 506 s)) ≡ 512
+block-long k s = written-size k (take 506 s) (take-most s)
+
+pub file-length : (m k : ℕ) (s : List ℕ) → length (fileFrom k m s) ≡ 512 * m
+unfolding fileFrom
+file-length zero k s = refl
+file-length (suc m) k s =
+    length-append (blockOf k (take 506 s)) (fileFrom (suc k) m (drop 506 s))
+    ∙ rw (block-long k s, file-length m (suc k) (drop 506 s)) (omega arith)
+
+-- one block more
+file-snoc : (m k : ℕ) (s : List ℕ) → fileFrom k (suc m) s ≡ fileFrom k m s ++ blockOf (k + m) (take 506 (drop (506 * m) s))
+unfolding fileFrom
+file-snoc zero k s = rw (append-nil, add-zero)
+file-snoc (suc m) k s =
+    let e : 506 + 506 * m ≡ 506 * suc m = omega arith in
+    let i : suc k + m ≡ k + suc m = omega arith in
+    ap (λ (l : List ℕ). blockOf k (take 506 s) ++ l) (file-snoc m (suc k) (drop 506 s))
+    ∙ rw (drop-drop (506 * m) 506 s, e, i) (sym (append-assoc (blockOf k (take 506 s)) (fileFrom (suc k) m (drop 506 s)) (blockOf (k + suc m) (take 506 (drop (506 * suc m) s)))))
+
+-- block k written behind the first k, in a buffer o
+pub file-more : (k : ℕ) (s o : List ℕ)
+    → putAt (fileFrom 0 k s ++ drop (512 * k) o) (512 * k) (blockOf k (take 506 (drop (506 * k) s))) ≡ fileFrom 0 (k + 1) s ++ drop (512 * (k + 1)) o
+file-more k s o =
+    let b : List ℕ = blockOf k (take 506 (drop (506 * k) s)) in
+    let l : length b ≡ 512 = block-long k (drop (506 * k) s) in
+    let i : 512 * k + 512 ≡ 512 * (k + 1) = omega arith in
+    put-next (fileFrom 0 k s) (drop (512 * k) o) b (512 * k) (file-length k 0 s)
+    ∙ rw (l, drop-drop 512 (512 * k) o, i, add-one k, file-snoc k 0 s, zero-add k)
+
+-- the bytes that block k carries, taken by their end
+pub carried : (s : List ℕ) (k n : ℕ) → n ≡ min (506 * k + 506) (length s) - 506 * k → take n (drop (506 * k) s) ≡ take 506 (drop (506 * k) s)
+carried s k n e = go (leb (506 * k + 506) (length s)) refl
+  where
+    go : (x : Bool) → leb (506 * k + 506) (length s) ≡ x → take n (drop (506 * k) s) ≡ take 506 (drop (506 * k) s)
+    go true t = let h = leb-true (506 * k + 506) (length s) t in let f : n ≡ 506 = omega arith in rw f
+    go false t =
+        let h = leb-false (506 * k + 506) (length s) t in
+        let a : length (drop (506 * k) s) ≤ n = simp length-drop (omega arith) in
+        let b : length (drop (506 * k) s) ≤ 506 = simp length-drop (omega arith) in
+        take-all n (drop (506 * k) s) a ∙ sym (take-all 506 (drop (506 * k) s) b)
+
+-- ---- the answers of writeRefusal, in their order, and what writeOf and writeInto give
+
+module _ (s : List ℕ) (room : ℕ) where
+  pub refused-stream : (r : ℕ) → r ≡ streamRefusal s → (r ≡ 0 → ⊥) → r ≡ writeRefusal s room
+  unfolding writeRefusal
+  refused-stream r e n = rw (← e) (sym (or-first r (cond (ltb room (512 * blocksFor (length s))) 13 0) n))
+
+  pub refused-short : streamRefusal s ≡ 0 → room < 512 * blocksFor (length s) → 13 ≡ writeRefusal s room
+  unfolding writeRefusal
+  refused-short e h = rw (e, lt-ltb room (512 * blocksFor (length s)) h)
+
+  pub write-accepted : streamRefusal s ≡ 0 → 512 * blocksFor (length s) ≤ room → 0 ≡ writeRefusal s room
+  unfolding writeRefusal
+  write-accepted e h = rw (e, le-ltb room (512 * blocksFor (length s)) h)
+
+write-passed : (a : Bool) (x : ℕ) → _≡_ {A = ℕ} (orElse x (cond a 13 0)) 0 → (x ≡ 0) × (a ≡ false)
+write-passed true x e = absurd (omega (arith, or-right x 13 e))
+write-passed false x e = (or-left x 0 e, refl)
+
+module _ (s : List ℕ) (room : ℕ) (ok : writeRefusal s room ≡ 0) where
+  write-tests : (streamRefusal s ≡ 0) × (ltb room (512 * blocksFor (length s)) ≡ false)
+  unfolding writeRefusal
+  write-tests = write-passed (ltb room (512 * blocksFor (length s))) (streamRefusal s) ok
+
+  pub write-stream : Accepted s
+  unfolding Accepted
+  write-stream = write-tests .0
+
+  pub write-room : 512 * blocksFor (length s) ≤ room
+  write-room = ltb-false room (512 * blocksFor (length s)) (write-tests .1)
+
+  pub write-most : length s ≤ 61457
+  write-most = accepted-most s write-stream
+
+module _ (s out : List ℕ) (r : ℕ) (e : r ≡ writeRefusal s (length out)) where
+  pub written-refused : (r ≡ 0 → ⊥) → _≡_ {A = Written} (record { refusal = r; length = 0 }) (writeOf s (length out))
+  unfolding writeOf
+  written-refused n = rw (← e, ne-eqb r 0 n)
+
+  pub kept-refused : (r ≡ 0 → ⊥) → out ≡ writeInto s out
+  unfolding writeInto
+  kept-refused n = rw (← e, ne-eqb r 0 n)
+
+  pub written-accepted : r ≡ 0 → _≡_ {A = Written} (record { refusal = 0; length = 512 * blocksFor (length s) }) (writeOf s (length out))
+  unfolding writeOf
+  written-accepted z = rw (← e, z)
+
+  pub kept-accepted : r ≡ 0 → fileFrom 0 (blocksFor (length s)) s ++ drop (512 * blocksFor (length s)) out ≡ writeInto s out
+  unfolding writeInto fileOf
+  kept-accepted z = rw (← e, z)

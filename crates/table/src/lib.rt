@@ -3,13 +3,14 @@
 ghost use mathlib.Core.Path.{_≡_};
 ghost use mathlib.Core.Bool.{Bool, true, false};
 ghost use mathlib.Core.List.{_++_};
-ghost use Prim.Native.Nat.{ℕ, _+_, _*_, _/_, _≤_, _<_};
-ghost use lib.ListN.{length, getD, take, drop};
-ghost use Rattle.base.specs.Bytes.{u16At};
+ghost use Prim.Native.Nat.{ℕ, _+_, _*_, _/_, _≤_, _<_, min};
+ghost use lib.ListN.{length, getD, take, drop, replicate};
+ghost use Rattle.base.specs.Bytes.{u16At, le16};
 ghost use Rattle.base.specs.Shape.{allInSixteen};
 ghost use Rattle.table.specs.Stream.{unitsOf, sizesOf, pairsIn, costsGood, streamRefusal};
-ghost use Rattle.table.specs.Block.{countGood, allZero, blockRefusal, readBlockOf};
-ghost use Rattle.table.specs.File.{sizeGood, blocksRefusal, streamOf, readRefusal, readOf, readInto};
+ghost use Rattle.table.specs.Block.{countGood, allZero, blockRefusal, readBlockOf, blockOf};
+ghost use Rattle.table.specs.File.{sizeGood, blocksRefusal, streamOf, readRefusal, readOf, readInto, blocksFor, fileFrom, writeRefusal, writeOf, writeInto};
+ghost use Rattle.table.specs.Put.{putAt};
 ghost use Rattle.table.specs.View.{viewOf, Viewed};
 
 // The answer of a reading: the refusal, or 0 and the stream's length.
@@ -108,6 +109,109 @@ fn copy_stream(file: &[u8], count: usize, out: &mut [u8])
         out[k] = view_byte(file, true, count, k) as u8;
         k += 1;
     }
+}
+
+// The file of a stream into the lent buffer; a refusal, and the buffer's bytes past the file, leave it as it was.
+pub fn write(stream: &[u8], file: &mut [u8]) -> Written
+    ensures { λ r. ⌜ (r ≡ writeOf (now (stream .entry)) (length (now (file .entry)))) × (now (file .exit) ≡ writeInto (now (stream .entry)) (now (file .entry))) ⌝ }
+{
+    let refusal = write_refusal(stream, file.len());
+    if refusal != 0 {
+        return Written { refusal, length: 0 };
+    }
+    let blocks = (stream.len() + 505) / 506;
+    write_blocks(stream, blocks, file);
+    Written {
+        refusal: 0,
+        length: 512 * blocks,
+    }
+}
+
+// The refusal of writing a stream into a buffer of `room` bytes, or 0.
+fn write_refusal(stream: &[u8], room: usize) -> u8
+    ensures { λ r. ⌜ r ≡ writeRefusal (now (stream .entry)) room ⌝ }
+{
+    let refusal = stream_refusal(stream);
+    if refusal != 0 {
+        return refusal;
+    }
+    if room < 512 * ((stream.len() + 505) / 506) {
+        return 13;
+    }
+    0
+}
+
+// The blocks of a stream, to the front of `file`.
+fn write_blocks(stream: &[u8], blocks: usize, file: &mut [u8])
+    requires { ⌜ (length (now stream) ≤ 61457) × (blocks ≡ blocksFor (length (now stream))) × (512 * blocks ≤ length (now file)) ⌝ }
+    ensures { λ r. ⌜ now (file .exit) ≡ fileFrom 0 blocks (now (stream .entry)) ++ drop (512 * blocks) (now (file .entry)) ⌝ }
+{
+    let mut k = 0;
+    while k < blocks {
+        let from = 506 * k;
+        let to = smaller(from + 506, stream.len());
+        let start = 512 * k;
+        let end = start + 512;
+        fill_block(&mut file[start..end], k as u16, &stream[from..to]);
+        k += 1;
+    }
+}
+
+// The block of that number that carries the payload.
+fn fill_block(block: &mut [u8], number: u16, payload: &[u8])
+    requires { ⌜ (length (now block) ≡ 512) × (length (now payload) ≤ 506) ⌝ }
+    ensures { λ r. ⌜ now (block .exit) ≡ blockOf number (now (payload .entry)) ⌝ }
+{
+    let count = payload.len();
+    put_u16(block, 0, number as u32);
+    put_u16(block, 2, count as u32);
+    put(block, 4, payload);
+    let used = 4 + count;
+    put_zeros(block, used, 510 - used);
+    let check = checksum::sum(&block[0..510]);
+    put_u16(block, 510, check);
+}
+
+// The two bytes of a number, at a place.
+fn put_u16(out: &mut [u8], at: usize, x: u32)
+    requires { ⌜ (at + 2 ≤ length (now out)) × (x < 65536) ⌝ }
+    ensures { λ r. ⌜ now (out .exit) ≡ putAt (now (out .entry)) at (le16 x) ⌝ }
+{
+    out[at] = (x % 256) as u8;
+    out[at + 1] = (x / 256 % 256) as u8;
+}
+
+// The bytes, at a place.
+fn put(out: &mut [u8], at: usize, bytes: &[u8])
+    requires { ⌜ at + length (now bytes) ≤ length (now out) ⌝ }
+    ensures { λ r. ⌜ now (out .exit) ≡ putAt (now (out .entry)) at (now (bytes .entry)) ⌝ }
+{
+    let mut i = 0;
+    while i < bytes.len() {
+        out[at + i] = bytes[i];
+        i += 1;
+    }
+}
+
+// Zeros, at a place.
+fn put_zeros(out: &mut [u8], at: usize, count: usize)
+    requires { ⌜ at + count ≤ length (now out) ⌝ }
+    ensures { λ r. ⌜ now (out .exit) ≡ putAt (now (out .entry)) at (replicate count 0) ⌝ }
+{
+    let mut i = 0;
+    while i < count {
+        out[at + i] = 0;
+        i += 1;
+    }
+}
+
+fn smaller(a: usize, b: usize) -> usize
+    ensures { λ r. ⌜ r ≡ min a b ⌝ }
+{
+    if a < b {
+        return a;
+    }
+    b
 }
 
 // The payload of a block, as the part of it that holds it; the empty part, which no payload is, where it is refused.
