@@ -29,9 +29,12 @@ abbrev pub Distinct : List (List ℕ) → Type 0
 Distinct [] = Unit {0}
 Distinct (x ∷ xs) = (In x xs → ⊥) × Distinct xs
 
--- the most deliveries that a run accepts
+-- the most deliveries that follow from one record, and from all
+abbrev pub mostEach : Problem → ℕ
+mostEach P = 3 * P .n - 1
+
 abbrev pub most : Problem → ℕ
-most P = (3 * P .n - 1) * N P
+most P = mostEach P * N P
 
 pub record Demand3 (P : Problem) (S : Network) : Type 0 where
   -- no prefix is written twice

@@ -8,4 +8,5 @@ pub mod Safety
 pub mod Liveness
 pub mod Count
 pub mod Theorem
+pub mod Cases
 pub mod Simulation

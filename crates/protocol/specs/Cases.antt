@@ -1,0 +1,46 @@
+-- Runs of the machine, computed: what it does on small tables, the worst order among them. Each of 01's shortcuts that one of these runs is about
+-- makes it come out otherwise.
+-- Assumes nothing.
+use Prim.Native.Nat.{ℕ, _+_, _*_, _-_}
+use mathlib.Core.Path.{_≡_, refl}
+use mathlib.Core.Bool.{Bool, true}
+use mathlib.Core.List.{List, [], _∷_}
+use lib.ListN.{length, getD}
+use Rattle.costs.specs.Instance.{Instance}
+use Rattle.costs.specs.Laws.{problemOf}
+use Rattle.protocol.specs.Machine.{make, run}
+use Rattle.protocol.specs.Demand3.{written, most}
+
+-- what is seen of a run: whether unit 1 has stopped, its bound and best assignment (the last unit's value first), records, accepted deliveries
+abbrev after : Instance → List ℕ → Bool × ℕ × List ℕ × ℕ × ℕ
+after I cells =
+    let S = run (problemOf I) 1024 (make (problemOf I)) cells in
+    (S .units 0 .stopped, S .units 0 .bound, S .units 0 .best, length (written (S .units) (I .n)), S .accepted)
+
+-- 01: "Table T: n = 2, sizes 2 and 2, costs 5, 3, 2, 4"
+abbrev T : Instance
+T = record { n = 2; dom = λ k. 2; cost = λ i u j v. getD (5 ∷ 3 ∷ 2 ∷ 4 ∷ []) ((u - 1) * 2 + (v - 1)) 0 }
+
+-- three units of two values each: the costs of the pairs (1,2), (1,3), (2,3)
+abbrev three : Instance
+three = record { n = 3; dom = λ k. 2; cost = λ i u j v. getD (1 ∷ 5 ∷ 3 ∷ 4 ∷ 0 ∷ 2 ∷ 0 ∷ 4 ∷ 0 ∷ 3 ∷ 3 ∷ 2 ∷ []) ((i + j - 1) * 4 + (u - 1) * 2 + (v - 1)) 0 }
+
+-- 01's listing: cell 0 each time
+pub oldest-first : after T (0 ∷ 0 ∷ 0 ∷ 0 ∷ 0 ∷ 0 ∷ 0 ∷ 0 ∷ []) ≡ (true, 2, 1 ∷ 2 ∷ [], 5, 8)
+oldest-first = refl
+
+-- 01: "Newest-first on T: 5 records, 10 deliveries, the most allowed"
+pub newest-first : after T (1 ∷ 1 ∷ 0 ∷ 1 ∷ 0 ∷ 1 ∷ 1 ∷ 0 ∷ 1 ∷ 0 ∷ []) ≡ (true, 2, 1 ∷ 2 ∷ [], 5, most (problemOf T))
+newest-first = refl
+
+-- the solution 3 comes after the solution 2, and is not taken
+pub late-solution : after T (0 ∷ 1 ∷ 2 ∷ 4 ∷ 1 ∷ 1 ∷ 2 ∷ []) ≡ (true, 2, 1 ∷ 2 ∷ [], 5, 7)
+late-solution = refl
+
+-- no solution comes to unit 1: it has its bounds from the CPAs that go back
+pub no-solution : after T (0 ∷ 1 ∷ 2 ∷ 3 ∷ []) ≡ (true, 2, 1 ∷ 2 ∷ [], 5, 4)
+no-solution = refl
+
+-- unit 2 has backtracked when an estimate for its last CPA comes: it is stale, and not refused
+pub late-estimate : after three (0 ∷ 2 ∷ 2 ∷ 2 ∷ 4 ∷ 4 ∷ []) ≡ (true, 1, 1 ∷ 1 ∷ 1 ∷ [], 3, 6)
+late-estimate = refl
