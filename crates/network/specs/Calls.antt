@@ -1,0 +1,115 @@
+-- The calls on bytes: making a network and a delivery, refusals in 01's order.
+-- 01: "Making .. a shed: 5, 6, 7, 13." "Delivery: 13, 5 (n, sizes), 6, 7, 5 (any unit's state, pool count), 12, 15, the step's from 8 on, 14."
+-- Assumes nothing.
+use Prim.Native.Nat.{ℕ, zero, suc, _+_, _*_, _-_, pred}
+use mathlib.Core.Bool.{Bool, true, false, cond, not, _&&_}
+use mathlib.Core.List.{List, [], _∷_, _++_}
+use lib.Dec.{ltb, leb, eqb}
+use lib.ListN.{length, getD, set, replicate}
+use Rattle.table.specs.Stream.{unitsOf, streamRefusal}
+use Rattle.costs.specs.Instance.{Instance, viewOf, instanceOf}
+use Rattle.costs.specs.Gather.{sizesIn}
+use Rattle.message.specs.declared.Parsed.{Parsed}
+use Rattle.message.specs.Message.{Packet, isUnit, every}
+use Rattle.message.specs.Decode.{parseFor}
+use Rattle.unit.specs.declared.Unit.{Unit}
+use Rattle.unit.specs.State.{noUnit, fresh, inRange}
+use Rattle.unit.specs.Step.{Out, refused, accepted, assign}
+use Rattle.unit.specs.Send.{packets, laid}
+use Rattle.unit.specs.Calls.{onRead}
+use Rattle.network.specs.declared.Core.{Core}
+use Rattle.network.specs.declared.Network.{Network}
+use Rattle.network.specs.declared.Answer.{Answer}
+use Rattle.network.specs.Count.{zeroCount, plus}
+use Rattle.network.specs.Pool.{cellOf, poolAfter}
+use Rattle.network.specs.Run.{capacity, unitAt}
+
+-- what a call gives: the answer, and the bytes of the lent pool
+pub record Result : Type 0 where
+  pub answer : Answer
+  pub pool : List ℕ
+
+-- ---- making
+
+-- the network beside a refusal of making: all zero
+abbrev pub noNetwork : Network
+noNetwork = record { core = record { units = replicate 16 noUnit; records = zeroCount; deliveries = zeroCount }; used = 0 }
+
+abbrev pub made : ℕ → List ℕ → Out → Result
+made n pool (refused r) = record { answer = record { refusal = r; network = noNetwork }; pool = pool }
+made n pool (accepted u s ws) =
+    let ps = packets n 0 s in
+    record {
+      answer = record {
+        refusal = 0;
+        network = record { core = record { units = set (replicate 16 fresh) 0 u; records = plus (length ws) zeroCount; deliveries = zeroCount }; used = length ps };
+      };
+      pool = laid ps pool;
+    }
+
+-- 01: "5, 6, 7, 13"
+unfoldable pub makeRefusal : List ℕ → List ℕ → ℕ
+makeRefusal stream pool = cond (not (eqb (streamRefusal stream) 0)) (streamRefusal stream) (cond (ltb (length pool) 65536) 13 0)
+
+abbrev pub unlessRefused : ℕ → Out → Out
+unlessRefused zero o = o
+unlessRefused (suc r) o = refused (suc r)
+
+-- 01: "Making unit 1 assigns", "making the shed counts unit 1's records"
+unfoldable pub makeOf : List ℕ → List ℕ → Result
+makeOf stream pool = made (unitsOf stream) pool (unlessRefused (makeRefusal stream pool) (assign (viewOf (instanceOf stream) 0) fresh))
+
+-- ---- a delivery
+
+-- 01, 5: "any unit's state, pool count"; units 1 to n only
+unfoldable pub networkInRange : List ℕ → Network → Bool
+networkInRange stream net =
+    every (λ (k : ℕ). inRange (sizesIn stream) (viewOf (instanceOf stream) k) (unitAt (net .core .units) k)) (unitsOf stream) && leb (net .used) capacity
+
+-- the first of 13, 5, 6, 7, 5, 12, 15 that applies, or 0
+unfoldable pub deliverRefusal : Network → List ℕ → List ℕ → ℕ → ℕ
+deliverRefusal net stream pool cell =
+    cond (ltb (length pool) 65536) 13
+    (cond (not (eqb (streamRefusal stream) 0)) (streamRefusal stream)
+    (cond (not (networkInRange stream net)) 5 (cond (unitAt (net .core .units) 0 .stopped) 12 (cond (leb (net .used) cell) 15 0))))
+
+-- the unit that a packet names as its receiver; one that is no unit is refused by any unit's reading, as by unit 1's
+abbrev pub receiverOf : ℕ → List ℕ → ℕ
+receiverOf n bytes = cond (isUnit n (getD bytes 2 0)) (getD bytes 2 0) 1
+
+-- 01: "the step's from 8 on"
+unfoldable pub stepFrom8 : List ℕ → List Unit → ℕ → List ℕ → Out
+stepFrom8 stream units own bytes =
+    let p = parseFor (unitsOf stream) (sizesIn stream) own bytes in
+    onRead (viewOf (instanceOf stream) (pred own)) (unitAt units (pred own)) (p .answer) (p .message)
+
+abbrev pub refusedDelivery : Network → List ℕ → ℕ → Result
+refusedDelivery net pool r = record { answer = record { refusal = r; network = net }; pool = pool }
+
+-- the network once unit `own` has stepped and ps were sent
+abbrev pub stepped : Network → ℕ → Unit → ℕ → ℕ → Network
+stepped net own u sent records =
+    record {
+      core = record { units = set (net .core .units) (pred own) u; records = plus records (net .core .records); deliveries = plus 1 (net .core .deliveries) };
+      used = net .used - 1 + sent;
+    }
+
+abbrev pub ifFits : Bool → Network → List ℕ → Result → Result
+ifFits true net pool r = r
+ifFits false net pool r = refusedDelivery net pool 14
+
+abbrev pub onOut : Network → List ℕ → ℕ → ℕ → ℕ → Out → Result
+onOut net pool cell n own (refused r) = refusedDelivery net pool r
+onOut net pool cell n own (accepted u s ws) =
+    let ps = packets n (pred own) s in
+    ifFits (leb (net .used - 1 + length ps) capacity) net pool
+    (record { answer = record { refusal = 0; network = stepped net own u (length ps) (length ws) }; pool = poolAfter (net .used) cell ps pool })
+
+abbrev pub deliverBy : ℕ → Network → List ℕ → List ℕ → ℕ → Result
+deliverBy zero net stream pool cell =
+    let own = receiverOf (unitsOf stream) (cellOf pool cell) in
+    onOut net pool cell (unitsOf stream) own (stepFrom8 stream (net .core .units) own (cellOf pool cell))
+deliverBy (suc r) net stream pool cell = refusedDelivery net pool (suc r)
+
+unfoldable pub deliverOf : Network → List ℕ → List ℕ → ℕ → Result
+deliverOf net stream pool cell = deliverBy (deliverRefusal net stream pool cell) net stream pool cell

@@ -1,0 +1,19 @@
+-- The pool's bytes, 01: "The pool is 1,024 cells of 64 bytes."
+-- Assumes nothing.
+use Prim.Native.Nat.{ℕ, suc, _+_, _*_, _-_}
+use mathlib.Core.List.{List, _++_}
+use lib.ListN.{length, take, drop}
+use Rattle.message.specs.Message.{Packet}
+use Rattle.unit.specs.Send.{encodeAll, laid}
+
+-- the bytes of a cell
+abbrev pub cellOf : List ℕ → ℕ → List ℕ
+cellOf pool cell = take 64 (drop (64 * cell) pool)
+
+-- the cells behind one, up to those in use
+abbrev pub laterCells : List ℕ → ℕ → ℕ → List ℕ
+laterCells pool used cell = take (64 * (used - suc cell)) (drop (64 * suc cell) pool)
+
+-- 01: "closes the gap by moving later cells down one, and adds what the step sends at the end; bytes past the last cell then in use stay"
+unfoldable pub poolAfter : ℕ → ℕ → List Packet → List ℕ → List ℕ
+poolAfter used cell ps pool = take (64 * cell) pool ++ laterCells pool used cell ++ encodeAll ps ++ drop (64 * (used - 1 + length ps)) pool

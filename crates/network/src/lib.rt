@@ -1,0 +1,32 @@
+// A network of units with a pool of waiting messages: making, delivery, and running to the end.
+
+use unit::Unit;
+
+// A count in two words, the low one first.
+#[repr(C)]
+pub struct Count {
+    pub low: u64,
+    pub high: u64,
+}
+
+// The units, and how many records they wrote and deliveries were accepted.
+#[repr(C)]
+pub struct Core {
+    pub units: [Unit; 16],
+    pub records: Count,
+    pub deliveries: Count,
+}
+
+// The network, and how many cells of its pool are in use.
+#[repr(C)]
+pub struct Network {
+    pub core: Core,
+    pub used: u64,
+}
+
+// What making and a delivery give beside the pool's bytes.
+#[repr(C)]
+pub struct Answer {
+    pub refusal: u8,
+    pub network: Network,
+}
