@@ -87,17 +87,18 @@ module _ (I : Instance) (t : Packet → Bool) where
       out k p b a e (U.accepted u s ws) =
           let ps = packets (I .n) k s in
           fits (leb (length ((b ++ a) ++ packets (I .n) k s)) capacity) (R.after H k p (b ++ a) u (packets (I .n) k s) ws)
-          (omega
-          (arith,
-          h,
-          ap (times t) e,
-          times-append t b (p ∷ a),
-          times-more t p a,
-          times-append t (b ++ a) (packets (I .n) k s),
-          times-append t b a,
-          times-append t (H .sent) (packets (I .n) k s),
-          times-append t (H .handed) (p ∷ []),
-          times-one t p))
+          (omega (
+            arith,
+            h,
+            ap (times t) e,
+            times-append t b (p ∷ a),
+            times-more t p a,
+            times-append t (b ++ a) (packets (I .n) k s),
+            times-append t b a,
+            times-append t (H .sent) (packets (I .n) k s),
+            times-append t (H .handed) (p ∷ []),
+            times-one t p,
+          ))
 
       cell : (b a : List Packet) → H .waiting ≡ b ++ a → Balanced t (kept H (R.takeCell I H b a))
       cell b [] e = h
