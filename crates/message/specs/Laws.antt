@@ -1,6 +1,8 @@
 -- Laws of a message's fields: what a filled stamp or assignment holds place by place, and the parts of checks 9 and 10.
 --     every-at, every-by, every-not     `every`, index by index
 --     filled-at, filled-past, filled-by     `filledTo`, place by place
+--     bound-by, bound-parts, none-is, not-none-is, bound-small, no-bound-by, blank-filled     a bound with its best assignment
+--     address-by, addressed; formed-by, formed     checks 10 and 9 from their parts, and their parts
 -- Assumes nothing.
 use Prim.Native.Nat.{ℕ, zero, suc, _+_, _≤_, _<_}
 use mathlib.Core.Logic.{⊎-elim}
@@ -10,11 +12,13 @@ use mathlib.Core.List.{List}
 use native.Mathlib.Omega.{arith}
 use native.Mathlib.Nat.{not-suc-le-zero, eq-or-lt-of-le, le-of-suc-le-suc}
 use native.Mathlib.Numerals.{add-one}
-use borrow.Author.Tests.{leb-true, le-leb, ltb-true, ltb-false, lt-ltb, le-ltb, eqb-true, eq-eqb}
+use borrow.Author.Tests.{leb-true, le-leb, ltb-true, ltb-false, lt-ltb, le-ltb, eqb-true, eq-eqb, ne-eqb}
 use lib.Dec.{ltb, leb, eqb}
-use lib.ListN.{getD}
+use lib.ListN.{getD, replicate}
 use Rattle.base.specs.Shape.{and-left, and-right}
-use Rattle.message.specs.Message.{every, placeGood, placeAt, filledTo}
+use Rattle.message.specs.declared.Kind.{Kind}
+use Rattle.message.specs.declared.Message.{Message}
+use Rattle.message.specs.Message.{NONE, totalLimit, every, placeGood, placeAt, filledTo, boundGood, noneOrBound, noBound, stampCount, valueCount, costLimit, boundFits, directionGood, isUnit, addressGood, wellFormed}
 
 -- ------------------------------------------------------------------------------------------------------------------
 -- `every`, index by index.
@@ -63,3 +67,90 @@ filled-by k sizes l f g = every-by (placeAt k sizes l) 16 place
 
     place : (j : ℕ) → j < 16 → placeAt k sizes l j ≡ true
     place j h = go j (ltb j k) refl h
+
+-- ------------------------------------------------------------------------------------------------------------------
+-- A bound with its best assignment.
+
+pub bound-by : (n : ℕ) (sizes : List ℕ) (bound : ℕ) (best : List ℕ) → bound ≤ totalLimit → filledTo n sizes best ≡ true → boundGood n sizes bound best ≡ true
+unfolding boundGood
+bound-by n sizes bound best h e = rw (le-leb bound totalLimit h) e
+
+pub bound-parts : (n : ℕ) (sizes : List ℕ) (bound : ℕ) (best : List ℕ) → boundGood n sizes bound best ≡ true → (bound ≤ totalLimit) × (filledTo n sizes best ≡ true)
+unfolding boundGood
+bound-parts n sizes bound best e = (leb-true bound totalLimit (and-left _ _ e), and-right (leb bound totalLimit) _ e)
+
+pub none-is : (n : ℕ) (sizes best : List ℕ) → noneOrBound n sizes NONE best ≡ filledTo 0 sizes best
+unfolding noneOrBound
+none-is n sizes best = refl
+
+pub not-none-is : (n : ℕ) (sizes : List ℕ) (bound : ℕ) (best : List ℕ) → bound < NONE → noneOrBound n sizes bound best ≡ boundGood n sizes bound best
+unfolding noneOrBound
+not-none-is n sizes bound best h = rw (ne-eqb bound NONE (λ q. omega arith))
+
+-- a bound that is not none is within the limit
+pub bound-small : (n : ℕ) (sizes : List ℕ) (bound : ℕ) (best : List ℕ) → noneOrBound n sizes bound best ≡ true → bound < NONE → (bound ≤ totalLimit) × (filledTo n sizes best ≡ true)
+bound-small n sizes bound best e h = bound-parts n sizes bound best (sym (not-none-is n sizes bound best h) ∙ e)
+
+pub no-bound-by : (sizes : List ℕ) (bound : ℕ) (best : List ℕ) → bound ≡ 0 → filledTo 0 sizes best ≡ true → noBound sizes bound best ≡ true
+unfolding noBound
+no-bound-by sizes bound best h e = rw (eq-eqb bound 0 h) e
+
+-- an empty assignment fills nothing
+pub blank-filled : (sizes : List ℕ) → filledTo 0 sizes (replicate 16 0) ≡ true
+unfolding filledTo
+blank-filled sizes = refl
+
+-- ------------------------------------------------------------------------------------------------------------------
+-- The parts of checks 10 and 9.
+
+pub address-by : (n : ℕ) (m : Message) → 1 ≤ m .sender → m .sender ≤ n → 1 ≤ m .receiver → m .receiver ≤ n → addressGood n m ≡ true
+unfolding addressGood
+address-by n m a b c d = rw (le-leb 1 (m .sender) a, le-leb (m .sender) n b, le-leb 1 (m .receiver) c, le-leb (m .receiver) n d)
+
+pub record Addressed (n : ℕ) (m : Message) : Type 0 where
+  pub from : 1 ≤ m .sender
+  pub fromMost : m .sender ≤ n
+  pub to : 1 ≤ m .receiver
+  pub toMost : m .receiver ≤ n
+
+pub addressed : (n : ℕ) (m : Message) → addressGood n m ≡ true → Addressed n m
+unfolding addressGood
+addressed n m e =
+    let f : isUnit n (m .sender) ≡ true = and-left _ _ e in
+    let g : isUnit n (m .receiver) ≡ true = and-right (isUnit n (m .sender)) _ e in
+    record {
+      from = leb-true 1 (m .sender) (and-left _ _ f);
+      fromMost = leb-true (m .sender) n (and-right (leb 1 (m .sender)) _ f);
+      to = leb-true 1 (m .receiver) (and-left _ _ g);
+      toMost = leb-true (m .receiver) n (and-right (leb 1 (m .receiver)) _ g);
+    }
+
+-- check 9, part by part
+pub record Formed (n : ℕ) (sizes : List ℕ) (k : Kind) (m : Message) : Type 0 where
+  pub direction : directionGood n k (m .sender) (m .receiver) ≡ true
+  pub stamps : filledTo (stampCount k m) sizes (m .stamp) ≡ true
+  pub values : filledTo (valueCount k m) sizes (m .values) ≡ true
+  pub cost : m .cost ≤ costLimit k m
+  pub bound : boundFits n sizes k (m .bound) (m .best) ≡ true
+
+pub formed-by : (n : ℕ) (sizes : List ℕ) (k : Kind) (m : Message) → Formed n sizes k m → wellFormed n sizes k m ≡ true
+unfolding wellFormed
+formed-by n sizes k m f = rw (f .direction, f .stamps, f .values, le-leb (m .cost) (costLimit k m) (f .cost)) (f .bound)
+
+pub formed : (n : ℕ) (sizes : List ℕ) (k : Kind) (m : Message) → wellFormed n sizes k m ≡ true → Formed n sizes k m
+unfolding wellFormed
+formed n sizes k m e =
+    let a : Bool = directionGood n k (m .sender) (m .receiver) in
+    let b : Bool = filledTo (stampCount k m) sizes (m .stamp) in
+    let c : Bool = filledTo (valueCount k m) sizes (m .values) in
+    let d : Bool = leb (m .cost) (costLimit k m) in
+    let e4 : (a && b && c && d) ≡ true = and-left _ _ e in
+    let e3 : (a && b && c) ≡ true = and-left _ _ e4 in
+    let e2 : (a && b) ≡ true = and-left _ _ e3 in
+    record {
+      direction = and-left _ _ e2;
+      stamps = and-right a b e2;
+      values = and-right (a && b) c e3;
+      cost = leb-true (m .cost) (costLimit k m) (and-right (a && b && c) d e4);
+      bound = and-right (a && b && c && d) _ e;
+    }
