@@ -56,7 +56,6 @@ pub record Quiet (X : ℕ) (u : Agent) (m : Msg) (w : Agent) (ms : List Msg) : T
   pub prefixStamp : w .prefixStamp ≡ u .prefixStamp
   pub prefix : w .prefix ≡ u .prefix
   pub counter : w .counter ≡ u .counter
-  pub log : w .log ≡ u .log
   pub threshold : Threshold X u w
   pub stale : Stale u m
   pub no-cpa : Every NoCpa ms
@@ -77,12 +76,12 @@ Effect k Past X u m (done w ms) = Quiet X u m w ms ⊎ (Took k Past u m w ms ⊎
 
 module _ (P : Problem) (laws : Laws P) (k : ℕ) (k<n : k < P .n) (Past : History) (X : ℕ) (bf : Before P k Past X) (u : Agent) (g : Good P k Past X u)
     (own : (s : ℕ) (b : List ℕ) → Past (suc k) s b → OnLog (u .log) s b) where
-  quiet : (m : Msg) (w : Agent) (ms : List Msg) → w .own ≡ u .own → w .prefixStamp ≡ u .prefixStamp → w .prefix ≡ u .prefix → w .counter ≡ u .counter → w .log ≡ u .log
+  quiet : (m : Msg) (w : Agent) (ms : List Msg) → w .own ≡ u .own → w .prefixStamp ≡ u .prefixStamp → w .prefix ≡ u .prefix → w .counter ≡ u .counter
       → Threshold X u w → Stale u m → Every NoCpa ms → Effect k Past X u m (done w ms)
-  quiet m w ms o s b c l t st np = inl (record { own = o; prefixStamp = s; prefix = b; counter = c; log = l; threshold = t; stale = st; no-cpa = np })
+  quiet m w ms o s b c t st np = inl (record { own = o; prefixStamp = s; prefix = b; counter = c; threshold = t; stale = st; no-cpa = np })
 
   still : (m : Msg) (ms : List Msg) → Stale u m → Every NoCpa ms → Effect k Past X u m (done u ms)
-  still m ms st np = quiet m u ms refl refl refl refl refl (inl refl) st np
+  still m ms st np = quiet m u ms refl refl refl refl (inl refl) st np
 
   pub down-effect : (s : ℕ) (b : List ℕ) (B : ℕ) (l : List ℕ) → ValidMsg P Past (down k s b B l) → Effect k Past X u (down k s b B l) (step P u (down k s b B l))
   down-effect s b B l ok =
@@ -119,14 +118,14 @@ module _ (P : Problem) (laws : Laws P) (k : ℕ) (k<n : k < P .n) (Past : Histor
       (λ le f full.
       let sm = the-cpa-out P laws k k<n Past X bf u s (ok .2 .0) g (own s (ok .2 .0) (ok .2 .1)) le in
       went (estimate k j s e) (assign P k (store j e u)) (sm .0) (sm .3 ∙ sm .1) tt (try-moved P k (P .size k - u .own) false (counted (store j e u))))
-      (λ le f. quiet (estimate k j s e) (store j e u) [] refl refl refl refl refl (inl refl) tt (every-nil _))
+      (λ le f. quiet (estimate k j s e) (store j e u) [] refl refl refl refl (inl refl) tt (every-nil _))
       (λ le f. tt)
 
   pub request-effect : (j s : ℕ) (b : List ℕ) → ValidMsg P Past (request k j s b) → Effect k Past X u (request k j s b) (step P u (request k j s b))
   request-effect j s b ok =
       request-walk P u (Effect k Past X u (request k j s b)) k j s b (still (request k j s b) [] tt (every-nil _)) (still (request k j s b) (reply ∷ []) tt no-cpa)
       (λ lt.
-      quiet (request k j s b) (withThreshold (pad (k - suc j) s * 32) u) (reply ∷ []) refl refl refl refl refl (inr (pad (k - suc j) s, refl, lt, bf .pads j s b (ok .1) (ok .2))) tt no-cpa)
+      quiet (request k j s b) (withThreshold (pad (k - suc j) s * 32) u) (reply ∷ []) refl refl refl refl (inr (pad (k - suc j) s, refl, lt, bf .pads j s b (ok .1) (ok .2))) tt no-cpa)
     where
       reply : Msg
       reply = estimate j k s (P .estimate k b)
@@ -137,12 +136,12 @@ module _ (P : Problem) (laws : Laws P) (k : ℕ) (k<n : k < P .n) (Past : Histor
   pub solution-effect : (B : ℕ) (l : List ℕ) → Effect k Past X u (solution k B l) (step P u (solution k B l))
   solution-effect B l =
       take-bound-cases (λ C m. Unit {0}) (λ w. Effect k Past X u (solution k B l) (done w [])) B l u tt tt
-      (λ C m a b ok. quiet (solution k B l) (withBound C m u) [] refl refl refl refl refl (inl refl) tt (every-nil _))
+      (λ C m a b ok. quiet (solution k B l) (withBound C m u) [] refl refl refl refl (inl refl) tt (every-nil _))
 
   pub stop-effect : (B : ℕ) (l : List ℕ) → Effect k Past X u (stop k B l) (step P u (stop k B l))
   stop-effect B l =
       take-bound-cases (λ C m. Unit {0}) (λ w. Effect k Past X u (stop k B l) (done (halt w) [])) B l u tt tt
-      (λ C m a b ok. quiet (stop k B l) (halt (withBound C m u)) [] refl refl refl refl refl (inl refl) tt (every-nil _))
+      (λ C m a b ok. quiet (stop k B l) (halt (withBound C m u)) [] refl refl refl refl (inl refl) tt (every-nil _))
 
 -- ---- any unit of a safe network
 

@@ -37,7 +37,7 @@ sender (estimate k j s e) = j
 sender (solution k B l) = 0
 sender (stop k B l) = 0
 
--- ---- where the CPA has gone
+-- ---- where the CPA has gone. `lone`: it is the only CPA sent, for pools where a new message takes an old one's cell.
 
 -- down: unit k, with prefix b of stamp s, has written a value at a count above c, and sent its CPA on
 pub record Wrote (k s : ℕ) (b : List ℕ) (c : ℕ) (u : Agent) (ms : List Msg) : Type 0 where

@@ -1,5 +1,7 @@
 -- Assigning keeps a unit good: a unit that is ready to try its values writes the next one, or has none left and backtracks, and what it sends is valid.
 -- By the walk over assigning: what is left to show is that a value written or passed over leaves the unit ready for the rest.
+--
+-- In order: `backtrack-post`; the values in turn (`spent`, `skip-ready`, `written-good`, `solved-ready`); `try-post`; `resume-post`, a CPA in hand.
 -- Assumes nothing.
 use Prim.Native.Nat.{ℕ, suc, _+_, _*_, _-_, _≤_, _<_}
 use mathlib.Core.Path.{_≡_, refl, sym, subst}
