@@ -1,7 +1,8 @@
 -- The costs that touch one unit, gathered out of a stream: what is lent with a unit's step. 01: "the pair costs that touch the unit, by the
 -- other unit ascending, each pair in the stream's order". That a unit sees in them what the stream says is in Gather/Laws.
 -- Assumes nothing.
-use Prim.Native.Nat.{ℕ, zero, suc, _+_, _*_, pred}
+use Prim.Native.Nat.{ℕ, zero, suc, _+_, _*_, _≤_, pred}
+use mathlib.Core.Path.{_≡_}
 use mathlib.Core.Bool.{Bool, cond, _&&_}
 use mathlib.Core.List.{List, [], _++_}
 use lib.Dec.{ltb, leb, eqb}
@@ -11,6 +12,8 @@ use Rattle.table.specs.Stream.{unitsOf, sizesOf, needed}
 use Rattle.costs.specs.Instance.{domIn, isValue, pairStart}
 pub mod Sizes
 pub mod Laws
+pub mod Steps
+pub mod Checks
 
 -- ---- the parts of a stream
 
@@ -57,3 +60,16 @@ gatherCount s own room = cond (gatherable s own room) (length (gathered s own)) 
 -- what the lent bytes then are: those gathered in front, the rest as it was
 abbrev pub gatherInto : List ℕ → ℕ → List ℕ → List ℕ
 gatherInto s own l = cond (gatherable s own (length l)) (gathered s own ++ drop (length (gathered s own)) l) l
+
+-- ---- what the pieces of its code go by
+
+-- the list m written over d from place `at` on
+abbrev pub putAt : List ℕ → ℕ → List ℕ → List ℕ
+putAt d at m = take at d ++ m ++ drop (at + length m) d
+
+-- n and the array of sizes are those of a stream that is long enough for them
+pub record ShapeOf (s : List ℕ) (n : ℕ) (sizes : List ℕ) : Type 0 where
+  pub units : n ≡ unitsOf s
+  pub array : sizes ≡ sizesIn s
+  pub most : n ≤ 16
+  pub long : needed s ≤ length s

@@ -1,5 +1,9 @@
 // Pair costs, and what is worked out from them: the costs lent with one unit, as bytes.
 
+mod stream; // what is read out of a stream
+
+pub use stream::gather;
+pub use stream::sizes_of;
 ghost use mathlib.Core.Path.{_≡_};
 ghost use mathlib.Core.Bool.{cond};
 ghost use Prim.Native.Nat.{_+_, _*_, _≤_, pred, min};

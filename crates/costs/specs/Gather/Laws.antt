@@ -10,7 +10,7 @@ use native.Mathlib.Omega.{arith}
 use native.Mathlib.Nat.{mul-add, mul-comm, mul-le-mul, add-zero, zero-add}
 use lib.Dec.{ltb, eqb}
 use lib.ListN.{length, getD, take, drop, length-append, length-drop, List·getD-append}
-use lib.Seq.{getD-drop, getD-take, length-take-le, getD-append-add}
+use lib.Seq.{getD-drop, getD-take, length-take-le, getD-append-add, take-append-seam}
 use borrow.Author.Tests.{lt-ltb, le-ltb, ltb-true, ltb-false, eq-eqb, ne-eqb, le-leb}
 use Rattle.base.specs.Sums.{sumTo}
 use Rattle.table.specs.Stream.{unitsOf, sizesOf, needed, costAt, Accepted}
@@ -21,7 +21,7 @@ use Rattle.costs.specs.Lent.Checks.{refusal-costs}
 use Rattle.costs.specs.Laws.Sums.{sumTo-le}
 use Rattle.costs.specs.Laws.Stream.{in-pair-lt, value-range, cost-number-at, pair-costs, accepted-fit, dom-most}
 use Rattle.costs.specs.Gather.Sizes.{accepted-sizes-good}
-use Rattle.costs.specs.Gather.{domOf, costsOf, pairBytes, withOther, gatherTo, gathered, gatherable}
+use Rattle.costs.specs.Gather.{domOf, costsOf, pairBytes, withOther, gatherTo, gathered, gatherable, gatherCount, gatherInto}
 
 -- ---- which of two units comes first
 
@@ -33,13 +33,13 @@ by-order {P} j k before same after = go (ltb j k) (ltb k j) refl refl
     go false true e f = after (ltb-true k j f)
     go false false e f = let a = ltb-false j k e in let b = ltb-false k j f in same (omega arith)
 
-with-before : (s : List ℕ) (k j : ℕ) → j < k → withOther s k j ≡ pairBytes s j k
+pub with-before : (s : List ℕ) (k j : ℕ) → j < k → withOther s k j ≡ pairBytes s j k
 with-before s k j h = let ne : j ≡ k → ⊥ = λ e. omega arith in rw (ne-eqb j k ne, lt-ltb j k h)
 
-with-own : (s : List ℕ) (k : ℕ) → withOther s k k ≡ []
+pub with-own : (s : List ℕ) (k : ℕ) → withOther s k k ≡ []
 with-own s k = rw (eq-eqb k k refl)
 
-with-after : (s : List ℕ) (k j : ℕ) → k < j → withOther s k j ≡ pairBytes s k j
+pub with-after : (s : List ℕ) (k j : ℕ) → k < j → withOther s k j ≡ pairBytes s k j
 with-after s k j h =
     let ne : j ≡ k → ⊥ = λ e. omega arith in
     let le : k ≤ j = omega arith in
@@ -67,11 +67,14 @@ both-swapped true false false x y e = refl
 both-swapped false a b x y e = refl
 
 module _ (s : List ℕ) (fit : needed s ≤ length s) where
+  there : 1 + unitsOf s ≤ length s
+  there = omega arith
+
   -- ---- a pair's bytes
 
-  length-pair-bytes : (i j : ℕ) → i < j → j < unitsOf s → length (pairBytes s i j) ≡ 2 * (domOf s i * domOf s j)
+  pub length-pair-bytes : (i j : ℕ) → i < j → j < unitsOf s → length (pairBytes s i j) ≡ 2 * (domOf s i * domOf s j)
   length-pair-bytes i j a b =
-      length-take-le (2 * (domOf s i * domOf s j)) (drop (1 + unitsOf s + 2 * pairStart (domOf s) (unitsOf s) i j) s) (simp length-drop (omega (arith, pair-costs s fit i j a b)))
+      length-take-le (2 * (domOf s i * domOf s j)) (drop (1 + unitsOf s + 2 * pairStart (domOf s) (unitsOf s) i j) s) (simp length-drop (omega (arith, pair-costs s there i j a b)))
 
   pair-byte : (i j y : ℕ) → y < 2 * (domOf s i * domOf s j) → getD (pairBytes s i j) y 0 ≡ getD s (1 + unitsOf s + 2 * pairStart (domOf s) (unitsOf s) i j + y) 0
   pair-byte i j y h =
@@ -97,7 +100,7 @@ module _ (s : List ℕ) (fit : needed s ≤ length s) where
         (λ l. ap length (with-after s k j l) ∙ length-pair-bytes k j l h ∙ rw (other-size (domOf s) k j (λ e. omega arith)))
 
     -- where they begin
-    length-gather : (m : ℕ) → m ≤ unitsOf s → length (gatherTo s k m) ≡ 2 * otherStart (domOf s) k m
+    pub length-gather : (m : ℕ) → m ≤ unitsOf s → length (gatherTo s k m) ≡ 2 * otherStart (domOf s) k m
     unfolding gatherTo
     length-gather zero h = omega arith
     length-gather (suc m) h =
@@ -106,7 +109,7 @@ module _ (s : List ℕ) (fit : needed s ≤ length s) where
 
     -- ---- and what stands there
 
-    gather-room : (j m : ℕ) → j < m → length (gatherTo s k j) + length (withOther s k j) ≤ length (gatherTo s k m)
+    pub gather-room : (j m : ℕ) → j < m → length (gatherTo s k j) + length (withOther s k j) ≤ length (gatherTo s k m)
     unfolding gatherTo
     gather-room j zero h = absurd (omega arith)
     gather-room j (suc m) h =
@@ -215,7 +218,7 @@ all-good costs k (suc m) e =
 module _ (s : List ℕ) (ok : Accepted s) (k : ℕ) (in-n : k < unitsOf s) where
   pair-small : (i j x : ℕ) → i < j → j < unitsOf s → x < domOf s i * domOf s j → costNumber (pairBytes s i j) x ≤ 60000
   pair-small i j x l h b =
-      rw (pair-number s (accepted-fit s ok) i j x b) (accepted-cost s ok (pairStart (domOf s) (unitsOf s) i j + x) (omega (arith, pair-costs s (accepted-fit s ok) i j l h)))
+      rw (pair-number s (accepted-fit s ok) i j x b) (accepted-cost s ok (pairStart (domOf s) (unitsOf s) i j + x) (omega (arith, pair-costs s (there s (accepted-fit s ok)) i j l h)))
 
   with-small : (j x : ℕ) → j < unitsOf s → x < domOf s k * cond (eqb j k) 0 (domOf s j) → costNumber (withOther s k j) x ≤ 60000
   with-small j x h b =
@@ -290,3 +293,7 @@ module _ (s : List ℕ) (ok : Accepted s) (own : ℕ) (lo : 1 ≤ own) (hi : own
   accepted-gatherable room h =
       let room-left : length (gathered s own) ≤ room = omega (arith, gathered-most) in
       simp (accepted-sizes-good s ok, le-leb 1 own lo, le-leb own (unitsOf s) hi, le-leb (needed s) (length s) (accepted-fit s ok), le-leb (length (gathered s own)) room room-left)
+
+  -- so the bytes in front are those gathered
+  pub gather-front : (l : List ℕ) → 7680 ≤ length l → take (gatherCount s own (length l)) (gatherInto s own l) ≡ gathered s own
+  gather-front l h = rw (accepted-gatherable (length l) h) (take-append-seam (gathered s own) (drop (length (gathered s own)) l))

@@ -97,16 +97,16 @@ pub instance-dom : (s : List ℕ) → instanceOf s .dom ≡ domOf s
 unfolding instanceOf
 instance-dom s = refl
 
--- a stream that is long enough for its n and sizes
-module _ (s : List ℕ) (fit : needed s ≤ length s) where
+-- a stream that has all its sizes
+module _ (s : List ℕ) (there : 1 + unitsOf s ≤ length s) where
   pub sizes-there : length (sizesOf s) ≡ unitsOf s
   sizes-there = length-take-le (unitsOf s) (drop 1 s) (simp length-drop (omega arith))
 
-  -- has as many costs as its pairs of units need
+  -- needs as many costs as its pairs of units have
   pub costs-in-stream : rowStart (domOf s) (unitsOf s) (unitsOf s) ≡ pairsIn (sizesOf s)
   costs-in-stream = subst (λ m. rowStart (domOf s) m m ≡ pairsIn (sizesOf s)) sizes-there (costs-count (sizesOf s))
 
-  -- and those of a pair among them
+  -- and those of a pair are among them
   pub pair-costs : (i j : ℕ) → i < j → j < unitsOf s → pairStart (domOf s) (unitsOf s) i j + domOf s i * domOf s j ≤ pairsIn (sizesOf s)
   pair-costs i j a b = rw (← costs-in-stream) (pair-inside (domOf s) (unitsOf s) i j a b)
 
@@ -135,7 +135,8 @@ module _ (s : List ℕ) (ok : Accepted s) where
           let q = all-four (ltb i j) (ltb j (unitsOf s)) (isValue (domOf s i) u) (isValue (domOf s j) v) e in
           let hu = value-range (domOf s i) u (q .2) in
           let hv = value-range (domOf s j) v (q .3) in
-          let p = pair-costs s (accepted-fit s ok) i j (ltb-true i j (q .0)) (ltb-true j (unitsOf s) (q .1)) in
+          let there : 1 + unitsOf s ≤ length s = omega (arith, accepted-length s ok) in
+          let p = pair-costs s there i j (ltb-true i j (q .0)) (ltb-true j (unitsOf s) (q .1)) in
           let r = in-pair-lt (domOf s i) (domOf s j) u v (hu .0) (hu .1) (hv .0) (hv .1) in
           rw (cost-number-at s (pairStart (domOf s) (unitsOf s) i j + inPair (domOf s j) u v)) (accepted-cost s ok (pairStart (domOf s) (unitsOf s) i j + inPair (domOf s j) u v) (omega arith))
       go false e = omega arith

@@ -1,0 +1,63 @@
+-- `sum_sizes` meets its contract. The loop's invariant: the sum is that of the places passed, at most 255 for each.
+-- Assumes nothing.
+use Prim.Native.Nat.{_*_, _-_, _≤_}
+use mathlib.Core.Path.{_≡_}
+use native.Mathlib.Omega.{arith}
+use Rattle.base.specs.Sums.{sumFrom}
+use Rattle.costs.specs.Instance.{domIn}
+use Rattle.costs.specs.Gather.Steps.{sum-more}
+use borrow.Author.Needs.{needs}
+use Rattle.costs.proofs.stream.sum_sizes.Statement.{statement}
+use Rattle.costs.proofs.stream.sum_sizes.Tie as tie
+
+abbrev Inv-loop : tie.InvT-loop
+Inv-loop n sizes lo m sum₀ i₀ sum i = (i ≤ m) × (sum ≡ sumFrom (domIn n sizes) lo i) × (sum ≤ 255 * i)
+
+abbrev μ-loop : tie.MeasureT-loop
+μ-loop n sizes lo m sum₀ i₀ sum i = m - i
+
+loop-holds : tie.Need-loop-holds Inv-loop μ-loop
+loop-holds c = search needs
+
+add-size-of : tie.Need-add-size-of Inv-loop μ-loop
+add-size-of c = search needs
+
+size-of-requires : tie.Need-size-of-requires Inv-loop μ-loop
+size-of-requires c κs = search needs
+
+add-sum : tie.Need-add-sum Inv-loop μ-loop
+add-sum c = search needs
+
+add-i : tie.Need-add-i Inv-loop μ-loop
+add-i c = search needs
+
+loop-less : tie.Need-loop-less Inv-loop μ-loop
+loop-less c = search needs
+
+loop-again : tie.Need-loop-again Inv-loop μ-loop
+loop-again c =
+    let a = c .before .before .before .args in
+    let l = c .before .before .loop in
+    (omega arith, rw (l .inv .1, c .size-of .ensures .0, sum-more), omega arith)
+
+returns : tie.Need-returns Inv-loop μ-loop
+returns c =
+    let a = c .before .before .args in
+    let l = c .before .loop in
+    let e : l .i ≡ a .m = omega arith in
+    (rw (← e) (l .inv .1), omega arith)
+
+pub sum-sizes-spec : {M : Type 1} → statement M
+sum-sizes-spec =
+    tie.close
+    (tie.spec
+    Inv-loop
+    μ-loop
+    loop-holds
+    add-size-of
+    size-of-requires
+    add-sum
+    add-i
+    loop-less
+    loop-again
+    returns)

@@ -1,0 +1,99 @@
+-- How gathering goes on by one turn of a loop: a size, a sum, a byte copied. Each by a law on lists at the next place.
+-- Assumes nothing.
+use Prim.Native.Nat.{ℕ, suc, _+_, _*_, _-_, _≤_, _<_}
+use mathlib.Core.Path.{_≡_, refl, sym, ap, _∙_}
+use mathlib.Core.List.{List, [], _++_, append-assoc, append-nil}
+use native.Mathlib.Numerals.{add-one}
+use native.Mathlib.Omega.{arith}
+use lib.ListN.{length, getD, take, drop, set, length-append, length-take, length-drop, drop-of-length-le, List·getD-eq-default}
+use lib.Seq.{take-all, getD-take, getD-drop, drop-cons, take-suc, set-at, length-take-le, take-append-seam, drop-append-add, drop-drop, paste, paste-zero, paste-suc}
+use Rattle.base.specs.Sums.{sumFrom}
+use Rattle.table.specs.Stream.{unitsOf}
+use Rattle.costs.specs.Instance.{domIn, pairStart}
+use Rattle.costs.specs.Laws.Sums.{sumFrom-last}
+use Rattle.costs.specs.Laws.Stream.{pair-costs}
+use Rattle.costs.specs.Gather.{domOf, pairBytes, withOther, gatherTo, putAt, ShapeOf}
+use Rattle.costs.specs.Gather.Sizes.{dom-same}
+use Rattle.costs.specs.Gather.Laws.{length-pair-bytes, with-own}
+
+-- ---- sizes
+
+pub size-none : (s : List ℕ) (k : ℕ) → unitsOf s ≤ k → 0 ≡ domOf s k
+size-none s k h = sym (List·getD-eq-default (take (unitsOf s) (drop 1 s)) 0 (simp length-take (omega arith)))
+
+pub size-some : (s : List ℕ) (k : ℕ) → k < unitsOf s → getD s (1 + k) 0 ≡ domOf s k
+size-some s k h = sym (getD-take (unitsOf s) (drop 1 s) k 0 h ∙ getD-drop 1 s k 0)
+
+-- ---- one more
+
+pub sum-more : (f : ℕ → ℕ) (lo i : ℕ) → sumFrom f lo (i + 1) ≡ sumFrom f lo i + f (lo + i)
+sum-more f lo i = rw add-one (sumFrom-last f lo i)
+
+-- an array filled from the front
+pub fill-next : (i : ℕ) (s t : List ℕ) → i < length s → i < length t → set (take i s ++ drop i t) i (getD s i 0) ≡ take (i + 1) s ++ drop (i + 1) t
+fill-next i s t hs ht =
+    let e : length (take i s) ≡ i = length-take-le i s (omega arith) in
+    rw (drop-cons t i 0 ht, set-at (take i s) (getD t i 0) (drop (suc i) t) (getD s i 0) i e, add-one, take-suc s i 0 hs, append-assoc)
+
+pub fill-done : (i : ℕ) (s t : List ℕ) → length s ≤ i → length t ≤ i → take i s ++ drop i t ≡ s
+fill-done i s t hs ht = rw (take-all i s hs, drop-of-length-le t ht, append-nil)
+
+-- a byte of a part copied
+pub paste-next : (d : List ℕ) (at : ℕ) (s : List ℕ) (from j : ℕ) → at + j < length d → from + j < length s
+    → set (paste d at (drop from s) j) (at + j) (getD s (from + j) 0) ≡ paste d at (drop from s) (j + 1)
+paste-next d at s from j hd hs =
+    let e : getD (drop from s) j 0 ≡ getD s (from + j) 0 = getD-drop from s j 0 in
+    let l : j < length (drop from s) = simp length-drop (omega arith) in
+    rw (← e, add-one) (paste-suc d at (drop from s) j 0 hd l)
+
+-- ---- parts put behind one another
+
+-- where the bytes of a pair stand and how many they are, from the numbers that the code works out
+module _ {s : List ℕ} {n : ℕ} {sizes : List ℕ} (shape : ShapeOf s n sizes) (i j w p a b : ℕ) (order : i < j) (inside : j < n)
+    (units : w ≡ n) (start : p ≡ pairStart (domIn n sizes) n i j) (lower : a ≡ domIn n sizes i) (higher : b ≡ domIn n sizes j) where
+  same : domIn n sizes ≡ domOf s
+  same = dom-same s (shape .units) (shape .array) (shape .most)
+
+  start-same : p ≡ pairStart (domOf s) (unitsOf s) i j
+  start-same = start ∙ ap (λ f. pairStart f n i j) same ∙ ap (λ m. pairStart (domOf s) m i j) (shape .units)
+
+  sizes-same : a * b ≡ domOf s i * domOf s j
+  sizes-same =
+      let l : a ≡ domOf s i = lower ∙ ap (λ f. f i) same in
+      let h : b ≡ domOf s j = higher ∙ ap (λ f. f j) same in
+      rw (l, h)
+
+  pub pair-count : 2 * (a * b) ≡ length (pairBytes s i j)
+  pair-count = ap (λ x. 2 * x) sizes-same ∙ sym (length-pair-bytes s (shape .long) i j order (omega (arith, shape .units)))
+
+  pub pair-in-stream : 1 + w + 2 * p + 2 * (a * b) ≤ length s
+  pair-in-stream = omega (arith, start-same, sizes-same, shape .units, shape .long, pair-costs s (omega (arith, shape .long)) i j order (omega (arith, shape .units)))
+
+  -- a part of a stream copied is the bytes of its pair
+  pub put-pair : (d : List ℕ) (at : ℕ) → paste d at (drop (1 + w + 2 * p) s) (2 * (a * b)) ≡ putAt d at (pairBytes s i j)
+  put-pair d at =
+      let f : 1 + w + 2 * p ≡ 1 + unitsOf s + 2 * pairStart (domOf s) (unitsOf s) i j = omega (arith, start-same, shape .units) in
+      let c : length (pairBytes s i j) ≡ 2 * (domOf s i * domOf s j) = length-pair-bytes s (shape .long) i j order (omega (arith, shape .units)) in
+      rw (f, sizes-same, c)
+
+-- nothing put changes nothing
+pub put-nothing : (d : List ℕ) (at : ℕ) → d ≡ putAt d at []
+put-nothing d at = paste-zero d at []
+
+-- and the unit itself has no costs with itself
+pub put-own : (s d : List ℕ) (k j at : ℕ) → j ≡ k → (at ≡ at + length (withOther s k j)) × (d ≡ putAt d at (withOther s k j))
+put-own s d k j at e = rw (e, with-own s k) (omega arith, put-nothing d at)
+
+-- what is put behind the front of a list joins that front
+pub put-behind : (g w d : List ℕ) (at : ℕ) → at ≡ length g → putAt (g ++ drop (length g) d) at w ≡ (g ++ w) ++ drop (length (g ++ w)) d
+put-behind g w d at e =
+    rw (e, take-append-seam g (drop (length g) d), drop-append-add g (drop (length g) d) (length w), drop-drop (length w) (length g) d, length-append g w)
+
+-- one unit more
+pub gather-next : (s : List ℕ) (k j : ℕ) → gatherTo s k (j + 1) ≡ gatherTo s k j ++ withOther s k j
+unfolding gatherTo
+gather-next s k j = rw add-one
+
+pub gather-none : (s : List ℕ) (k : ℕ) → gatherTo s k 0 ≡ []
+unfolding gatherTo
+gather-none s k = refl
