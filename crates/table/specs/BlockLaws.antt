@@ -222,6 +222,9 @@ unfolding allZero
 all-zero [] e = refl
 all-zero (x ∷ l) e = cc (eqb-true x 0 (and-left (eqb x 0) (allZero l) e), all-zero l (and-right (eqb x 0) (allZero l) e))
 
+zeros-are : (l : List ℕ) (n : ℕ) → allZero l ≡ true → length l ≡ n → replicate n 0 ≡ l
+zeros-are l n e h = rw (← h) (sym (all-zero l e))
+
 -- two bytes are those of their number
 le16-of : (x lo hi : ℕ) → lo < 256 → hi < 256 → lo + 256 * hi ≡ x → le16 x ≡ lo ∷ hi ∷ []
 le16-of x lo hi l h e =
@@ -233,6 +236,11 @@ le16-of x lo hi l h e =
 -- the four parts of a body, each by its own equation
 parts : {a b p z a' b' p' z' : List ℕ} → a ≡ a' → b ≡ b' → p ≡ p' → z ≡ z' → a ++ b ++ p ++ z ≡ a' ++ b' ++ p' ++ z'
 parts e f g h = cc
+
+-- and of the body that a block's first bytes, its payload and its unused bytes make
+body-of : (k c x0 x1 x2 x3 : ℕ) (p r : List ℕ) → le16 k ≡ x0 ∷ x1 ∷ [] → le16 (length p) ≡ x2 ∷ x3 ∷ [] → p ≡ take c r → replicate (506 - length p) 0 ≡ drop c r
+    → bodyOf k p ≡ x0 ∷ x1 ∷ x2 ∷ x3 ∷ r
+body-of k c x0 x1 x2 x3 p r e f g h = parts e f g h ∙ ap (λ (q : List ℕ). x0 ∷ x1 ∷ x2 ∷ x3 ∷ q) (take-append-drop c r)
 
 last-two : (r : List ℕ) → length r ≡ 508 → drop 506 r ≡ getD r 506 0 ∷ getD r 507 0 ∷ []
 last-two r e =
@@ -255,9 +263,8 @@ written-again k last (x0 ∷ x1 ∷ x2 ∷ x3 ∷ r) ok bytes =
     let long : length r ≡ 508 = omega (arith, block-size k last b ok) in
     let u : unusedOf b ≡ drop (countOf b) (take 506 r) = sym (drop-drop (countOf b) 4 (take 510 b)) in
     let l : length (unusedOf b) ≡ 506 - length p = rw u (simp (length-drop, length-take) (omega arith)) in
-    let z : replicate (506 - length p) 0 ≡ drop (countOf b) (take 506 r) = rw (← l) (sym (all-zero (unusedOf b) (block-unused k last b ok))) ∙ u in
+    let z : replicate (506 - length p) 0 ≡ drop (countOf b) (take 506 r) = zeros-are (unusedOf b) (506 - length p) (block-unused k last b ok) l ∙ u in
     let body : bodyOf k p ≡ take 510 b =
-    parts (le16-of k x0 x1 (bytes 0) (bytes 1) (block-number k last b ok)) (le16-of (length p) x2 x3 (bytes 2) (bytes 3) (sym n)) (sym (take-take (countOf b) 506 r most)) z
-    ∙ ap (λ (q : List ℕ). x0 ∷ x1 ∷ x2 ∷ x3 ∷ q) (take-append-drop (countOf b) (take 506 r)) in
+    body-of k (countOf b) x0 x1 x2 x3 p (take 506 r) (le16-of k x0 x1 (bytes 0) (bytes 1) (block-number k last b ok)) (le16-of (length p) x2 x3 (bytes 2) (bytes 3) (sym n)) (sym (take-take (countOf b) 506 r most)) z in
     let check : le16 (sumOf (take 510 b)) ≡ drop 506 r = le16-of (sumOf (take 510 b)) (getD r 506 0) (getD r 507 0) (bytes 510) (bytes 511) (block-check k last b ok) ∙ sym (last-two r long) in
     ap (λ (q : List ℕ). q ++ le16 (sumOf q)) body ∙ ap (λ (q : List ℕ). take 510 b ++ q) check ∙ take-append-drop 510 b

@@ -99,7 +99,7 @@ module _ (k m : ℕ) (f : List ℕ) (ok : blocksRefusal k (suc m) f ≡ 0) where
       getD-take (countOf (take 512 f)) (drop 4 (take 512 f)) j 0 h ∙ getD-drop 4 (take 512 f) j 0 ∙ getD-take 512 f (4 + j) 0 l
 
 -- a block that isn't the last is full
-full : (k m : ℕ) (f : List ℕ) → blocksRefusal k (suc (suc m)) f ≡ 0 → length (payloadOf (take 512 f)) ≡ 506
+pub full : (k m : ℕ) (f : List ℕ) → blocksRefusal k (suc (suc m)) f ≡ 0 → length (payloadOf (take 512 f)) ≡ 506
 full k m f ok =
     let g : blockRefusal k false (take 512 f) ≡ 0 = rw (eqb·suc-zero m) at (first-good k (suc m) f ok) in
     first-length k (suc m) f ok ∙ eqb-true (countOf (take 512 f)) 506 (block-count k false (take 512 f) g)
@@ -256,7 +256,7 @@ copy-more i s t hs ht =
 
 -- ---- writing: blocks one behind the other
 
-take-most : (s : List ℕ) → length (take 506 s) ≤ 506
+pub take-most : (s : List ℕ) → length (take 506 s) ≤ 506
 take-most s = simp length-take (omega arith)
 
 pub block-long : (k : ℕ) (s : List ℕ) → length (blockOf k (take 506 s)) ≡ 512
@@ -348,6 +348,10 @@ module _ (s out : List ℕ) (r : ℕ) (e : r ≡ writeRefusal s (length out)) wh
   unfolding writeOf
   written-accepted z = rw (← e, z)
 
+  pub kept-file : r ≡ 0 → fileOf s ++ drop (512 * blocksFor (length s)) out ≡ writeInto s out
+  unfolding writeInto
+  kept-file z = rw (← e, z)
+
   pub kept-accepted : r ≡ 0 → fileFrom 0 (blocksFor (length s)) s ++ drop (512 * blocksFor (length s)) out ≡ writeInto s out
-  unfolding writeInto fileOf
-  kept-accepted z = rw (← e, z)
+  unfolding fileOf
+  kept-accepted z = kept-file z

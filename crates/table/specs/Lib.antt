@@ -7,3 +7,4 @@ pub mod BlockLaws
 pub mod File
 pub mod View
 pub mod FileLaws
+pub mod RoundTrip
