@@ -4,3 +4,4 @@ pub mod Step
 pub mod Send
 pub mod Calls
 pub mod Ready
+pub mod Laws
