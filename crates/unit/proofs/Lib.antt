@@ -1,2 +1,5 @@
 -- What the proofs of the unit's functions share.
 pub mod Orders
+pub mod Lent
+pub mod Trying
+pub mod Rules

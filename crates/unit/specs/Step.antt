@@ -112,12 +112,16 @@ abbrev pub tryValue : View → Bool → ℕ → ℕ → Bool → Unit → (Bool 
 tryValue w true v c improved u again = afterWrite w (isLast w) (write w v c u) again
 tryValue w false v c improved u again = again improved u
 
+-- the cost with own value v
+abbrev pub costAt : View → ℕ → Unit → ℕ
+costAt w v u = u .cost + costWith w (u .values) (w .place) v
+
 -- 01: "Try the values after the current one, ascending": m values after v are left, the own value is off. "No value: back up."
 unfoldable pub tryAfter : View → ℕ → ℕ → Bool → Unit → Out
 tryAfter w zero v improved u = backtrack w improved u
 tryAfter w (suc m) v improved u =
     let x = next v in
-    let c = u .cost + costWith w (u .values) (w .place) x in
+    let c = costAt w x u in
     tryValue w (ltb (c + h w x) (u .bound)) x c improved u (λ (b : Bool) (t : Unit). tryAfter w m x b t)
 
 -- 01: "Clear estimates; if the paper has no own value the counter becomes 0."

@@ -1,9 +1,11 @@
 -- `put` meets its contract: the parts set are those of `write`, at the unit's place.
 -- Assumes nothing.
-use Prim.Native.Nat.{_-_}
+use Prim.Native.Nat.{_+_, _-_, _<_}
 use native.Mathlib.Omega.{arith}
 use native.Mathlib.Numerals.{add-one}
-use mathlib.Core.Path.{_≡_}
+use mathlib.Core.Path.{_≡_, refl}
+use lib.ListN.{length}
+use lib.Seq.{getD-set-same}
 use borrow.Author.Needs.{needs}
 use Rattle.unit.proofs.decide.put.Statement.{statement}
 use Rattle.unit.proofs.decide.put.Tie as tie
@@ -24,7 +26,11 @@ element-write-t-2 : tie.Need-element-write-t-2
 element-write-t-2 c = search needs
 
 returns : tie.Need-returns
-returns c = λ w e. let p : w .place ≡ c .before .before .args .own - 1 = omega arith in simp (p, add-one)
+returns c =
+    let a = c .before .before .args in
+    let l : length (a .u .stamp) ≡ 16 = search needs in
+    let i : a .own - 1 < length (a .u .stamp) = omega arith in
+    (refl, getD-set-same (a .u .stamp) (a .own - 1) (a .u .counter + 1) 0 i, λ w e. let p : w .place ≡ a .own - 1 = omega arith in simp (p, add-one))
 
 pub put-spec : {M : Type 1} → statement M
 put-spec =
