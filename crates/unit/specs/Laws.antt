@@ -1,8 +1,10 @@
--- Laws of a unit, over the definitions alone: a unit in range takes any message that reads well, stays in range, and sends what can be written.
+-- Laws of a unit, over the definitions alone. 01's promises that every run rests on:
 --     Views, Filled, Stamps     a view in range; places filled; the order of stamps
 --     Range                     a state in range, as facts
---     Packets                   what each plan sends can be written, at most 16 packets
---     Assign, Steps             assigning and backtracking; each message, and making
+--     Packets                   what each plan sends can be written (`Sendable`), at most 16 packets
+--     Assign, Steps             a unit in range takes any message that reads well, stays in range, and sends what can be written; so does making
+--     Bounds                    a stale message changes nothing; the bound never rises; unit n keeps no CPA
+--     Calls                     the same of making and a step as called
 pub mod Views
 pub mod Stamps
 pub mod Filled
@@ -10,3 +12,5 @@ pub mod Range
 pub mod Packets
 pub mod Assign
 pub mod Steps
+pub mod Bounds
+pub mod Calls

@@ -15,6 +15,7 @@ use Rattle.costs.specs.Instance.{View}
 use Rattle.costs.specs.Bounds.{costWith, h}
 use Rattle.costs.specs.Lent.Bounds.{cost-most}
 use Rattle.message.specs.Message.{totalLimit, prefixLimit, filledTo, boundGood, noneOrBound}
+use Rattle.message.specs.Laws.{blank-filled, bound-by}
 use Rattle.unit.specs.declared.Unit.{Unit as State}
 use Rattle.unit.specs.declared.Sending.{Sending}
 use Rattle.unit.specs.declared.Plan.the-variants.{Forward}
@@ -23,9 +24,9 @@ use Rattle.unit.specs.Step.{Out, refused, accepted, Written, after, bare
 use Rattle.unit.specs.Send.{packets}
 use Rattle.unit.specs.Laws.Views.{GoodView, units-most, place-16, size-most}
 use Rattle.unit.specs.Laws.Stamps.{places-equal}
-use Rattle.unit.specs.Laws.Filled.{filled-zeros, filled-own, filled-off, filled-most, zeros-at, set-most, good-or-none, bound-good, bound-32, limit-next, limit-total}
+use Rattle.unit.specs.Laws.Filled.{filled-own, filled-off, filled-most, zeros-at, set-most, good-or-none, bound-32, limit-next, limit-total}
 use Rattle.unit.specs.Laws.Range.{SizedUnit, InRange, range-tests}
-use Rattle.unit.specs.Laws.Packets.{All, Writable, Carries, Improved, forward-writable, back-writable, forward-few, back-few}
+use Rattle.unit.specs.Laws.Packets.{All, Sendable, Carries, Improved, forward-sendable, back-sendable, forward-few, back-few}
 
 -- ---- what is kept
 
@@ -38,7 +39,7 @@ Whenever P (accepted u s ws) = P u s ws
 pub record Kept (n : ℕ) (sizes : List ℕ) (w : View) (most : ℕ) (u : State) (s : Sending) (ws : List Written) : Type 0 where
   pub state : inRange sizes w u ≡ true
   pub arrays : SizedUnit u
-  pub sent : All (Writable n sizes) (packets n (w .place) s)
+  pub sent : All (Sendable n sizes) (packets n (w .place) s)
   pub few : length (packets n (w .place) s) ≤ 16
   pub records : length ws ≤ most
 
@@ -92,11 +93,11 @@ module _ (n : ℕ) (sizes : List ℕ) (w : View) (g : GoodView n sizes w) where
               threshold = set-most 17 (u .threshold) (w .place) (suc (getD (u .threshold) (w .place) 0)) (i .arrays .threshold) k16 (omega (arith, i .own)) (i .threshold);
               estimates = λ j l. omega (arith, zeros-at j l);
               bound = rw (g .units) (i .bound);
-              none = λ z. record { stamp = filled-zeros sizes; values = filled-zeros sizes; cost = refl };
+              none = λ z. record { stamp = blank-filled sizes; values = blank-filled sizes; cost = refl };
               out = λ l. absurd (omega (arith, zeros-at (w .place) k16));
             };
         arrays = record { threshold = rw length-set (i .arrays .threshold); best = i .arrays .best; estimates = refl; stamp = refl; values = refl };
-        sent = back-writable n sizes (w .place) (w .place) (carried w u) (g .place) (carries u (w .place) (omega (arith, k16)) (i .arrays) (i .stamp) (i .values) (i .cost) (i .bound)) refl b imp;
+        sent = back-sendable n sizes (w .place) (w .place) (carried w u) (g .place) (carries u (w .place) (omega (arith, k16)) (i .arrays) (i .stamp) (i .values) (i .cost) (i .bound)) refl b imp;
         few = omega (arith, units-most n sizes w g, back-few n (w .place) (carried w u) (g .place) b (λ e. imp e .0));
         records = omega arith;
       }
@@ -179,7 +180,7 @@ module _ (n : ℕ) (sizes : List ℕ) (w : View) (g : GoodView n sizes w) where
         record {
           state = range-tests sizes w written written-range;
           arrays = written-arrays;
-          sent = forward-writable n sizes (w .place) (suc (w .place)) (carried w written) (g .place) (carries written (suc (w .place)) (omega (arith, k16)) written-arrays stamp-filled values-filled cost-limit (i .bound)) refl l false;
+          sent = forward-sendable n sizes (w .place) (suc (w .place)) (carried w written) (g .place) (carries written (suc (w .place)) (omega (arith, k16)) written-arrays stamp-filled values-filled cost-limit (i .bound)) refl l false;
           few = omega (arith, units-most n sizes w g, forward-few n (w .place) (carried w written) (g .place) false);
           records = omega arith;
         }
@@ -189,7 +190,7 @@ module _ (n : ℕ) (sizes : List ℕ) (w : View) (g : GoodView n sizes w) where
     taken = takeOff w (withBest (written .cost) (written .values) written)
 
     best-good : suc (w .place) ≡ n → boundGood n sizes (taken .bound) (taken .best) ≡ true
-    best-good l = bound-good n sizes next-cost (written .values) (omega (arith, cost-limit, limit-total (suc (w .place)) (omega (arith, k16)))) (rw (← l) values-filled)
+    best-good l = bound-by n sizes next-cost (written .values) (omega (arith, cost-limit, limit-total (suc (w .place)) (omega (arith, k16)))) (rw (← l) values-filled)
 
     taken-in-hand : suc (w .place) ≡ n → InHand n sizes w taken
     taken-in-hand l =

@@ -2,7 +2,7 @@
 -- Place by place, by message's laws of `filledTo`. Assumes nothing.
 use Prim.Native.Nat.{ℕ, zero, suc, _+_, _*_, _-_, _≤_, _<_}
 use mathlib.Core.Logic.{⊎-elim}
-use mathlib.Core.Path.{_≡_, refl, sym}
+use mathlib.Core.Path.{_≡_, refl, sym, _∙_}
 use mathlib.Core.Bool.{Bool, true, false, cond, _&&_}
 use mathlib.Core.List.{List}
 use native.Mathlib.Omega.{arith}
@@ -10,16 +10,13 @@ use native.Mathlib.Nat.{eq-or-lt-of-le, mul-le-mul}
 use lib.Dec.{ltb, leb, eqb}
 use lib.ListN.{length, getD, set, getD-replicate}
 use lib.Seq.{getD-set-same, getD-set-other}
-use borrow.Author.Tests.{leb-true, le-leb, ltb-true, ltb-false, eqb-true, eqb-false, ne-eqb}
+use borrow.Author.Tests.{leb-true, le-leb, ltb-true, ltb-false, eqb-true, eqb-false}
 use Rattle.base.specs.Shape.{and-left}
-use Rattle.message.specs.Message.{NONE, totalLimit, prefixLimit, filledTo, boundGood, noneOrBound, noBound}
-use Rattle.message.specs.Laws.{every-at, every-by, filled-at, filled-past, filled-by}
+use Rattle.message.specs.Message.{NONE, totalLimit, prefixLimit, filledTo, boundGood, noneOrBound}
+use Rattle.message.specs.Laws.{bound-parts, not-none-is, every-at, every-by, filled-at, filled-past, filled-by}
 use Rattle.unit.specs.State.{zeros, allAtMost}
 
 -- ---- filled
-
-pub filled-zeros : (sizes : List ℕ) → filledTo 0 sizes zeros ≡ true
-filled-zeros sizes = filled-by 0 sizes zeros (λ j a b. absurd (omega arith)) (λ j a b. getD-replicate 16 j 0 0 b)
 
 module _ (sizes l : List ℕ) (k : ℕ) (len : length l ≡ 16) (k16 : k < 16) where
   -- the own place filled
@@ -87,14 +84,7 @@ set-most m l i x len a h f j b = go (eqb j i) refl
 
 -- a bound in hand keeps the limits of papers and stops too
 pub good-or-none : (n : ℕ) (sizes : List ℕ) (bound : ℕ) (best : List ℕ) → boundGood n sizes bound best ≡ true → noneOrBound n sizes bound best ≡ true
-unfolding noneOrBound boundGood
-good-or-none n sizes bound best e =
-    let l : bound ≤ totalLimit = leb-true bound totalLimit (and-left _ _ e) in
-    rw (ne-eqb bound NONE (λ z. omega arith)) e
-
-pub bound-good : (n : ℕ) (sizes : List ℕ) (bound : ℕ) (best : List ℕ) → bound ≤ totalLimit → filledTo n sizes best ≡ true → boundGood n sizes bound best ≡ true
-unfolding boundGood
-bound-good n sizes bound best l e = rw (le-leb bound totalLimit l) e
+good-or-none n sizes bound best e = not-none-is n sizes bound best (omega (arith, bound-parts n sizes bound best e .0)) ∙ e
 
 -- of either kind it is a number of 32 bits
 pub bound-32 : (n : ℕ) (sizes : List ℕ) (bound : ℕ) (best : List ℕ) → noneOrBound n sizes bound best ≡ true → bound < 4294967296
@@ -104,10 +94,6 @@ bound-32 n sizes bound best e = go (eqb bound NONE) refl e
     go : (t : Bool) → eqb bound NONE ≡ t → cond t (filledTo 0 sizes best) (leb bound totalLimit && filledTo n sizes best) ≡ true → bound < 4294967296
     go true q h = omega (arith, eqb-true bound NONE q)
     go false q h = omega (arith, leb-true bound totalLimit (and-left _ _ h))
-
-pub no-bound : (sizes : List ℕ) → noBound sizes 0 zeros ≡ true
-unfolding noBound
-no-bound sizes = filled-zeros sizes
 
 -- ---- costs
 

@@ -2,21 +2,19 @@
 -- Plan by plan: forward, back with solutions or without, reply. Assumes nothing.
 use Prim.Native.Nat.{ℕ, zero, suc, _+_, _-_, _≤_, _<_}
 use mathlib.Core.Path.{_≡_, refl, sym, ap}
-use mathlib.Core.Bool.{Bool, true, false, _&&_}
+use mathlib.Core.Bool.{Bool, true, false}
 use mathlib.Core.List.{List, [], _∷_, _++_}
 use native.Mathlib.Omega.{arith}
-use lib.Dec.{leb}
 use lib.ListN.{length, length-append}
-use borrow.Author.Tests.{lt-ltb, le-ltb, leb-true, le-leb, eq-eqb, ne-eqb}
-use Rattle.base.specs.Shape.{and-left, and-right}
+use borrow.Author.Tests.{lt-ltb, le-ltb, eq-eqb, ne-eqb}
 use Rattle.message.specs.declared.Message.{Message}
 use Rattle.message.specs.declared.Kind.{Kind}
 use Rattle.message.specs.declared.Kind.the-variants.{Cpa, Request, Estimate, Solution, Stop}
-use Rattle.message.specs.Message.{Packet, Sized, prefixLimit, filledTo, boundGood, noneOrBound, cpaCount, stampCount, valueCount, costLimit, boundFits, directionGood, isUnit, addressGood, wellFormed}
+use Rattle.message.specs.Message.{Packet, Sized, prefixLimit, filledTo, boundGood, noneOrBound, cpaCount, stampCount, valueCount, boundFits, directionGood, addressGood, wellFormed}
+use Rattle.message.specs.Laws.{blank-filled, no-bound-by, address-by, formed-by}
 use Rattle.unit.specs.declared.Plan.the-variants.{Forward, Back, Reply}
 use Rattle.unit.specs.State.{zeros}
 use Rattle.unit.specs.Send.{packet, cpaTo, requestTo, boundTo, each, others, handBack, solutions, byPlan}
-use Rattle.unit.specs.Laws.Filled.{filled-zeros, no-bound}
 
 -- ---- every packet
 
@@ -38,50 +36,12 @@ unfolding each
 each-length g lo zero = refl
 each-length g lo (suc m) = ap suc (each-length g (suc lo) m)
 
--- ---- a packet that can be written
+-- ---- a packet that can be written and read back
 
-pub record Writable (n : ℕ) (sizes : List ℕ) (p : Packet) : Type 0 where
+pub record Sendable (n : ℕ) (sizes : List ℕ) (p : Packet) : Type 0 where
   pub address : addressGood n (p .message) ≡ true
   pub form : wellFormed n sizes (p .kind) (p .message) ≡ true
   pub arrays : Sized (p .message)
-
-is-unit : (n i : ℕ) → 1 ≤ i → i ≤ n → isUnit n i ≡ true
-is-unit n i a b = rw (le-leb 1 i a, le-leb i n b)
-
-both : (a b : Bool) → a ≡ true → b ≡ true → (a && b) ≡ true
-both a b e f = rw (e, f)
-
--- the five tests of check 9
-module _ (n : ℕ) (sizes : List ℕ) (k : Kind) (m : Message) where
-  pub form-of : directionGood n k (m .sender) (m .receiver) ≡ true → filledTo (stampCount k m) sizes (m .stamp) ≡ true → filledTo (valueCount k m) sizes (m .values) ≡ true
-      → m .cost ≤ costLimit k m → boundFits n sizes k (m .bound) (m .best) ≡ true → wellFormed n sizes k m ≡ true
-  unfolding wellFormed
-  form-of a b c d e = both _ _ (both _ _ (both _ _ (both _ _ a b) c) (le-leb _ _ d)) e
-
-  pub record Formed : Type 0 where
-    pub direction : directionGood n k (m .sender) (m .receiver) ≡ true
-    pub stamp : filledTo (stampCount k m) sizes (m .stamp) ≡ true
-    pub values : filledTo (valueCount k m) sizes (m .values) ≡ true
-    pub cost : m .cost ≤ costLimit k m
-    pub bound : boundFits n sizes k (m .bound) (m .best) ≡ true
-
-  pub formed : wellFormed n sizes k m ≡ true → Formed
-  unfolding wellFormed
-  formed e =
-      let d : _ = and-left _ _ e in
-      let c : _ = and-left _ _ d in
-      let b : _ = and-left _ _ c in
-      record {
-        direction = and-left _ _ b;
-        stamp = and-right (directionGood n k (m .sender) (m .receiver)) _ b;
-        values = and-right (directionGood n k (m .sender) (m .receiver) && filledTo (stampCount k m) sizes (m .stamp)) _ c;
-        cost = leb-true _ _ (and-right (directionGood n k (m .sender) (m .receiver) && filledTo (stampCount k m) sizes (m .stamp) && filledTo (valueCount k m) sizes (m .values)) _ d);
-        bound = and-right (directionGood n k (m .sender) (m .receiver) && filledTo (stampCount k m) sizes (m .stamp) && filledTo (valueCount k m) sizes (m .values) && leb (m .cost) (costLimit k m)) _ e;
-      }
-
-pub address-of : (n : ℕ) (m : Message) → 1 ≤ m .sender → m .sender ≤ n → 1 ≤ m .receiver → m .receiver ≤ n → addressGood n m ≡ true
-unfolding addressGood
-address-of n m a b c d = both _ _ (is-unit n (m .sender) a b) (is-unit n (m .receiver) c d)
 
 -- ---- the fields that the messages of a CPA of unit k + 1 carry, c units filled
 
@@ -102,73 +62,80 @@ zero-arrays = refl
 
 module _ (n : ℕ) (sizes : List ℕ) (k c : ℕ) (m : Message) (k<n : k < n) (h : Carries n sizes k c m) where
   -- a CPA to the unit at place j, the next or the one before
-  cpa-writable : (j : ℕ) → j < n → directionGood n Cpa (suc k) (suc j) ≡ true → cpaCount (suc k) (suc j) ≡ c → Writable n sizes (cpaTo m j)
-  cpa-writable j l d e =
+  cpa-sendable : (j : ℕ) → j < n → directionGood n Cpa (suc k) (suc j) ≡ true → cpaCount (suc k) (suc j) ≡ c → Sendable n sizes (cpaTo m j)
+  cpa-sendable j l d e =
       record {
-        address = address-of n (cpaTo m j .message) (omega (arith, h .sender)) (omega (arith, h .sender)) (omega arith) (omega arith);
+        address = address-by n (cpaTo m j .message) (omega (arith, h .sender)) (omega (arith, h .sender)) (omega arith) (omega arith);
         form =
-            form-of n sizes Cpa (cpaTo m j .message) (rw (h .sender) d) (rw (h .sender, e) (h .stamp)) (rw (h .sender, e) (h .values)) (rw (h .sender, e) (h .cost)) (h .bound);
+            formed-by n sizes Cpa (cpaTo m j .message)
+            record { direction = rw (h .sender) d; stamps = rw (h .sender, e) (h .stamp); values = rw (h .sender, e) (h .values); cost = rw (h .sender, e) (h .cost); bound = h .bound };
         arrays = record { stamp = h .arrays .stamp; values = h .arrays .values; best = h .arrays .best; cost = h .arrays .cost; bound = h .arrays .bound };
       }
 
   -- a request to a later unit
-  request-writable : c ≡ suc k → (j : ℕ) → k < j → j < n → Writable n sizes (requestTo m j)
-  request-writable e j a b =
+  request-sendable : c ≡ suc k → (j : ℕ) → k < j → j < n → Sendable n sizes (requestTo m j)
+  request-sendable e j a b =
       record {
-        address = address-of n (requestTo m j .message) (omega (arith, h .sender)) (omega (arith, h .sender)) (omega arith) (omega arith);
+        address = address-by n (requestTo m j .message) (omega (arith, h .sender)) (omega (arith, h .sender)) (omega arith) (omega arith);
         form =
-            form-of n sizes Request (requestTo m j .message) (lt-ltb (m .sender) (suc j) (omega (arith, h .sender))) (rw (h .sender, ← e) (h .stamp)) (rw (h .sender, ← e) (h .values))
-            (rw (h .sender, ← e) (h .cost)) (no-bound sizes);
+            formed-by n sizes Request (requestTo m j .message)
+            record {
+              direction = lt-ltb (m .sender) (suc j) (omega (arith, h .sender));
+              stamps = rw (h .sender, ← e) (h .stamp);
+              values = rw (h .sender, ← e) (h .values);
+              cost = rw (h .sender, ← e) (h .cost);
+              bound = no-bound-by sizes 0 zeros refl (blank-filled sizes);
+            };
         arrays = record { stamp = h .arrays .stamp; values = h .arrays .values; best = zero-arrays; cost = h .arrays .cost; bound = omega arith };
       }
 
   -- a stop or a solution to another unit
-  bound-writable : (t : Kind) (j : ℕ) → j < n → directionGood n t (suc k) (suc j) ≡ true → stampCount t (boundTo t m j .message) ≡ 0 → valueCount t (boundTo t m j .message) ≡ 0
-      → boundFits n sizes t (m .bound) (m .best) ≡ true → Writable n sizes (boundTo t m j)
-  bound-writable t j l d e f b =
+  bound-sendable : (t : Kind) (j : ℕ) → j < n → directionGood n t (suc k) (suc j) ≡ true → stampCount t (boundTo t m j .message) ≡ 0 → valueCount t (boundTo t m j .message) ≡ 0
+      → boundFits n sizes t (m .bound) (m .best) ≡ true → Sendable n sizes (boundTo t m j)
+  bound-sendable t j l d e f b =
       record {
-        address = address-of n (boundTo t m j .message) (omega (arith, h .sender)) (omega (arith, h .sender)) (omega arith) (omega arith);
-        form = form-of n sizes t (boundTo t m j .message) (rw (h .sender) d) (rw e (filled-zeros sizes)) (rw f (filled-zeros sizes)) (omega arith) b;
+        address = address-by n (boundTo t m j .message) (omega (arith, h .sender)) (omega (arith, h .sender)) (omega arith) (omega arith);
+        form = formed-by n sizes t (boundTo t m j .message) record { direction = rw (h .sender) d; stamps = rw e (blank-filled sizes); values = rw f (blank-filled sizes); cost = omega arith; bound = b };
         arrays = record { stamp = zero-arrays; values = zero-arrays; best = h .arrays .best; cost = omega arith; bound = h .arrays .bound };
       }
 
   -- ---- forward
 
-  pub forward-writable : c ≡ suc k → suc k < n → (b : Bool) → All (Writable n sizes) (byPlan n k Forward b m)
-  forward-writable e l b = (
-    cpa-writable (suc k) l (simp (eq-eqb (suc (suc k)) (suc k + 1) (omega arith))) (rw (lt-ltb (suc k) (suc (suc k)) (omega arith)) (omega arith)),
-    all-each (Writable n sizes) (requestTo m) (suc k) (n - suc k) (λ j lo hi. request-writable e j (omega arith) (omega arith)),
+  pub forward-sendable : c ≡ suc k → suc k < n → (b : Bool) → All (Sendable n sizes) (byPlan n k Forward b m)
+  forward-sendable e l b = (
+    cpa-sendable (suc k) l (simp (eq-eqb (suc (suc k)) (suc k + 1) (omega arith))) (rw (lt-ltb (suc k) (suc (suc k)) (omega arith)) (omega arith)),
+    all-each (Sendable n sizes) (requestTo m) (suc k) (n - suc k) (λ j lo hi. request-sendable e j (omega arith) (omega arith)),
   )
 
   -- ---- back
 
-  back-one : c ≡ k → (j : ℕ) → suc j ≡ k → Writable n sizes (cpaTo m j)
-  back-one e j q = cpa-writable j (omega arith) (rw (eq-eqb (suc k) (suc j + 1) (omega arith), ne-eqb (suc j) (suc k + 1) (λ z. omega arith))) (rw (le-ltb (suc k) (suc j) (omega arith)) (omega arith))
+  back-one : c ≡ k → (j : ℕ) → suc j ≡ k → Sendable n sizes (cpaTo m j)
+  back-one e j q = cpa-sendable j (omega arith) (rw (eq-eqb (suc k) (suc j + 1) (omega arith), ne-eqb (suc j) (suc k + 1) (λ z. omega arith))) (rw (le-ltb (suc k) (suc j) (omega arith)) (omega arith))
 
-  stop-one : k ≡ 0 → (j : ℕ) → 1 ≤ j → j < n → Writable n sizes (boundTo Stop m j)
-  stop-one z j a b = bound-writable Stop j b (rw (eq-eqb (suc k) 1 (omega arith), ne-eqb (suc j) (suc k) (λ q. omega arith))) refl refl (h .bound)
+  stop-one : k ≡ 0 → (j : ℕ) → 1 ≤ j → j < n → Sendable n sizes (boundTo Stop m j)
+  stop-one z j a b = bound-sendable Stop j b (rw (eq-eqb (suc k) 1 (omega arith), ne-eqb (suc j) (suc k) (λ q. omega arith))) refl refl (h .bound)
 
-  solution-one : suc k ≡ n → boundGood n sizes (m .bound) (m .best) ≡ true → (j : ℕ) → (j ≡ k → ⊥) → j < n → Writable n sizes (boundTo Solution m j)
-  solution-one z g j a b = bound-writable Solution j b (rw (eq-eqb (suc k) n z, ne-eqb (suc j) (suc k) (λ q. a (omega arith)))) refl refl g
+  solution-one : suc k ≡ n → boundGood n sizes (m .bound) (m .best) ≡ true → (j : ℕ) → (j ≡ k → ⊥) → j < n → Sendable n sizes (boundTo Solution m j)
+  solution-one z g j a b = bound-sendable Solution j b (rw (eq-eqb (suc k) n z, ne-eqb (suc j) (suc k) (λ q. a (omega arith)))) refl refl g
 
-  solutions-writable : (b : Bool) → Improved n sizes k (m .bound) (m .best) b → All (Writable n sizes) (solutions n k b m)
-  solutions-writable false i = tt
-  solutions-writable true i =
-      all-append (Writable n sizes) (each (boundTo Solution m) 0 k) (each (boundTo Solution m) (suc k) (n - suc k))
-      (all-each (Writable n sizes) (boundTo Solution m) 0 k (λ j lo hi. solution-one (i refl .0) (i refl .1) j (λ q. omega arith) (omega arith)))
-      (all-each (Writable n sizes) (boundTo Solution m) (suc k) (n - suc k) (λ j lo hi. solution-one (i refl .0) (i refl .1) j (λ q. omega arith) (omega arith)))
+  solutions-sendable : (b : Bool) → Improved n sizes k (m .bound) (m .best) b → All (Sendable n sizes) (solutions n k b m)
+  solutions-sendable false i = tt
+  solutions-sendable true i =
+      all-append (Sendable n sizes) (each (boundTo Solution m) 0 k) (each (boundTo Solution m) (suc k) (n - suc k))
+      (all-each (Sendable n sizes) (boundTo Solution m) 0 k (λ j lo hi. solution-one (i refl .0) (i refl .1) j (λ q. omega arith) (omega arith)))
+      (all-each (Sendable n sizes) (boundTo Solution m) (suc k) (n - suc k) (λ j lo hi. solution-one (i refl .0) (i refl .1) j (λ q. omega arith) (omega arith)))
 
-  handed-writable : c ≡ k → (j : ℕ) → j ≡ k → All (Writable n sizes) (handBack n j m)
-  handed-writable e zero q = all-each (Writable n sizes) (boundTo Stop m) 1 (n - 1) (λ j lo hi. stop-one (sym q) j lo (omega arith))
-  handed-writable e (suc j) q = (back-one e j q, tt)
+  handed-sendable : c ≡ k → (j : ℕ) → j ≡ k → All (Sendable n sizes) (handBack n j m)
+  handed-sendable e zero q = all-each (Sendable n sizes) (boundTo Stop m) 1 (n - 1) (λ j lo hi. stop-one (sym q) j lo (omega arith))
+  handed-sendable e (suc j) q = (back-one e j q, tt)
 
-  pub back-writable : c ≡ k → (b : Bool) → Improved n sizes k (m .bound) (m .best) b → All (Writable n sizes) (byPlan n k Back b m)
-  back-writable e b i = all-append (Writable n sizes) (handBack n k m) (solutions n k b m) (handed-writable e k refl) (solutions-writable b i)
+  pub back-sendable : c ≡ k → (b : Bool) → Improved n sizes k (m .bound) (m .best) b → All (Sendable n sizes) (byPlan n k Back b m)
+  back-sendable e b i = all-append (Sendable n sizes) (handBack n k m) (solutions n k b m) (handed-sendable e k refl) (solutions-sendable b i)
 
 -- ---- reply
 
-pub reply-writable : (n : ℕ) (sizes : List ℕ) (k : ℕ) (m : Message) (b : Bool) → Writable n sizes (packet Estimate m) → All (Writable n sizes) (byPlan n k Reply b m)
-reply-writable n sizes k m b w = (w, tt)
+pub reply-sendable : (n : ℕ) (sizes : List ℕ) (k : ℕ) (m : Message) (b : Bool) → Sendable n sizes (packet Estimate m) → All (Sendable n sizes) (byPlan n k Reply b m)
+reply-sendable n sizes k m b w = (w, tt)
 
 -- ---- how many
 

@@ -17,21 +17,21 @@ use Rattle.costs.specs.Lent.Bounds.{estimate-most}
 use Rattle.message.specs.declared.Message.{Message}
 use Rattle.message.specs.declared.Kind.{Kind}
 use Rattle.message.specs.declared.Kind.the-variants.{Cpa, Request, Estimate, Solution, Stop}
-use Rattle.message.specs.Message.{Sized, totalLimit, prefixLimit, filledTo, noneOrBound, cpaCount, addressGood}
-use Rattle.message.specs.Laws.{filled-at, filled-past}
+use Rattle.message.specs.Message.{Sized, totalLimit, prefixLimit, filledTo, noneOrBound, cpaCount}
+use Rattle.message.specs.Laws.{blank-filled, no-bound-by, address-by, Addressed, addressed, Formed, formed-by, formed, filled-at, filled-past}
 use Rattle.unit.specs.declared.Unit.{Unit as State}
 use Rattle.unit.specs.declared.Order.{Order}
 use Rattle.unit.specs.declared.Order.the-variants.{Smaller, Equal, Bigger}
 use Rattle.unit.specs.declared.Sending.{Sending}
-use Rattle.unit.specs.State.{fresh, withThreshold, withCpa, ownValue, compareOn, sameOn, notSmaller, inRange}
+use Rattle.unit.specs.State.{zeros, fresh, withThreshold, withCpa, ownValue, compareOn, sameOn, notSmaller, inRange}
 use Rattle.unit.specs.Step.{accepted, Written, silent, takeLower, takeBound, onDown, isOut, isCpaOut, onOwn, onBack, onEither, onCpa, reply, onFresh, onRequest, sumLater, reachedByEstimates, stored, onOwnEstimate, onTimely, onEstimate, onSolution, onStop, unlessStopped, respond}
 use Rattle.unit.specs.Send.{packet, packets}
 use Rattle.unit.specs.Calls.{start}
-use Rattle.unit.specs.Laws.Views.{GoodView, units-most, place-16, size-most, unit-range}
+use Rattle.unit.specs.Laws.Views.{GoodView, units-most, place-16, size-most}
 use Rattle.unit.specs.Laws.Stamps.{SamePlaces, same-places, equal-places, places-compare, both-ways, bigger-than, bigger-more, fewer-not-smaller}
-use Rattle.unit.specs.Laws.Filled.{filled-zeros, filled-off, filled-most, zeros-at, set-most, good-or-none, no-bound}
+use Rattle.unit.specs.Laws.Filled.{filled-off, filled-most, zeros-at, set-most, good-or-none}
 use Rattle.unit.specs.Laws.Range.{SizedUnit, InRange, range-facts, range-tests}
-use Rattle.unit.specs.Laws.Packets.{Writable, Formed, formed, form-of, address-of, reply-writable}
+use Rattle.unit.specs.Laws.Packets.{Sendable, reply-sendable}
 use Rattle.unit.specs.Laws.Assign.{Whenever, Kept, Ready, assign-kept, resume-kept}
 
 -- ---- states with the same CPA out
@@ -135,7 +135,7 @@ module _ (n : ℕ) (sizes : List ℕ) (w : View) (g : GoodView n sizes w) where
       down-ready : ltb (m .sender) (suc (w .place)) ≡ true → (t : List ℕ) → length t ≡ 16 → ((j : ℕ) → j < 16 → getD t j 0 ≤ 17) → getD t (w .place) 0 ≤ 16
           → Ready n sizes w (withCpa (m .stamp) (m .values) (m .cost) (withThreshold t u))
       down-ready e t len most own =
-          let s : filledTo (w .place) sizes (m .stamp) ≡ true = rw (down-count e) at (f .stamp) in
+          let s : filledTo (w .place) sizes (m .stamp) ≡ true = rw (down-count e) at (f .stamps) in
           let v : filledTo (w .place) sizes (m .values) ≡ true = rw (down-count e) at (f .values) in
           let c : m .cost ≤ prefixLimit (w .place) = rw (down-count e) at (f .cost) in
           let z : getD (m .values) (w .place) 0 ≡ 0 = filled-past (w .place) sizes (m .values) v (w .place) (omega arith) k16 in
@@ -155,12 +155,12 @@ module _ (n : ℕ) (sizes : List ℕ) (w : View) (g : GoodView n sizes w) where
       down-kept : ltb (m .sender) (suc (w .place)) ≡ true → (o : Order) → compareOn (suc (w .place)) (m .stamp) (u .threshold) ≡ o → Whenever (Kept n sizes w 16) (onDown w o u m)
       down-kept e Smaller p = quiet-kept u r a
       down-kept e Equal p =
-          let s : filledTo (w .place) sizes (m .stamp) ≡ true = rw (down-count e) at (f .stamp) in
+          let s : filledTo (w .place) sizes (m .stamp) ≡ true = rw (down-count e) at (f .stamps) in
           let own : getD (u .threshold) (w .place) 0 ≤ 16 = omega (arith, equal-places (suc (w .place)) (m .stamp) (u .threshold) p (w .place) (omega arith), filled-past (w .place) sizes (m .stamp) s (w .place) (omega arith) k16) in
           let x : State = withCpa (m .stamp) (m .values) (m .cost) u in
           resume-kept n sizes w g (takeBound m x) (ready-lower x (down-ready e (u .threshold) (a .threshold) (r .threshold) own) (m .bound) (m .best) (q .best) (f .bound) (ltb (m .bound) (x .bound)))
       down-kept e Bigger p =
-          let s : filledTo (w .place) sizes (m .stamp) ≡ true = rw (down-count e) at (f .stamp) in
+          let s : filledTo (w .place) sizes (m .stamp) ≡ true = rw (down-count e) at (f .stamps) in
           let most : (j : ℕ) → j < 16 → getD (m .stamp) j 0 ≤ 16 = filled-most n (w .place) sizes (m .stamp) (omega (arith, g .place)) (size-most n sizes w g) s in
           let x : State = withCpa (m .stamp) (m .values) (m .cost) (withThreshold (m .stamp) u) in
           resume-kept n sizes w g (takeBound m x) (ready-lower x (down-ready e (m .stamp) (q .stamp) (λ j l. omega (arith, most j l)) (most (w .place) k16)) (m .bound) (m .best) (q .best) (f .bound) (ltb (m .bound) (x .bound)))
@@ -195,16 +195,18 @@ module _ (n : ℕ) (sizes : List ℕ) (w : View) (g : GoodView n sizes w) where
 
     -- ---- requests
 
-    module _ (f : Formed n sizes Request m) (from : (1 ≤ m .sender) × (m .sender ≤ n)) where
+    module _ (f : Formed n sizes Request m) (from : Addressed n m) where
       earlier : m .sender < suc (w .place)
       earlier = ltb-true (m .sender) (suc (w .place)) (rw to at (f .direction))
 
-      reply-good : Writable n sizes (packet Estimate (reply w m .message))
+      reply-good : Sendable n sizes (packet Estimate (reply w m .message))
       reply-good =
           let cost-most : estimate w (m .values) (m .sender) ≤ totalLimit = omega (arith, estimate-most w (g .small) (m .values) (m .sender), earlier, g .units, g .place, units-most n sizes w g) in
           record {
-            address = address-of n (reply w m .message) (omega arith) (g .place) (from .0) (from .1);
-            form = form-of n sizes Estimate (reply w m .message) (lt-ltb (m .sender) (suc (w .place)) earlier) (f .stamp) (filled-zeros sizes) cost-most (no-bound sizes);
+            address = address-by n (reply w m .message) (omega arith) (g .place) (from .from) (from .fromMost);
+            form =
+                formed-by n sizes Estimate (reply w m .message)
+                record { direction = lt-ltb (m .sender) (suc (w .place)) earlier; stamps = f .stamps; values = blank-filled sizes; cost = cost-most; bound = no-bound-by sizes 0 zeros refl (blank-filled sizes) };
             arrays = record { stamp = q .stamp; values = refl; best = refl; cost = omega arith; bound = omega arith };
           }
 
@@ -214,7 +216,7 @@ module _ (n : ℕ) (sizes : List ℕ) (w : View) (g : GoodView n sizes w) where
           record {
             state = range-tests sizes w x rx;
             arrays = ax;
-            sent = reply-writable n sizes (w .place) (reply w m .message) false reply-good;
+            sent = reply-sendable n sizes (w .place) (reply w m .message) false reply-good;
             few = omega arith;
             records = omega arith;
           }
@@ -223,7 +225,7 @@ module _ (n : ℕ) (sizes : List ℕ) (w : View) (g : GoodView n sizes w) where
       fresh-request-kept Smaller p = quiet-kept u r a
       fresh-request-kept Equal p = reply-kept u r a
       fresh-request-kept Bigger p =
-          let most : (j : ℕ) → j < 16 → getD (m .stamp) j 0 ≤ 16 = filled-most n (m .sender) sizes (m .stamp) (from .1) (size-most n sizes w g) (f .stamp) in
+          let most : (j : ℕ) → j < 16 → getD (m .stamp) j 0 ≤ 16 = filled-most n (m .sender) sizes (m .stamp) (from .fromMost) (size-most n sizes w g) (f .stamps) in
           reply-kept (withThreshold (m .stamp) u)
           (same-cpa-range u r a (m .stamp) (u .bound) (u .best) (u .estimates) (u .stopped) (λ j l. omega (arith, most j l)) (own-bound u r a) (r .estimates)
           (λ o. ap notSmaller (bigger-more (w .place) (m .stamp) (u .stamp) (bigger-than (w .place) (m .stamp) (u .threshold) (u .stamp) p (fewer-not-smaller (w .place) (u .threshold) (u .stamp) (r .out o .threshold))))))
@@ -235,7 +237,7 @@ module _ (n : ℕ) (sizes : List ℕ) (w : View) (g : GoodView n sizes w) where
 
     -- ---- estimates
 
-    module _ (f : Formed n sizes Estimate m) (from : (1 ≤ m .sender) × (m .sender ≤ n)) where
+    module _ (f : Formed n sizes Estimate m) (from : Addressed n m) where
       stored-range : InRange sizes w (stored m u)
       stored-range =
           same-cpa-range u r a (u .threshold) (u .bound) (u .best) (set (u .estimates) (m .sender - 1) (m .cost)) (u .stopped) (r .threshold) (own-bound u r a)
@@ -287,27 +289,24 @@ module _ (n : ℕ) (sizes : List ℕ) (w : View) (g : GoodView n sizes w) where
 
   -- ---- any message
 
-  pub respond-kept : (kind : Kind) (u : State) (m : Message) → inRange sizes w u ≡ true → SizedUnit u → Writable n sizes (packet kind m) → m .receiver ≡ suc (w .place)
+  pub respond-kept : (kind : Kind) (u : State) (m : Message) → inRange sizes w u ≡ true → SizedUnit u → Sendable n sizes (packet kind m) → m .receiver ≡ suc (w .place)
       → Whenever (Kept n sizes w 16) (respond w kind u m)
-  unfolding respond addressGood
+  unfolding respond
   respond-kept kind u m e a p to = go (u .stopped) kind p
     where
       r : InRange sizes w u
       r = range-facts sizes w u e
 
-      from : (t : Kind) → Writable n sizes (packet t m) → (1 ≤ m .sender) × (m .sender ≤ n)
-      from t p = unit-range n (m .sender) (and-left _ _ (p .address))
-
-      go : (s : Bool) (t : Kind) → Writable n sizes (packet t m) → Whenever (Kept n sizes w 16) (unlessStopped s w t u m)
+      go : (s : Bool) (t : Kind) → Sendable n sizes (packet t m) → Whenever (Kept n sizes w 16) (unlessStopped s w t u m)
       go true t p = tt
       go false Cpa p = cpa-kept u r a m (p .arrays) to (formed n sizes Cpa m (p .form))
-      go false Request p = request-kept u r a m (p .arrays) to (formed n sizes Request m (p .form)) (from Request p)
-      go false Estimate p = estimate-kept u r a m (p .arrays) to (formed n sizes Estimate m (p .form)) (from Estimate p)
+      go false Request p = request-kept u r a m (p .arrays) to (formed n sizes Request m (p .form)) (addressed n m (p .address))
+      go false Estimate p = estimate-kept u r a m (p .arrays) to (formed n sizes Estimate m (p .form)) (addressed n m (p .address))
       go false Solution p = solution-kept u r a m (p .arrays) to (good-or-none n sizes (m .bound) (m .best) (formed n sizes Solution m (p .form) .bound))
       go false Stop p = stop-kept u r a m (p .arrays) to (formed n sizes Stop m (p .form) .bound)
 
   -- the same, of a step known to be accepted
-  pub packets-written : (kind : Kind) (u : State) (m : Message) → inRange sizes w u ≡ true → SizedUnit u → Writable n sizes (packet kind m) → m .receiver ≡ suc (w .place)
+  pub packets-written : (kind : Kind) (u : State) (m : Message) → inRange sizes w u ≡ true → SizedUnit u → Sendable n sizes (packet kind m) → m .receiver ≡ suc (w .place)
       → (u′ : State) (s : Sending) (ws : List Written) → respond w kind u m ≡ accepted u′ s ws → Kept n sizes w 16 u′ s ws
   packets-written kind u m e a p to u′ s ws q = subst (Whenever (Kept n sizes w 16)) q (respond-kept kind u m e a p to)
 
@@ -318,7 +317,7 @@ module _ (n : ℕ) (sizes : List ℕ) (w : View) (g : GoodView n sizes w) where
 
   fresh-bound : noneOrBound n sizes (fresh .bound) (fresh .best) ≡ true
   unfolding noneOrBound
-  fresh-bound = filled-zeros sizes
+  fresh-bound = blank-filled sizes
 
   fresh-range : InRange sizes w fresh
   fresh-range =
@@ -326,7 +325,7 @@ module _ (n : ℕ) (sizes : List ℕ) (w : View) (g : GoodView n sizes w) where
         threshold = λ j l. omega (arith, zeros-at j l);
         estimates = λ j l. omega (arith, zeros-at j l);
         bound = rw (g .units) fresh-bound;
-        none = λ z. record { stamp = filled-zeros sizes; values = filled-zeros sizes; cost = refl };
+        none = λ z. record { stamp = blank-filled sizes; values = blank-filled sizes; cost = refl };
         out = λ l. absurd (omega (arith, zeros-at (w .place) k16));
       }
 
@@ -342,8 +341,8 @@ module _ (n : ℕ) (sizes : List ℕ) (w : View) (g : GoodView n sizes w) where
         own = omega (arith, zeros-at (w .place) k16);
         estimates = fresh-range .estimates;
         bound = fresh-bound;
-        stamp = rw z (filled-zeros sizes);
-        values = rw z (filled-zeros sizes);
+        stamp = rw z (blank-filled sizes);
+        values = rw z (blank-filled sizes);
         bare = omega arith;
         value = omega (arith, zeros-at (w .place) k16);
         tried = λ l. omega arith;

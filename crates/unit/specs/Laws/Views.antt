@@ -1,16 +1,17 @@
 -- What holds of a view of n units of the sizes: the number of units, the own place, its domain, and the limit of its costs; and the sizes in range.
--- The costs lent with a step that was not refused give such a view, by crate costs. Assumes nothing.
+-- The costs lent with a step that was not refused give such a view, and so does an accepted table, by crate costs. Assumes nothing.
 use Prim.Native.Nat.{ℕ, _-_, _≤_, _<_, pred}
 use mathlib.Core.Path.{_≡_, refl}
-use mathlib.Core.Bool.{true}
+use mathlib.Core.Bool.{Bool, true, false, cond}
 use mathlib.Core.List.{List}
 use native.Mathlib.Omega.{arith}
-use lib.Dec.{leb}
+use lib.Dec.{ltb, leb}
 use lib.ListN.{length, getD}
 use lib.Seq.{getD-take}
 use borrow.Author.Tests.{leb-true}
 use Rattle.base.specs.Shape.{shapeGood, shape-n, shape-size, and-left, and-right}
-use Rattle.costs.specs.Instance.{View, lentView}
+use Rattle.costs.specs.Instance.{Instance, View, viewOf, lentView}
+use Rattle.costs.specs.Laws.{Sound}
 use Rattle.costs.specs.Lent.{lentRefusal}
 use Rattle.costs.specs.Lent.Bounds.{lent-pair-most}
 use Rattle.message.specs.Message.{isUnit}
@@ -52,3 +53,11 @@ lent-good own n sizes costs s l i r =
   where
     below : pred own < n
     below = omega (arith, unit-range n own i .0, unit-range n own i .1)
+
+-- what a unit sees of a sound instance of these sizes
+pub view-good : (I : Instance) (sizes : List ℕ) (k : ℕ) → Sound I → shapeGood (I .n) sizes ≡ true → I .n ≤ length sizes → k < I .n → I .dom k ≡ getD sizes k 0 → GoodView (I .n) sizes (viewOf I k)
+view-good I sizes k s g l b d = record { shape = g; long = l; units = refl; place = b; dom = d; small = λ j u v. go (ltb j k) j u v }
+  where
+    go : (t : Bool) (j u v : ℕ) → cond t (I .cost j u k v) (I .cost k v j u) ≤ 60000
+    go true j u v = s .small j u k v
+    go false j u v = s .small k v j u

@@ -1,0 +1,144 @@
+-- What making and a step keep, whatever they are lent: a state in range, packets that can be written, at most 16 of them and of records.
+-- The refusals say what was checked first (`Passed`, `Makes`), the rest is Steps. Assumes nothing.
+use Prim.Native.Nat.{ℕ, zero, suc, _-_, _≤_, _<_, pred}
+use mathlib.Core.Path.{_≡_, refl, sym, ap, subst}
+use mathlib.Core.Bool.{Bool, true, false}
+use mathlib.Core.List.{List}
+use native.Mathlib.Omega.{arith}
+use lib.Dec.{ltb, eqb}
+use lib.ListN.{length}
+use borrow.Author.Tests.{ltb-false, le-ltb, eqb-true, eqb-false, eq-eqb, ne-eqb}
+use Rattle.base.specs.Shape.{shapeGood}
+use Rattle.costs.specs.Instance.{View, lentView}
+use Rattle.costs.specs.Lent.{lentRefusal}
+use Rattle.message.specs.declared.Message.{Message}
+use Rattle.message.specs.declared.Parsed.{Parsed}
+use Rattle.message.specs.declared.Read.{Read}
+use Rattle.message.specs.declared.Read.the-variants.{Good, Refused}
+use Rattle.message.specs.Message.{Packet, isUnit}
+use Rattle.message.specs.Encode.{encode}
+use Rattle.message.specs.Decode.{messageIn, forUnit, parseFor, check-length}
+use Rattle.message.specs.RoundTrip.{AllBytes, sized-in, parse-encode}
+use Rattle.message.specs.RoundTrip as trip
+use Rattle.unit.specs.declared.Unit.{Unit as State}
+use Rattle.unit.specs.State.{inRange}
+use Rattle.unit.specs.Step.{Out, refused, respond}
+use Rattle.unit.specs.Calls.{makeRefusal, start, unlessRefused, makeOut, stepRefusal, onRead, stepOut}
+use Rattle.unit.specs.Laws.Views.{unit-range, lent-good}
+use Rattle.unit.specs.Laws.Range.{SizedUnit}
+use Rattle.unit.specs.Laws.Packets.{Sendable}
+use Rattle.unit.specs.Laws.Assign.{Whenever, Kept}
+use Rattle.unit.specs.Laws.Steps.{respond-kept, start-kept}
+
+-- ---- what was checked
+
+-- a making that isn't refused
+pub record Makes (own n : ℕ) (sizes costs : List ℕ) (room : ℕ) : Type 0 where
+  pub shape : shapeGood n sizes ≡ true
+  pub unit : isUnit n own ≡ true
+  pub lent : lentRefusal own n sizes costs ≡ 0
+  pub fits : 1024 ≤ room
+
+-- a step that isn't refused before its message is read
+pub record Passed (u : State) (own n : ℕ) (sizes costs : List ℕ) (room : ℕ) : Type 0 where
+  pub shape : shapeGood n sizes ≡ true
+  pub unit : isUnit n own ≡ true
+  pub lent : lentRefusal own n sizes costs ≡ 0
+  pub state : inRange sizes (lentView own n sizes costs) u ≡ true
+  pub fits : 1024 ≤ room
+
+module _ (own n : ℕ) (sizes costs : List ℕ) (room : ℕ) where
+  pub makes : makeRefusal own n sizes costs room ≡ 0 → Makes own n sizes costs room
+  unfolding makeRefusal
+  makes e = go (shapeGood n sizes) refl (isUnit n own) refl (eqb (lentRefusal own n sizes costs) 0) refl (ltb room 1024) refl
+    where
+      never : (r : ℕ) → 0 < r → r ≡ 0 → Makes own n sizes costs room
+      never r h q = absurd (omega arith)
+
+      go : (a : Bool) → shapeGood n sizes ≡ a → (b : Bool) → isUnit n own ≡ b → (c : Bool) → eqb (lentRefusal own n sizes costs) 0 ≡ c → (d : Bool) → ltb room 1024 ≡ d → Makes own n sizes costs room
+      go false p b q c r d s = never 5 (omega arith) (rw p at e)
+      go true p false q c r d s = never 10 (omega arith) (rw (p, q) at e)
+      go true p true q false r d s = absurd (eqb-false (lentRefusal own n sizes costs) 0 r (rw (p, q, r) at e))
+      go true p true q true r true s = never 13 (omega arith) (rw (p, q, r, s) at e)
+      go true p true q true r false s = record { shape = p; unit = q; lent = eqb-true (lentRefusal own n sizes costs) 0 r; fits = ltb-false room 1024 s }
+
+  module _ (u : State) where
+    pub passed : stepRefusal u own n sizes costs room ≡ 0 → Passed u own n sizes costs room
+    unfolding stepRefusal
+    passed e =
+        go (ltb room 1024) refl (shapeGood n sizes) refl (isUnit n own) refl (eqb (lentRefusal own n sizes costs) 0) refl (inRange sizes (lentView own n sizes costs) u) refl
+      where
+        never : (r : ℕ) → 0 < r → r ≡ 0 → Passed u own n sizes costs room
+        never r h q = absurd (omega arith)
+
+        go : (d : Bool) → ltb room 1024 ≡ d → (a : Bool) → shapeGood n sizes ≡ a → (b : Bool) → isUnit n own ≡ b → (c : Bool) → eqb (lentRefusal own n sizes costs) 0 ≡ c
+            → (f : Bool) → inRange sizes (lentView own n sizes costs) u ≡ f → Passed u own n sizes costs room
+        go true s a p b q c r f t = never 13 (omega arith) (rw s at e)
+        go false s false p b q c r f t = never 5 (omega arith) (rw (s, p) at e)
+        go false s true p false q c r f t = never 10 (omega arith) (rw (s, p, q) at e)
+        go false s true p true q false r f t = absurd (eqb-false (lentRefusal own n sizes costs) 0 r (rw (s, p, q, r) at e))
+        go false s true p true q true r false t = never 5 (omega arith) (rw (s, p, q, r, t) at e)
+        go false s true p true q true r true t = record { shape = p; unit = q; lent = eqb-true (lentRefusal own n sizes costs) 0 r; state = t; fits = ltb-false room 1024 s }
+
+    pub not-refused : Passed u own n sizes costs room → stepRefusal u own n sizes costs room ≡ 0
+    unfolding stepRefusal
+    not-refused p = rw (le-ltb room 1024 (p .fits), p .shape, p .unit, eq-eqb (lentRefusal own n sizes costs) 0 (p .lent), p .state)
+
+-- a refusal, or what follows
+unless-refused : (P : Out → Type 0) (r : ℕ) (o : Out) → ((x : ℕ) → P (refused x)) → (r ≡ 0 → P o) → P (unlessRefused r o)
+unless-refused P zero o f g = g refl
+unless-refused P (suc r) o f g = f (suc r)
+
+module _ (own n : ℕ) (sizes costs : List ℕ) (room : ℕ) (long : n ≤ length sizes) where
+  abbrev view : View
+  view = lentView own n sizes costs
+
+  own-suc : isUnit n own ≡ true → own ≡ suc (pred own)
+  own-suc e = omega (arith, unit-range n own e .0)
+
+  place-is : view .place ≡ pred own
+  unfolding lentView
+  place-is = refl
+
+  -- ---- making
+
+  pub make-kept : Whenever (Kept n sizes (lentView own n sizes costs) 16) (makeOut own n sizes costs room)
+  unfolding makeOut
+  make-kept =
+      unless-refused (Whenever (Kept n sizes view 16)) (makeRefusal own n sizes costs room) (start view (pred own)) (λ x. tt)
+      (λ e. let m = makes own n sizes costs room e in start-kept n sizes view (lent-good own n sizes costs (m .shape) long (m .unit) (m .lent)) (pred own) (sym place-is))
+
+  -- ---- a step
+
+  module _ (u : State) (arrays : SizedUnit u) (bytes : List ℕ) (all : AllBytes bytes) where
+    receiver-is : isUnit n own ≡ true → (m : Message) → forUnit own m ≡ true → m .receiver ≡ suc (view .place)
+    unfolding forUnit
+    receiver-is i m e =
+        let z : eqb own 0 ≡ false = ne-eqb own 0 (λ q. omega (arith, unit-range n own i .0)) in
+        let r : m .receiver ≡ own = eqb-true (m .receiver) own (rw z at e) in
+        omega (arith, unit-range n own i .0, place-is)
+
+    read-kept : Passed u own n sizes costs room → (a : Read) → parseFor n sizes own bytes .answer ≡ a → Whenever (Kept n sizes view 16) (onRead view u a (parseFor n sizes own bytes .message))
+    read-kept p (Refused r) e = tt
+    read-kept p (Good k) e =
+        let a = trip.accepted n sizes own bytes k e in
+        let m : Message = messageIn bytes in
+        subst (λ (x : Message). Whenever (Kept n sizes view 16) (respond view k u x)) (sym (ap (λ (x : Parsed). x .message) (a .whole)))
+        (respond-kept n sizes view (lent-good own n sizes costs (p .shape) long (p .unit) (p .lent)) k u m (p .state) arrays
+        record { address = a .address; form = a .formed; arrays = sized-in bytes (check-length bytes (a .check)) all } (receiver-is (p .unit) m (a .receiver)))
+
+    pub step-kept : Whenever (Kept n sizes (lentView own n sizes costs) 16) (stepOut u own n sizes costs bytes room)
+    unfolding stepOut
+    step-kept =
+        unless-refused (Whenever (Kept n sizes view 16)) (stepRefusal u own n sizes costs room) (onRead view u (parseFor n sizes own bytes .answer) (parseFor n sizes own bytes .message)) (λ x. tt)
+        (λ e. read-kept (passed own n sizes costs room u e) (parseFor n sizes own bytes .answer) refl)
+
+  -- a packet that can be written, written and given to its receiver, is what the unit responds to
+  pub step-of-packet : (u : State) → Passed u own n sizes costs room → (p : Packet) → Sendable n sizes p → p .message .receiver ≡ own
+      → stepOut u own n sizes costs (encode (p .kind) (p .message)) room ≡ respond (lentView own n sizes costs) (p .kind) u (p .message)
+  unfolding stepOut
+  step-of-packet u q p s to =
+      let read : Parsed = record { answer = Good (p .kind); message = p .message } in
+      let e : parseFor n sizes own (encode (p .kind) (p .message)) ≡ read =
+      subst (λ (x : ℕ). parseFor n sizes x (encode (p .kind) (p .message)) ≡ read) to (parse-encode n sizes (p .kind) (p .message) (q .shape) (s .address) (s .form) (s .arrays)) in
+      rw (not-refused own n sizes costs room u q, e)
