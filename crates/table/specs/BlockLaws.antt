@@ -1,18 +1,17 @@
--- Blocks: the answers of blockRefusal in their order, what holds of an accepted block, and that a block written and one read
--- are the same. By taking the tests apart, and list laws at the seams of a block's fields.
--- In order: unused bytes; the answers; an accepted block; a written block; a block written again.
+-- Blocks: what holds of an accepted one, and that writing and reading one undo each other, at the seams of its fields.
+-- In order: unused bytes; the answers of blockRefusal; an accepted block; what readBlockOf gives; a written block; a block filled
+-- part by part; a block written again.
 -- Assumes nothing.
-use Prim.Native.Nat.{ℕ, zero, suc, _+_, _*_, _-_, _/_, _%_, _≤_, _<_, min}
-use native.Mathlib.Nat.{zero-add, add-zero, le-of-suc-le-suc, not-suc-le-zero}
+use Prim.Native.Nat.{ℕ, zero, suc, _+_, _*_, _-_, _/_, _%_, _≤_, _<_}
 use native.Mathlib.Numerals.{add-one}
 use native.Mathlib.Omega.{arith}
 use mathlib.Core.Bool.{Bool, true, false, cond, _&&_}
 use mathlib.Core.List.{List, [], _∷_, _++_, append-assoc, append-nil}
 use mathlib.Core.Path.{_≡_, refl, sym, ap, _∙_}
-use lib.Dec.{eqb, leb, ltb}
+use lib.Dec.{eqb, leb}
 use lib.ListN.{length, getD, take, drop, replicate, length-take, length-drop, length-append, length-replicate, drop-of-length-le, take-append-drop}
-use lib.Seq.{take-suc, drop-cons, length-take-le, getD-take, getD-drop, take-take, take-at, drop-at, drop-drop, getD-append-add}
-use borrow.Author.Tests.{eqb-true, leb-true, eq-eqb, ne-eqb, le-leb, lt-leb}
+use lib.Seq.{drop-cons, length-take-le, getD-take, take-take, take-at, drop-at, drop-drop, getD-append-add}
+use borrow.Author.Tests.{eqb-true, leb-true, eq-eqb, ne-eqb}
 use Rattle.base.specs.Bytes.{u16At, le16}
 use Rattle.base.specs.Shape.{and-left, and-right}
 use Rattle.checksum.specs.Sum.{sumOf, sum-small}

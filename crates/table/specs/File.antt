@@ -2,11 +2,11 @@
 -- Document 01, "Stored table" and "Refusals". The facts about these are in FileLaws and RoundTrip.
 -- Assumes nothing.
 use Prim.Native.Nat.{ℕ, zero, suc, _+_, _*_, _/_, _%_}
-use mathlib.Core.Bool.{Bool, true, false, cond, _&&_, not}
-use mathlib.Core.List.{List, [], _∷_, _++_}
+use mathlib.Core.Bool.{Bool, cond, _&&_, not}
+use mathlib.Core.List.{List, [], _++_}
 use mathlib.Core.Path.{_≡_}
 use lib.Dec.{eqb, leb, ltb}
-use lib.ListN.{length, getD, take, drop}
+use lib.ListN.{length, take, drop}
 use Rattle.table.specs.declared.ReadTable.{ReadTable}
 use Rattle.table.specs.declared.Written.{Written}
 use Rattle.table.specs.Stream.{streamRefusal}

@@ -3,27 +3,26 @@
 -- In order: first refusals; a turn over the blocks; accepted blocks; the joined stream; its view; reading; writing.
 -- Assumes nothing.
 use Prim.Native.Nat.{ℕ, zero, suc, _+_, _*_, _-_, _/_, _%_, _≤_, _<_, min}
-use native.Mathlib.Nat.{zero-add, add-zero, add-assoc, le-of-suc-le-suc, not-suc-le-zero}
+use native.Mathlib.Nat.{zero-add, add-zero, add-assoc}
 use native.Mathlib.Numerals.{add-one}
 use native.Mathlib.Omega.{arith}
 use mathlib.Core.Bool.{Bool, true, false, cond, _&&_, not, false≢true}
-use mathlib.Core.List.{List, [], _∷_, _++_, append-nil, append-assoc}
+use mathlib.Core.List.{List, _++_, append-nil, append-assoc}
 use mathlib.Core.Path.{_≡_, refl, sym, ap, _∙_}
 use lib.Dec.{eqb, leb, ltb, eqb·suc-zero}
-use lib.ListN.{length, getD, take, drop, set, length-take, length-drop, length-append, List·getD-append, drop-of-length-le}
+use lib.ListN.{length, getD, take, drop, set, length-take, length-drop, length-append, List·getD-append}
 use lib.Seq.{take-suc, take-all, drop-cons, drop-drop, length-take-le, getD-take, getD-drop, getD-append-add, set-at}
-use borrow.Author.Tests.{eqb-true, eqb-false, leb-true, leb-false, eq-eqb, ne-eqb, le-leb, lt-leb, lt-ltb, le-ltb, ltb-true, ltb-false}
+use borrow.Author.Tests.{eqb-true, eqb-false, leb-true, leb-false, eq-eqb, ne-eqb, lt-ltb, le-ltb, ltb-true, ltb-false}
 use Rattle.base.specs.Bytes.{u16At}
-use Rattle.base.specs.Shape.{and-left, and-right}
 use Rattle.table.specs.declared.ReadTable.{ReadTable}
 use Rattle.table.specs.declared.Written.{Written}
 use Rattle.table.specs.Stream.{streamRefusal, Accepted}
 use Rattle.table.specs.StreamLaws.{accepted-most}
 use Rattle.table.specs.Block.{countOf, payloadOf, blockRefusal, blockOf}
-use Rattle.table.specs.BlockLaws.{block-size, block-count, block-most, block-payload-length, written-size}
+use Rattle.table.specs.BlockLaws.{block-count, block-most, block-payload-length, written-size}
 use Rattle.table.specs.File.{orElse, sizeGood, blocksRefusal, joined, streamOf, streamAt, readRefusal, readOf, readInto, blocksFor, fileFrom, fileOf, writeRefusal, writeOf, writeInto}
 use Rattle.table.specs.Put.{putAt, put-next}
-use Rattle.table.specs.View.{viewOf, placeOf, Viewed}
+use Rattle.table.specs.View.{Viewed}
 
 -- ---- first refusals
 

@@ -1,10 +1,11 @@
--- The stored table: the stream, a block, a file of blocks, and what reading and writing give.
+-- The stored table, in reading order: the stream, a block, a file, and that reading and writing undo each other.
+-- A reader has to believe Stream, Block and File; RoundTrip states the theorems; the others are facts, and what private functions say.
 pub mod Stream
-pub mod StreamLaws
-pub mod Put
 pub mod Block
-pub mod BlockLaws
 pub mod File
-pub mod View
-pub mod FileLaws
 pub mod RoundTrip
+pub mod StreamLaws
+pub mod BlockLaws
+pub mod FileLaws
+pub mod View
+pub mod Put

@@ -1,12 +1,12 @@
 -- Bytes written into a lent buffer at a place, the rest as it was; and that writes one behind the other join.
 -- Assumes nothing.
-use Prim.Native.Nat.{ℕ, suc, _+_, _-_, _≤_, _<_}
+use Prim.Native.Nat.{ℕ, _+_, _≤_, _<_}
 use native.Mathlib.Numerals.{add-one}
 use native.Mathlib.Omega.{arith}
 use mathlib.Core.List.{List, [], _∷_, _++_, append-assoc}
-use mathlib.Core.Path.{_≡_, refl, sym, ap, _∙_}
+use mathlib.Core.Path.{_≡_, sym}
 use lib.ListN.{length, getD, set, take, drop, length-append, length-take, length-drop}
-use lib.Seq.{take-at, drop-at, drop-drop, drop-append-add, take-length, paste, paste-suc, sets-eq}
+use lib.Seq.{take-at, drop-drop, drop-append-add, take-length, paste, paste-suc, sets-eq}
 
 -- l with m written at place `at`
 abbrev pub putAt : List ℕ → ℕ → List ℕ → List ℕ

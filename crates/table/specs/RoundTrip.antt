@@ -1,24 +1,23 @@
 -- Reading and writing undo each other. Over the definitions that the contracts of `read` and `write` cite:
--- 1. `reads-back`: what is written of an accepted stream is accepted, and its stream is that stream;
--- 2. `writes-back`: of an accepted file, the file of its stream is that file, byte for byte;
--- 3. `one-file`: two accepted files with one stream are equal.
+-- 1. of an accepted stream, the file is accepted (accepted-back), its stream is that stream (stream-back), and reading gives it (reads-back);
+-- 2. of an accepted file, the file of its stream is that file, byte for byte (file-back), and writing gives it (writes-back);
+-- 3. two accepted files with one stream are equal (one-file).
 -- Each by recursion on the number of blocks, a block at a time (BlockLaws). Assumes nothing.
-use Prim.Native.Nat.{ℕ, zero, suc, _+_, _*_, _-_, _/_, _%_, _≤_, _<_, min}
-use native.Mathlib.Nat.{zero-add, add-zero}
+use Prim.Native.Nat.{ℕ, zero, suc, _+_, _*_, _-_, _/_, _%_, _≤_, _<_}
 use native.Mathlib.Omega.{arith}
-use mathlib.Core.Bool.{Bool, true, false, cond, _&&_}
+use mathlib.Core.Bool.{Bool, true, false}
 use mathlib.Core.List.{List, [], _∷_, _++_, append-nil}
 use mathlib.Core.Path.{_≡_, refl, sym, ap, _∙_}
 use lib.Dec.{eqb, leb, ltb, eqb·suc-zero}
 use lib.ListN.{length, getD, take, drop, length-take, length-drop, length-append, take-append-drop, List·getD-eq-default}
 use lib.Seq.{take-at, drop-at, take-all, getD-take, getD-drop}
-use borrow.Author.Tests.{eqb-true, leb-true, eq-eqb, ne-eqb, le-leb, le-ltb, ltb-true, ltb-false}
-use Rattle.base.specs.Shape.{and-left, and-right}
+use borrow.Author.Tests.{leb-true, eq-eqb, ne-eqb, le-leb, ltb-true, ltb-false}
+use Rattle.base.specs.Shape.{and-left}
 use Rattle.table.specs.Stream.{streamRefusal, Accepted}
 use Rattle.table.specs.StreamLaws.{accepted-most, accepted-length}
-use Rattle.table.specs.Block.{countOf, payloadOf, countGood, blockRefusal, blockOf}
+use Rattle.table.specs.Block.{countOf, payloadOf, countGood, blockOf}
 use Rattle.table.specs.BlockLaws.{block-count, block-most, block-payload-length, written-good, written-payload, written-again}
-use Rattle.table.specs.File.{orElse, sizeGood, blocksRefusal, joined, streamOf, readRefusal, readOf, readInto, AcceptedFile, blocksFor, fileFrom, fileOf, writeOf, writeInto}
+use Rattle.table.specs.File.{sizeGood, blocksRefusal, joined, streamOf, readRefusal, readOf, readInto, AcceptedFile, blocksFor, fileFrom, fileOf, writeOf, writeInto}
 use Rattle.table.specs.FileLaws.{first-good, rest-good, full, good-size, block-long, file-length, take-most, read-size, read-blocks, read-stream, by-stream, answer-accepted, left-accepted, write-accepted, written-accepted, kept-file}
 
 -- every byte of f is below 256

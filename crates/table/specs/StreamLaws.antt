@@ -1,14 +1,15 @@
--- What holds of an accepted stream, each by taking streamRefusal's tests apart; and how pairsIn and costsGood grow,
--- which the loops over sizes and costs go by. Assumes nothing.
+-- Streams: what holds of an accepted one (accepted-units, -size, -length, -cost, -most), by taking streamRefusal's tests apart.
+-- In order: how pairsIn and costsGood grow; turns of the loops over sizes and costs; the answers of streamRefusal; an accepted stream.
+-- Assumes nothing.
 use Prim.Native.Nat.{ℕ, zero, suc, _+_, _*_, _-_, _≤_, _<_, min}
-use native.Mathlib.Nat.{mul-le-mul, zero-add, add-zero, add-assoc, le-of-suc-le-suc, not-suc-le-zero, mul-add, add-mul, le-refl, suc-mul, mul-suc}
+use native.Mathlib.Nat.{mul-le-mul, zero-add, add-zero, le-of-suc-le-suc, not-suc-le-zero, mul-add, add-mul, le-refl, suc-mul, mul-suc}
 use native.Mathlib.Numerals.{add-one}
 use native.Mathlib.Omega.{arith}
 use mathlib.Core.Bool.{Bool, true, false, cond, _&&_}
 use mathlib.Core.List.{List, [], _∷_, _++_}
-use mathlib.Core.Path.{_≡_, refl, sym, ap, _∙_}
-use lib.Dec.{eqb, leb, ltb}
-use lib.ListN.{length, getD, take, drop, length-take, length-drop, length-append, drop-of-length-le}
+use mathlib.Core.Path.{_≡_, refl, sym, _∙_}
+use lib.Dec.{eqb, leb}
+use lib.ListN.{length, getD, take, drop, length-take, length-drop, drop-of-length-le}
 use lib.Seq.{take-suc, drop-cons, length-take-le, getD-take, getD-drop}
 use borrow.Author.Tests.{eqb-true, leb-true, eq-eqb, ne-eqb, le-leb, lt-leb}
 use Rattle.base.specs.Bytes.{u16At}
@@ -152,9 +153,9 @@ module _ (s : List ℕ) (n : ℕ) (e : n ≡ unitsOf s) (some : eqb (length s) 0
         unfolding streamRefusal shapeGood
         refused-cost g = let f : costsGood s 0 (pairsIn (sizesOf s)) ≡ false = rw e at g in simp (some, units, sizes, long, f)
 
-        pub accepted-all-of : costsGood s 0 (pairsIn (take n (drop 1 s))) ≡ true → 0 ≡ streamRefusal s
+        pub accepted-by-tests : costsGood s 0 (pairsIn (take n (drop 1 s))) ≡ true → 0 ≡ streamRefusal s
         unfolding streamRefusal shapeGood
-        accepted-all-of g = let f : costsGood s 0 (pairsIn (sizesOf s)) ≡ true = rw e at g in simp (some, units, sizes, long, f)
+        accepted-by-tests g = let f : costsGood s 0 (pairsIn (sizesOf s)) ≡ true = rw e at g in simp (some, units, sizes, long, f)
 
 -- ---- an accepted stream
 

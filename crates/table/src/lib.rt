@@ -1,13 +1,13 @@
 // The stored table: blocks of 512 bytes, and the stream that their payloads join to.
 
 ghost use mathlib.Core.Path.{_≡_};
-ghost use mathlib.Core.Bool.{Bool, true, false};
+ghost use mathlib.Core.Bool.{true, false};
 ghost use mathlib.Core.List.{_++_};
-ghost use Prim.Native.Nat.{ℕ, _+_, _*_, _/_, _≤_, _<_, min};
+ghost use Prim.Native.Nat.{_+_, _*_, _/_, _≤_, _<_, min};
 ghost use lib.ListN.{length, getD, take, drop, replicate};
 ghost use Rattle.base.specs.Bytes.{u16At, le16};
 ghost use Rattle.base.specs.Shape.{allInSixteen};
-ghost use Rattle.table.specs.Stream.{unitsOf, sizesOf, pairsIn, costsGood, streamRefusal};
+ghost use Rattle.table.specs.Stream.{unitsOf, pairsIn, costsGood, streamRefusal};
 ghost use Rattle.table.specs.Block.{countGood, allZero, blockRefusal, readBlockOf, blockOf};
 ghost use Rattle.table.specs.File.{sizeGood, blocksRefusal, streamOf, readRefusal, readOf, readInto, blocksFor, fileFrom, writeRefusal, writeOf, writeInto};
 ghost use Rattle.table.specs.Put.{putAt};
@@ -25,6 +25,42 @@ pub struct Written {
     pub length: usize,
 }
 
+// ---- public calls
+
+// The payload of a block, as the part of it that holds it; the empty part, which no payload is, where it is refused.
+pub fn read_block<'a>(block: &'a [u8], number: u16, last: bool) -> &'a [u8]
+    ensures { λ r. ⌜ now r ≡ readBlockOf number last (now (block .entry)) ⌝ }
+{
+    if block_refusal(block, number, last) != 0 {
+        return &block[0..0];
+    }
+    let end = 4 + base::u16_at(block, 2) as usize;
+    &block[4..end]
+}
+
+// The refusal of a block that is read alone, or 0.
+pub fn block_refusal(block: &[u8], number: u16, last: bool) -> u8
+    ensures { λ r. ⌜ r ≡ blockRefusal number last (now (block .entry)) ⌝ }
+{
+    if block.len() != 512 {
+        return 1;
+    }
+    if base::u16_at(block, 510) != checksum::sum(&block[0..510]) {
+        return 4;
+    }
+    if base::u16_at(block, 0) != number as u32 {
+        return 2;
+    }
+    let count = base::u16_at(block, 2) as usize;
+    if !count_good(last, count) {
+        return 3;
+    }
+    if !unused_zero(block, count) {
+        return 3;
+    }
+    0
+}
+
 // The stream of a stored table into the lent buffer: validated whole, then written, so a refusal leaves the buffer as it was.
 pub fn read(file: &[u8], stream: &mut [u8]) -> ReadTable
     ensures { λ r. ⌜ (r ≡ readOf (now (file .entry)) (length (now (stream .entry)))) × (now (stream .exit) ≡ readInto (now (file .entry)) (now (stream .entry))) ⌝ }
@@ -40,6 +76,61 @@ pub fn read(file: &[u8], stream: &mut [u8]) -> ReadTable
         length: count,
     }
 }
+
+// The file of a stream into the lent buffer; a refusal, and the buffer's bytes past the file, leave it as it was.
+pub fn write(stream: &[u8], file: &mut [u8]) -> Written
+    ensures { λ r. ⌜ (r ≡ writeOf (now (stream .entry)) (length (now (file .entry)))) × (now (file .exit) ≡ writeInto (now (stream .entry)) (now (file .entry))) ⌝ }
+{
+    let refusal = write_refusal(stream, file.len());
+    if refusal != 0 {
+        return Written { refusal, length: 0 };
+    }
+    let blocks = (stream.len() + 505) / 506;
+    write_blocks(stream, blocks, file);
+    Written {
+        refusal: 0,
+        length: 512 * blocks,
+    }
+}
+
+// The refusal 5, 6 or 7 of a stream, or 0: one pass, nothing copied.
+pub fn stream_refusal(stream: &[u8]) -> u8
+    ensures { λ r. ⌜ r ≡ streamRefusal (now (stream .entry)) ⌝ }
+{
+    view_refusal(stream, false, stream.len())
+}
+
+// ---- blocks
+
+// Whether a payload count fits the block's place: 506, or 1 to 506 in the last.
+fn count_good(last: bool, count: usize) -> bool
+    ensures { λ r. ⌜ r ≡ countGood last count ⌝ }
+{
+    if last {
+        if count < 1 {
+            return false;
+        }
+        return count <= 506;
+    }
+    count == 506
+}
+
+// Whether the payload bytes after the count are zero.
+fn unused_zero(block: &[u8], count: usize) -> bool
+    requires { ⌜ (length (now block) ≡ 512) × (count ≤ 506) ⌝ }
+    ensures { λ r. ⌜ r ≡ allZero (drop (4 + count) (take 510 (now (block .entry)))) ⌝ }
+{
+    let mut k = 4 + count;
+    while k < 510 {
+        if block[k] != 0 {
+            return false;
+        }
+        k += 1;
+    }
+    true
+}
+
+// ---- files, read
 
 // The refusal of reading a file into a buffer of `room` bytes, or 0.
 fn read_refusal(file: &[u8], room: usize) -> u8
@@ -111,21 +202,7 @@ fn copy_stream(file: &[u8], count: usize, out: &mut [u8])
     }
 }
 
-// The file of a stream into the lent buffer; a refusal, and the buffer's bytes past the file, leave it as it was.
-pub fn write(stream: &[u8], file: &mut [u8]) -> Written
-    ensures { λ r. ⌜ (r ≡ writeOf (now (stream .entry)) (length (now (file .entry)))) × (now (file .exit) ≡ writeInto (now (stream .entry)) (now (file .entry))) ⌝ }
-{
-    let refusal = write_refusal(stream, file.len());
-    if refusal != 0 {
-        return Written { refusal, length: 0 };
-    }
-    let blocks = (stream.len() + 505) / 506;
-    write_blocks(stream, blocks, file);
-    Written {
-        refusal: 0,
-        length: 512 * blocks,
-    }
-}
+// ---- files, written
 
 // The refusal of writing a stream into a buffer of `room` bytes, or 0.
 fn write_refusal(stream: &[u8], room: usize) -> u8
@@ -214,74 +291,7 @@ fn smaller(a: usize, b: usize) -> usize
     b
 }
 
-// The payload of a block, as the part of it that holds it; the empty part, which no payload is, where it is refused.
-pub fn read_block<'a>(block: &'a [u8], number: u16, last: bool) -> &'a [u8]
-    ensures { λ r. ⌜ now r ≡ readBlockOf number last (now (block .entry)) ⌝ }
-{
-    if block_refusal(block, number, last) != 0 {
-        return &block[0..0];
-    }
-    let end = 4 + base::u16_at(block, 2) as usize;
-    &block[4..end]
-}
-
-// The refusal of a block that is read alone, or 0.
-pub fn block_refusal(block: &[u8], number: u16, last: bool) -> u8
-    ensures { λ r. ⌜ r ≡ blockRefusal number last (now (block .entry)) ⌝ }
-{
-    if block.len() != 512 {
-        return 1;
-    }
-    if base::u16_at(block, 510) != checksum::sum(&block[0..510]) {
-        return 4;
-    }
-    if base::u16_at(block, 0) != number as u32 {
-        return 2;
-    }
-    let count = base::u16_at(block, 2) as usize;
-    if !count_good(last, count) {
-        return 3;
-    }
-    if !unused_zero(block, count) {
-        return 3;
-    }
-    0
-}
-
-// Whether a payload count fits the block's place: 506, or 1 to 506 in the last.
-fn count_good(last: bool, count: usize) -> bool
-    ensures { λ r. ⌜ r ≡ countGood last count ⌝ }
-{
-    if last {
-        if count < 1 {
-            return false;
-        }
-        return count <= 506;
-    }
-    count == 506
-}
-
-// Whether the payload bytes after the count are zero.
-fn unused_zero(block: &[u8], count: usize) -> bool
-    requires { ⌜ (length (now block) ≡ 512) × (count ≤ 506) ⌝ }
-    ensures { λ r. ⌜ r ≡ allZero (drop (4 + count) (take 510 (now (block .entry)))) ⌝ }
-{
-    let mut k = 4 + count;
-    while k < 510 {
-        if block[k] != 0 {
-            return false;
-        }
-        k += 1;
-    }
-    true
-}
-
-// The refusal 5, 6 or 7 of a stream, or 0: one pass, nothing copied.
-pub fn stream_refusal(stream: &[u8]) -> u8
-    ensures { λ r. ⌜ r ≡ streamRefusal (now (stream .entry)) ⌝ }
-{
-    view_refusal(stream, false, stream.len())
-}
+// ---- the checks 5, 6 and 7 of a stream, plain or in blocks
 
 // The refusal 5, 6 or 7 of the stream of `count` bytes that lies in `bytes`, plain or in blocks.
 fn view_refusal(bytes: &[u8], blocked: bool, count: usize) -> u8

@@ -1,7 +1,6 @@
 -- `block_refusal` meets its contract: each way out is one answer of `blockRefusal`, by the law that says so.
 -- Assumes nothing.
-use mathlib.Core.Path.{_≡_, sym, _∙_}
-use native.Mathlib.Omega.{arith}
+use mathlib.Core.Path.{sym, _∙_}
 use borrow.Author.Tests.{not-true, not-false}
 use Rattle.table.specs.BlockLaws.{count-most, refused-size, refused-check, refused-number, refused-count, refused-unused, accepted-of}
 use borrow.Author.Needs.{needs}

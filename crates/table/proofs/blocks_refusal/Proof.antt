@@ -5,7 +5,7 @@ use mathlib.Core.Path.{_≡_, refl, sym, _∙_}
 use native.Mathlib.Nat.{sub-zero}
 use native.Mathlib.Omega.{arith}
 use borrow.Author.Needs.{needs}
-use lib.ListN.{length, take, drop}
+use lib.ListN.{length, drop}
 use Rattle.table.specs.File.{blocksRefusal}
 use Rattle.table.specs.FileLaws.{good-size, block-turn, blocks-bad, blocks-next, blocks-end}
 use Rattle.table.proofs.blocks_refusal.Statement.{statement}

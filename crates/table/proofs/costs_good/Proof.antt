@@ -1,11 +1,10 @@
 -- `costs_good` meets its contract. The loop's invariant: the whole answer is that of the costs from number k on.
 -- Assumes nothing.
-use Prim.Native.Nat.{_≤_, _-_, _+_}
-use mathlib.Core.Path.{_≡_, refl, sym, _∙_, ap}
+use Prim.Native.Nat.{_≤_, _-_}
+use mathlib.Core.Path.{_≡_}
 use native.Mathlib.Nat.{sub-zero}
 use native.Mathlib.Omega.{arith}
 use borrow.Author.Needs.{needs}
-use lib.ListN.{length, take, drop, getD}
 use Rattle.table.specs.Stream.{costsGood}
 use Rattle.table.specs.View.{viewOf}
 use Rattle.table.specs.StreamLaws.{costs-bad, costs-next, costs-end}

@@ -1,7 +1,5 @@
 -- `fill_block` meets its contract: the parts are written one behind the other, by the law that they make the block.
 -- Assumes nothing.
-use mathlib.Core.Path.{_≡_, sym, _∙_}
-use native.Mathlib.Omega.{arith}
 use Rattle.table.specs.BlockLaws.{filled, sum-fits}
 use borrow.Author.Needs.{needs}
 use Rattle.table.proofs.fill_block.Statement.{statement}

@@ -1,11 +1,11 @@
 -- `pairs_in` meets its contract. The loop's invariant: the sum and the pairs of the first i sizes; bytes are small, so nothing wraps.
 -- Assumes nothing.
 use Prim.Native.Nat.{_<_, _≤_, _-_, _+_, _*_}
-use mathlib.Core.Path.{_≡_, refl, sym, _∙_, ap}
+use mathlib.Core.Path.{_≡_, _∙_}
 use native.Mathlib.Nat.{mul-le-mul, le-refl}
 use native.Mathlib.Omega.{arith}
 use borrow.Author.Needs.{needs}
-use lib.ListN.{length, take, drop, getD}
+use lib.ListN.{length, take, drop}
 use lib.Seq.{take-take}
 use Rattle.table.specs.Stream.{sumList, pairsIn}
 use Rattle.table.specs.View.{viewOf}

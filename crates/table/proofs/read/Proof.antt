@@ -1,6 +1,6 @@
 -- `read` meets its contract: refused, nothing is written; accepted, the stream stands in front of what was there.
 -- Assumes nothing.
-use mathlib.Core.Path.{_≡_, sym, _∙_}
+use mathlib.Core.Path.{sym, _∙_}
 use native.Mathlib.Omega.{arith}
 use lib.ListN.{length}
 use Rattle.table.specs.FileLaws.{stream-viewed, read-room, read-size, read-blocks, read-most, answer-refused, left-refused, answer-accepted, left-accepted}

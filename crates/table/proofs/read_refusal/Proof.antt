@@ -1,10 +1,7 @@
 -- `read_refusal` meets its contract: each way out is one answer of `readRefusal`, by the law that says so.
 -- Assumes nothing.
-use mathlib.Core.Path.{_≡_, sym, _∙_}
-use mathlib.Core.Bool.{true}
+use mathlib.Core.Path.{sym, _∙_}
 use borrow.Author.Tests.{not-true, not-false}
-use lib.ListN.{length}
-use Rattle.table.specs.File.{sizeGood}
 use Rattle.table.specs.FileLaws.{stream-viewed, refused-room, refused-bytes, refused-blocks, by-stream}
 use borrow.Author.Needs.{needs}
 use Rattle.table.proofs.read_refusal.Statement.{statement}

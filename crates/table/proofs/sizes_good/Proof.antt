@@ -1,12 +1,11 @@
 -- `sizes_good` meets its contract. The loop's invariant: the whole answer is that of the sizes from place i on.
 -- Assumes nothing.
 use Prim.Native.Nat.{_≤_, _-_, _+_}
-use mathlib.Core.Path.{_≡_, refl, sym, _∙_, ap}
+use mathlib.Core.Path.{_≡_}
 use native.Mathlib.Omega.{arith}
 use borrow.Author.Needs.{needs}
-use borrow.Author.Tests.{lt-leb, le-leb}
-use lib.ListN.{length, take, drop, getD}
-use Rattle.base.specs.Shape.{inSixteen, allInSixteen, range-in}
+use lib.ListN.{take, drop, getD}
+use Rattle.base.specs.Shape.{allInSixteen, range-in}
 use Rattle.table.specs.View.{viewOf}
 use Rattle.table.specs.StreamLaws.{below-range, above-range, sizes-bad, sizes-next, sizes-end}
 use Rattle.table.proofs.sizes_good.Statement.{statement}

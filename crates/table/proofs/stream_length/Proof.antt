@@ -1,6 +1,5 @@
 -- `stream_length` meets its contract: 506 bytes for each block before the last, and the last's count.
 -- Assumes nothing.
-use mathlib.Core.Path.{_≡_, sym, _∙_}
 use native.Mathlib.Omega.{arith}
 use lib.ListN.{length}
 use Rattle.table.specs.FileLaws.{good-size, stream-length}

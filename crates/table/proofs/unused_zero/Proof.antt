@@ -4,7 +4,7 @@ use Prim.Native.Nat.{_≤_, _-_, _+_}
 use mathlib.Core.Path.{_≡_, refl}
 use native.Mathlib.Omega.{arith}
 use borrow.Author.Needs.{needs}
-use lib.ListN.{length, take, drop}
+use lib.ListN.{take, drop}
 use Rattle.table.specs.Block.{allZero}
 use Rattle.table.specs.BlockLaws.{zero-bad, zero-next, zero-end}
 use Rattle.table.proofs.unused_zero.Statement.{statement}

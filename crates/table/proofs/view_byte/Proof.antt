@@ -1,7 +1,6 @@
 -- `view_byte` meets its contract: the byte stands where the view says, in each of the two views.
 -- Assumes nothing.
-use mathlib.Core.Path.{_≡_, sym, _∙_}
-use mathlib.Core.Bool.{Bool, true, false}
+use mathlib.Core.Path.{sym, _∙_}
 use native.Mathlib.Omega.{arith}
 use borrow.Author.Needs.{needs}
 use Rattle.table.proofs.view_byte.Statement.{statement}

@@ -1,11 +1,11 @@
 -- `view_refusal` meets its contract: each way out is one answer of `streamRefusal`, by the law that says so.
 -- Assumes nothing.
-use mathlib.Core.Path.{_≡_, sym, _∙_}
+use mathlib.Core.Path.{sym, _∙_}
 use native.Mathlib.Omega.{arith}
 use borrow.Author.Tests.{not-true, not-false}
 use Rattle.base.specs.Shape.{range-in}
 use Rattle.table.specs.View.{viewOf}
-use Rattle.table.specs.StreamLaws.{nonempty, below-range, above-range, refused-empty, refused-units, refused-sizes, refused-length, refused-cost, accepted-all-of}
+use Rattle.table.specs.StreamLaws.{nonempty, below-range, above-range, refused-empty, refused-units, refused-sizes, refused-length, refused-cost, accepted-by-tests}
 use borrow.Author.Needs.{needs}
 use Rattle.table.proofs.view_refusal.Statement.{statement}
 use Rattle.table.proofs.view_refusal.Tie as tie
@@ -107,7 +107,7 @@ returns-8 c =
     let n = v .view-byte .result in
     let some = nonempty s (st .args .count) (st .pre .counted) (v .before .if1 .left) in
     let p = c .before .before .before .pairs-in .ensures .0 in
-    accepted-all-of s n (v .view-byte .ensures .0) some (range-in n (omega arith) (omega arith)) (sym (c .before .before .before .before .before .before .sizes-good .ensures) ∙ not-false _ (c .before .before .before .before .before .if4 .left))
+    accepted-by-tests s n (v .view-byte .ensures .0) some (range-in n (omega arith) (omega arith)) (sym (c .before .before .before .before .before .before .sizes-good .ensures) ∙ not-false _ (c .before .before .before .before .before .if4 .left))
     (st .pre .counted ∙ c .before .before .if6 .left ∙ rw (← p))
     (rw (← p) (sym (c .before .costs-good .ensures) ∙ not-false _ (c .if7 .left)))
 

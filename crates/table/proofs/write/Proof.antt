@@ -1,6 +1,6 @@
 -- `write` meets its contract: refused, nothing is written; accepted, the file stands in front of what was there.
 -- Assumes nothing.
-use mathlib.Core.Path.{_≡_, refl, sym, _∙_}
+use mathlib.Core.Path.{refl, sym, _∙_}
 use lib.ListN.{length}
 use Rattle.table.specs.FileLaws.{write-most, write-room, written-refused, kept-refused, written-accepted, kept-accepted}
 use borrow.Author.Needs.{needs}

@@ -1,11 +1,11 @@
 -- `write_blocks` meets its contract. The loop's invariant: the first k blocks, then the buffer as it was.
 -- Assumes nothing.
-use Prim.Native.Nat.{ℕ, _≤_, _<_, _-_, _+_, _*_}
-use mathlib.Core.Path.{_≡_, refl, sym, _∙_, ap}
+use Prim.Native.Nat.{ℕ, _≤_, _-_, _+_, _*_}
+use mathlib.Core.Path.{_≡_, refl, _∙_, ap}
 use mathlib.Core.List.{List, _++_}
 use native.Mathlib.Omega.{arith}
 use borrow.Author.Needs.{needs}
-use lib.ListN.{length, take, drop, length-set}
+use lib.ListN.{length, take, drop}
 use Rattle.table.specs.File.{fileFrom}
 use Rattle.table.specs.FileLaws.{file-more, carried, block-long}
 use Rattle.table.specs.Put.{put-part}
