@@ -2,6 +2,7 @@
 pub mod State
 pub mod Step
 pub mod Send
+pub mod Laying
 pub mod Calls
 pub mod Ready
 pub mod Laws

@@ -3,6 +3,7 @@
 use message::Message;
 
 mod decide; // what each message makes a unit do
+mod send; // what is sent, laid into the lent buffer
 mod state; // the order of stamps, and the parts of a state set
 
 // 01: "A unit's state keeps its threshold stamp, its best bound and lotting, its estimates, its paper, its own counter and

@@ -1,0 +1,88 @@
+-- `back` meets its contract: the solutions to lower and to higher units are laid behind what is handed back.
+-- Assumes nothing.
+use Prim.Native.Nat.{_+_, _-_, _≤_}
+use mathlib.Core.Path.{_≡_, _∙_}
+use mathlib.Core.Bool.{true}
+use native.Mathlib.Omega.{arith}
+use lib.ListN.{length}
+use borrow.Author.Tests.{not-true, not-false}
+use Rattle.message.specs.Message.{Sized}
+use Rattle.unit.specs.Laying.{handed-few, back-laid, back-count, back-quiet}
+use borrow.Author.Needs.{needs}
+use Rattle.unit.proofs.send.back.Statement.{statement}
+use Rattle.unit.proofs.send.back.Tie as tie
+
+-- what the types say of the message
+sized : (c : tie.Start) → Sized (c .args .m)
+sized c = record { stamp = search needs; values = search needs; best = search needs; cost = search needs; bound = search needs }
+
+-- there is room for the solutions to lower units, and unit n has no higher ones
+room : (c : tie.Else1) → let a = c .before .before .before .before .before .before .args in (a .own ≡ a .n) × (c .before .before .before .hand-back .result + (a .own - 1) ≤ a .n)
+room c =
+    let s = c .before .before .before .before .before .before in
+    let e : s .args .own ≡ s .args .n = s .pre .1 (not-false _ (c .if1 .left)) in
+    (e, rw (c .before .before .before .hand-back .ensures .0) (handed-few (s .args .n) (s .args .m) (s .args .own - 1) (omega arith)))
+
+hand-back-requires : tie.Need-hand-back-requires
+hand-back-requires c κs = search needs
+
+same-length : tie.Need-same-length
+same-length c = search needs
+
+returns : tie.Need-returns
+returns c = let a = c .before .before .before .before .before .before .args in back-quiet (a .n) (a .own - 1) (a .m) (a .improved) _ (a .out .now) _ (not-true _ (c .if1 .taken)) (c .before .before .before .hand-back .ensures)
+
+bound-only-requires : tie.Need-bound-only-requires
+bound-only-requires c κs = search needs
+
+sub-spread : tie.Need-sub-spread
+sub-spread c = search needs
+
+spread-requires : tie.Need-spread-requires
+spread-requires c κs =
+    let a = c .before .before .before .before .before .before .before .before .args in
+    let few = room (c .before .before) in
+    let same : length (c .before .before .before .before .before .hand-back .last .1 .1 .1 .0) ≡ length (a .out .now) = search needs in
+    (omega arith, omega (arith, few .1), omega (arith, few .1, same))
+
+sub-spread-2 : tie.Need-sub-spread-2
+sub-spread-2 c = search needs
+
+spread-requires-2 : tie.Need-spread-requires-2
+spread-requires-2 c κs =
+    let a = c .before .before .before .before .before .before .before .before .before .before .before .before .args in
+    let few = room (c .before .before .before .before .before .before) in
+    let lower = c .before .before .before .spread .ensures .0 in
+    let same : length (c .before .before .before .spread .last .1 .1 .1 .1 .0) ≡ length (a .out .now) = search needs in
+    (omega (arith, few .0), omega (arith, few, lower), omega (arith, few, lower, same))
+
+same-length-2 : tie.Need-same-length-2
+same-length-2 c = search needs
+
+returns-2 : tie.Need-returns-2
+returns-2 c =
+    let a = c .before .before .before .before .before .before .before .before .before .before .before .before .before .before .before .args in
+    let z = sized (c .before .before .before .before .before .before .before .before .before .before .before .before .before .before .before) in
+    let few = room (c .before .before .before .before .before .before .before .before .before) in
+    let one = c .before .before .before .before .before .before .before .before .before .before .before .before .hand-back .ensures in
+    let two = c .before .before .before .before .before .before .spread .ensures in
+    let all = c .before .before .spread2 .ensures in
+    let e : a .improved ≡ true = not-false _ (c .before .before .before .before .before .before .before .before .before .if1 .left) in (
+      all .0 ∙ back-count (a .n) (a .own) (a .m) (a .out .now) (omega arith) z (a .improved) _ _ e (one .0) (two .0),
+      all .1 ∙ back-laid (a .n) (a .own) (a .m) (a .out .now) (omega arith) z (a .improved) _ _ e (one .0) (two .0) _ _ _ (c .before .before .before .before .before .before .before .before .bound-only .ensures) (one .1) (two .1) (omega (arith, few, two .0)),
+    )
+
+pub back-spec : {M : Type 1} → statement M
+back-spec =
+    tie.close
+    (tie.spec
+    hand-back-requires
+    same-length
+    returns
+    bound-only-requires
+    sub-spread
+    spread-requires
+    sub-spread-2
+    spread-requires-2
+    same-length-2
+    returns-2)

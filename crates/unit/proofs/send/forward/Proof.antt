@@ -1,0 +1,44 @@
+-- `forward` meets its contract: the requests are laid behind the cpa.
+-- Assumes nothing.
+use mathlib.Core.Path.{_≡_, _∙_}
+use native.Mathlib.Omega.{arith}
+use Rattle.message.specs.Message.{Sized}
+use Rattle.unit.specs.Laying.{forward-laid, forward-count}
+use borrow.Author.Needs.{needs}
+use Rattle.unit.proofs.send.forward.Statement.{statement}
+use Rattle.unit.proofs.send.forward.Tie as tie
+
+-- what the types say of the message
+sized : (c : tie.Start) → Sized (c .args .m)
+sized c = record { stamp = search needs; values = search needs; best = search needs; cost = search needs; bound = search needs }
+
+spread-requires : tie.Need-spread-requires
+spread-requires c κs = search needs
+
+no-bound-requires : tie.Need-no-bound-requires
+no-bound-requires c κs = search needs
+
+sub-spread : tie.Need-sub-spread
+sub-spread c = search needs
+
+spread-requires-2 : tie.Need-spread-requires-2
+spread-requires-2 c κs = search needs
+
+same-length : tie.Need-same-length
+same-length c = search needs
+
+returns : tie.Need-returns
+returns c =
+    let a = c .before .before .before .before .before .before .before .before .before .before .args in
+    let z = sized (c .before .before .before .before .before .before .before .before .before .before) in
+    let one = c .before .before .before .before .before .before .before .spread .ensures in
+    let all = c .before .before .spread2 .ensures in
+    λ b. (
+      all .0 ∙ forward-count (a .n) (a .own) (a .m) (a .out .now) (omega arith) z b _ (one .0),
+      all .1 ∙ forward-laid (a .n) (a .own) (a .m) (a .out .now) (omega arith) z b _ _ _ (one .1) (c .before .before .before .before .no-bound .ensures) (one .0) (omega arith),
+    )
+
+pub forward-spec : {M : Type 1} → statement M
+forward-spec =
+    tie.close
+    (tie.spec spread-requires no-bound-requires sub-spread spread-requires-2 same-length returns)

@@ -1,0 +1,60 @@
+-- `hand_back` meets its contract: unit 1 spreads stops, another sends the cpa to the unit before.
+-- Assumes nothing.
+use mathlib.Core.Path.{_≡_, _∙_}
+use native.Mathlib.Omega.{arith}
+use Rattle.message.specs.Message.{Sized}
+use Rattle.unit.specs.Laying.{stops-laid, stops-count, back-one-laid, back-one-count}
+use borrow.Author.Needs.{needs}
+use Rattle.unit.proofs.send.hand_back.Statement.{statement}
+use Rattle.unit.proofs.send.hand_back.Tie as tie
+
+bound-only-requires : tie.Need-bound-only-requires
+bound-only-requires c κs = search needs
+
+sub-spread : tie.Need-sub-spread
+sub-spread c = search needs
+
+spread-requires : tie.Need-spread-requires
+spread-requires c κs = search needs
+
+same-length : tie.Need-same-length
+same-length c = search needs
+
+returns : tie.Need-returns
+returns c =
+    let a = c .before .before .before .before .before .before .before .args in
+    let z : Sized (a .m) = record { stamp = search needs; values = search needs; best = search needs; cost = search needs; bound = search needs } in
+    let e = c .before .before .before .before .before .if1 .taken in
+    let all = c .before .before .spread .ensures in
+    (all .0 ∙ stops-count (a .n) (a .own) (a .m) (a .out .now) (omega arith) z e, all .1 ∙ stops-laid (a .n) (a .own) (a .m) (a .out .now) (omega arith) z e _ (c .before .before .before .before .bound-only .ensures))
+
+sub-spread-2 : tie.Need-sub-spread-2
+sub-spread-2 c = search needs
+
+spread-requires-2 : tie.Need-spread-requires-2
+spread-requires-2 c κs = search needs
+
+same-length-2 : tie.Need-same-length-2
+same-length-2 c = search needs
+
+returns-2 : tie.Need-returns-2
+returns-2 c =
+    let a = c .before .before .before .before .before .before .args in
+    let z : Sized (a .m) = record { stamp = search needs; values = search needs; best = search needs; cost = search needs; bound = search needs } in
+    let e = c .before .before .before .before .if1 .left in
+    let all = c .before .before .spread2 .ensures in
+    (all .0 ∙ back-one-count (a .n) (a .own) (a .m) (a .out .now) (omega arith) z e, all .1 ∙ back-one-laid (a .n) (a .own) (a .m) (a .out .now) (omega arith) z e)
+
+pub hand-back-spec : {M : Type 1} → statement M
+hand-back-spec =
+    tie.close
+    (tie.spec
+    bound-only-requires
+    sub-spread
+    spread-requires
+    same-length
+    returns
+    sub-spread-2
+    spread-requires-2
+    same-length-2
+    returns-2)

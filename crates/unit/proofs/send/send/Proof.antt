@@ -1,0 +1,75 @@
+-- `send` meets its contract: each plan's messages are what its function lays.
+-- Assumes nothing.
+use Prim.Native.Nat.{_-_}
+use mathlib.Core.Path.{refl, sym, _∙_}
+use native.Mathlib.Omega.{arith}
+use Rattle.message.specs.Message.{Sized}
+use Rattle.unit.specs.declared.Plan.the-variants.{Nothing, Forward, Back, Reply}
+use Rattle.unit.specs.Laying.{laid-none, reply-laid, sent-by}
+use borrow.Author.Needs.{needs}
+use Rattle.unit.proofs.send.send.Statement.{statement}
+use Rattle.unit.proofs.send.send.Tie as tie
+
+enum-told : tie.Need-enum-told
+enum-told c = search needs
+
+enum-told-2 : tie.Need-enum-told-2
+enum-told-2 c = search needs
+
+forward-requires : tie.Need-forward-requires
+forward-requires c κs = search needs
+
+enum-told-3 : tie.Need-enum-told-3
+enum-told-3 c = search needs
+
+back-requires : tie.Need-back-requires
+back-requires c κs = search needs
+
+enum-told-4 : tie.Need-enum-told-4
+enum-told-4 c = search needs
+
+put-requires : tie.Need-put-requires
+put-requires c κs = search needs
+
+returns : tie.Need-returns
+returns c = let a = c .before .before .before .before .args in sent-by (a .n) (a .own - 1) (a .s) Nothing _ (a .out .now) _ (c .enum-told .given .1) (refl, sym (laid-none (a .out .now)))
+
+same-length : tie.Need-same-length
+same-length c = search needs
+
+returns-2 : tie.Need-returns-2
+returns-2 c = let a = c .before .before .before .before .before .before .before .before .args in sent-by (a .n) (a .own - 1) (a .s) Forward _ (a .out .now) _ (c .before .before .before .before .enum-told2 .given .1) (c .before .before .forward .ensures (a .s .improved))
+
+same-length-2 : tie.Need-same-length-2
+same-length-2 c = search needs
+
+returns-3 : tie.Need-returns-3
+returns-3 c = let a = c .before .before .before .before .before .before .before .before .args in sent-by (a .n) (a .own - 1) (a .s) Back _ (a .out .now) _ (c .before .before .before .before .enum-told3 .given .1) (c .before .before .back .ensures)
+
+same-length-3 : tie.Need-same-length-3
+same-length-3 c = search needs
+
+returns-4 : tie.Need-returns-4
+returns-4 c =
+    let a = c .before .before .before .before .before .before .before .before .args in
+    let z : Sized (a .s .message) = record { stamp = search needs; values = search needs; best = search needs; cost = search needs; bound = search needs } in
+    sent-by (a .n) (a .own - 1) (a .s) Reply _ (a .out .now) _ (c .before .before .before .before .enum-told4 .given .1) (refl, c .before .before .put .ensures ∙ reply-laid (a .s .message) (a .out .now) z (omega arith))
+
+pub send-spec : {M : Type 1} → statement M
+send-spec =
+    tie.close
+    (tie.spec
+    enum-told
+    enum-told-2
+    forward-requires
+    enum-told-3
+    back-requires
+    enum-told-4
+    put-requires
+    returns
+    same-length
+    returns-2
+    same-length-2
+    returns-3
+    same-length-3
+    returns-4)

@@ -1,0 +1,113 @@
+// What a unit sends, laid into the lent buffer: one message after the other, 64 bytes each.
+
+use crate::Plan;
+use crate::Sending;
+use message::Kind;
+use message::Message;
+ghost use mathlib.Core.Path.{_≡_};
+ghost use mathlib.Core.Bool.{Bool, true};
+ghost use Prim.Native.Nat.{_+_, _*_, _-_, _≤_};
+ghost use lib.ListN.{length};
+ghost use Rattle.message.specs.Encode.{putAt};
+ghost use Rattle.unit.specs.declared.Plan.the-variants.{Forward, Back};
+ghost use Rattle.unit.specs.Send.{each, handBack, byPlan, packets, encodeAll, laid};
+ghost use Rattle.unit.specs.Laying.{withReceiver, addressed, noBound, boundOnly, Room};
+
+// The messages of a plan are laid at the front; how many.
+pub(crate) fn send(n: u8, own: u8, s: Sending, out: &mut [u8]) -> u8
+    requires { ⌜ Room own n (now out) × (s .improved ≡ true → own ≡ n) ⌝ }
+    ensures { λ r. ⌜ (r ≡ length (packets n (own - 1) s)) × (now (out .exit) ≡ laid (packets n (own - 1) s) (now (out .entry))) ⌝ }
+{
+    let m = s.message;
+    let plan = s.plan;
+    match plan {
+        Plan::Nothing => 0,
+        Plan::Forward => forward(n, own, m, out),
+        Plan::Back => back(n, own, s.improved, m, out),
+        Plan::Reply => {
+            message::put(Kind::Estimate, m, out, 0);
+            1
+        }
+    }
+}
+
+// The cpa to the next unit, a request to every later one.
+fn forward(n: u8, own: u8, m: Message, out: &mut [u8]) -> u8
+    requires { ⌜ Room own n (now out) ⌝ }
+    ensures { λ r. ⌜ ((b : Bool) → (r ≡ length (byPlan n (own - 1) Forward b m)) × (now (out .exit) ≡ laid (byPlan n (own - 1) Forward b m) (now (out .entry)))) ⌝ }
+{
+    let sent = spread(Kind::Cpa, m, own, 1, out, 0);
+    let bare = no_bound(m);
+    spread(Kind::Request, bare, own, n - own, out, sent)
+}
+
+// The cpa or the stops, and solutions behind it if unit n improved.
+fn back(n: u8, own: u8, improved: bool, m: Message, out: &mut [u8]) -> u8
+    requires { ⌜ Room own n (now out) × (improved ≡ true → own ≡ n) ⌝ }
+    ensures { λ r. ⌜ (r ≡ length (byPlan n (own - 1) Back improved m)) × (now (out .exit) ≡ laid (byPlan n (own - 1) Back improved m) (now (out .entry))) ⌝ }
+{
+    let sent = hand_back(n, own, m, out);
+    if !improved {
+        return sent;
+    }
+    let solution = bound_only(m);
+    let lower = spread(Kind::Solution, solution, 0, own - 1, out, sent);
+    spread(Kind::Solution, solution, own, n - own, out, lower)
+}
+
+// The cpa to the unit before; from unit 1 a stop to all others.
+fn hand_back(n: u8, own: u8, m: Message, out: &mut [u8]) -> u8
+    requires { ⌜ Room own n (now out) ⌝ }
+    ensures { λ r. ⌜ (r ≡ length (handBack n (own - 1) m)) × (now (out .exit) ≡ laid (handBack n (own - 1) m) (now (out .entry))) ⌝ }
+{
+    if own == 1 {
+        let stop = bound_only(m);
+        return spread(Kind::Stop, stop, 1, n - 1, out, 0);
+    }
+    spread(Kind::Cpa, m, own - 2, 1, out, 0)
+}
+
+// One message to `count` units, those after unit `lo`, laid behind the first `sent` messages; how many there are then.
+fn spread(kind: Kind, m: Message, lo: u8, count: u8, out: &mut [u8], sent: u8) -> u8
+    requires { ⌜ (lo + count ≤ 32) × (sent + count ≤ 32) × (64 * (sent + count) ≤ length (now out)) ⌝ }
+    ensures { λ r. ⌜ (r ≡ sent + count) × (now (out .exit) ≡ putAt (now (out .entry)) (64 * sent) (encodeAll (each (addressed kind m) lo count))) ⌝ }
+{
+    let mut i: u8 = 0;
+    while i < count {
+        let to = address(m, lo + i + 1);
+        let at = (sent + i) as usize;
+        message::put(kind, to, out, 64 * at);
+        i += 1;
+    }
+    sent + count
+}
+
+// The same message to this receiver.
+fn address(m: Message, receiver: u8) -> Message
+    ensures { λ r. ⌜ r ≡ withReceiver receiver m ⌝ }
+{
+    let mut t = m;
+    t.receiver = receiver;
+    t
+}
+
+// A cpa's fields as a request has them.
+fn no_bound(m: Message) -> Message
+    ensures { λ r. ⌜ r ≡ noBound m ⌝ }
+{
+    let mut t = m;
+    t.bound = 0;
+    t.best = [0u8; 16];
+    t
+}
+
+// A cpa's fields as a solution or a stop has them.
+fn bound_only(m: Message) -> Message
+    ensures { λ r. ⌜ r ≡ boundOnly m ⌝ }
+{
+    let mut t = m;
+    t.stamp = [0u8; 16];
+    t.values = [0u8; 16];
+    t.cost = 0;
+    t
+}
