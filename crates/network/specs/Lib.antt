@@ -5,3 +5,4 @@ pub mod Run
 pub mod Calls
 pub mod Demand3
 pub mod Simulation
+pub mod Follow

@@ -1,0 +1,2 @@
+-- The byte run follows the run over messages.
+pub mod Cells
