@@ -1,2 +1,3 @@
--- The byte run follows the run over messages.
+-- The byte run follows the run over messages: packets in the pool's cells, what a run keeps that makes its bytes read back, and each delivery.
 pub mod Cells
+pub mod Holds
