@@ -2,6 +2,7 @@
 -- Assumes nothing.
 use Prim.Native.Nat.{ℕ, _+_, _*_, _/_, _%_, _^_}
 use Rattle.network.specs.declared.Count.{Count}
+pub mod Laws
 
 abbrev pub zeroCount : Count
 zeroCount = record { low = 0; high = 0 }

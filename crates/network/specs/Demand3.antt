@@ -85,9 +85,9 @@ unfoldable pub times : (Packet → Bool) → List Packet → ℕ
 times t [] = 0
 times t (p ∷ ps) = cond (t p) 1 0 + times t ps
 
--- 12 after the stop, 14, 15, or none
-abbrev pub Allowed : Bool → ℕ → Type 0
-Allowed over r = (r ≡ 0) ⊎ ((r ≡ 12) × (over ≡ true)) ⊎ (r ≡ 14) ⊎ (r ≡ 15)
+-- 12 after the stop, 14 or 15
+abbrev pub Honest : Bool → ℕ → Type 0
+Honest over r = ((r ≡ 12) × (over ≡ true)) ⊎ ((r ≡ 14) ⊎ (r ≡ 15))
 
 -- ---- what the bytes have to do with the messages
 
@@ -120,7 +120,7 @@ pub record Served (stream pool cells : List ℕ) : Type 0 where
   pub deliveries : valueOf (runBytes stream pool cells .network .core .deliveries) ≡ acceptedIn stream (stateOf (makeOf stream pool)) cells
   pub accepted : acceptedIn stream (stateOf (makeOf stream pool)) cells ≡ length (run (instanceOf stream) cells .handed)
   -- no unit refuses another's packet: only 12 (after the stop), 14 and 15 are ever given
-  pub honest : (cell : ℕ) → Allowed (first (runBytes stream pool cells) .stopped) (refusalAt stream (runBytes stream pool cells) cell)
+  pub honest : (cell : ℕ) → (refusalAt stream (runBytes stream pool cells) cell ≡ 0) ⊎ Honest (first (runBytes stream pool cells) .stopped) (refusalAt stream (runBytes stream pool cells) cell)
 
 -- ---- two runs of one table
 

@@ -34,7 +34,7 @@ use Rattle.protocol.specs.Lists.{In, here, there, in-more, in-right, Every, eve
 use Rattle.network.specs.Run as R
 use Rattle.network.specs.Run.{History, capacity, unitAt, placeOf, kept, handOver}
 
-every-of-all : (P : Packet → Type 0) (ps : List Packet) → All P ps → Every P ps
+pub every-of-all : (P : Packet → Type 0) (ps : List Packet) → All P ps → Every P ps
 every-of-all P [] h = every-nil P
 every-of-all P (p ∷ ps) h = every-cons P p ps (h .0) (every-of-all P ps (h .1))
 

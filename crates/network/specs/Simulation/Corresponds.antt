@@ -38,7 +38,7 @@ use Rattle.protocol.specs.Simulation.Resume.{assign-agrees}
 use Rattle.protocol.specs.Simulation.Step.{FreeWhenUnassigned, step-agrees}
 use Rattle.network.specs.Run as R
 use Rattle.network.specs.Run.{History, Delivery, capacity, unitAt, placeOf, after, stopped}
-use Rattle.network.specs.Demand3.{Distinct, Allowed}
+use Rattle.network.specs.Demand3.{Distinct, Honest}
 use Rattle.network.specs.Simulation.Records.{distinct-append, New, grown-new, grown-distinct, OnLogs, written-apart}
 
 -- ---- lists of packets, read
@@ -148,7 +148,7 @@ module _ (I : Instance) (snd : Sound I) (free : FreeWhenUnassigned I) where
 
   -- what a delivery leaves corresponds to what the machine's leaves, and its refusal is one of three
   abbrev pub Followed : History → Bool → Delivery → Network → Type 0
-  Followed H over (R.refusedBy x) S = Corresponds I H S × Allowed over x
+  Followed H over (R.refusedBy x) S = Corresponds I H S × Honest over x
   Followed H over (R.delivered K) S = Corresponds I K S
 
   pub deliver-corresponds : (H : History) (S : Network) (c : ℕ) → Corresponds I H S → SafeNetwork (problemOf I) S → Stops (problemOf I) S
@@ -158,7 +158,7 @@ module _ (I : Instance) (snd : Sound I) (free : FreeWhenUnassigned I) where
     where
       fits : (t over : Bool) (K : History) (S′ : Network) → Corresponds I K S′ → Followed H over (R.ifFits t K) (M.fits t S′ S)
       fits true over K S′ h = h
-      fits false over K S′ h = (r, inr (inr (inl refl)))
+      fits false over K S′ h = (r, inr (inl refl))
 
       finish : (over : Bool) (p : Packet) (rest : List Packet) (rest′ : List Msg) → ReadAll I rest rest′ → (k : ℕ) → k < I .n → (o : Out) (res : Result) → Agrees I k (S .units k .log) o res
           → StepSafe (problemOf I) (S .units) k res → Followed H over (R.onOut I H k p rest o) (M.settle capacity S k rest′ res)
@@ -173,7 +173,7 @@ module _ (I : Instance) (snd : Sound I) (free : FreeWhenUnassigned I) where
 
       hand : (over : Bool) (b a : List Packet) (b′ a′ : List Msg) → ReadAll I b b′ → ReadAll I a a′ → S .pool ≡ b′ ++ a′ → ((k : ℕ) → S .units k .stopped ≡ false)
           → Followed H over (R.takeCell I H b a) (M.handOver (problemOf I) capacity S b′ a′)
-      hand over b [] b′ [] hb ha e off = (r, inr (inr (inr refl)))
+      hand over b [] b′ [] hb ha e off = (r, inr (inr refl))
       hand over b [] b′ (m ∷ a′) hb ha e off = absurd ha
       hand over b (p ∷ a) b′ [] hb ha e off = absurd ha
       hand over b (p ∷ a) b′ (m ∷ a′) hb ha e off =
@@ -191,7 +191,7 @@ module _ (I : Instance) (snd : Sound I) (free : FreeWhenUnassigned I) where
 
       go : (t t′ : Bool) → stopped H ≡ t → t ≡ t′ → S .units 0 .stopped ≡ t′ → Stops (problemOf I) S
           → Followed H t (R.unlessStopped t I H c) (M.admit (problemOf I) t′ capacity S c)
-      go true true e q e′ st = (r, inr (inl (refl, refl)))
+      go true true e q e′ st = (r, inl (refl, refl))
       go true false e q e′ st = absurd (true-not-false refl q)
       go false true e q e′ st = absurd (true-not-false q refl)
       go false false e q e′ (inl st) = absurd (true-not-false st e′)

@@ -33,7 +33,7 @@ use Rattle.protocol.specs.Simulation.Relations.{ReadAll, BestIs}
 use Rattle.protocol.specs.Simulation.Step.{FreeWhenUnassigned}
 use Rattle.network.specs.Run as R
 use Rattle.network.specs.Run.{History, Delivery, capacity, unitAt, stopped, kept, handOver, runFrom, run}
-use Rattle.network.specs.Demand3.{Distinct, Allowed, most, times}
+use Rattle.network.specs.Demand3.{Distinct, Honest, most, times}
 use Rattle.network.specs.Simulation.Corresponds.{Corresponds, Followed, deliver-corresponds, begin-corresponds}
 
 -- a unit without a value costs nothing
@@ -144,7 +144,7 @@ module _ (I : Instance) (snd : Sound I) (free : FreeWhenUnassigned I) where
 
   -- the refusal that a delivery gives
   abbrev pub HonestDelivery : History → Delivery → Type 0
-  HonestDelivery H (R.refusedBy r) = Allowed (stopped H) r
+  HonestDelivery H (R.refusedBy r) = Honest (stopped H) r
   HonestDelivery H (R.delivered K) = Unit {0}
 
   pub record Ran (H : History) : Type 0 where
