@@ -2,3 +2,4 @@
 pub mod Cells
 pub mod Holds
 pub mod Deliveries
+pub mod Making
