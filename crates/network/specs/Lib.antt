@@ -6,3 +6,4 @@ pub mod Calls
 pub mod Demand3
 pub mod Simulation
 pub mod Follow
+pub mod Theorem

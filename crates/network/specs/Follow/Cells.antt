@@ -29,11 +29,12 @@ pub encode-all-length : (ps : List Packet) → AllSized ps → length (encodeAll
 unfolding encodeAll
 encode-all-length [] z = refl
 encode-all-length (p ∷ ps) z =
-    omega
-    (arith,
-    length-append (encode (p .kind) (p .message)) (encodeAll ps),
-    length-encode (p .kind) (p .message) (z p (here refl)),
-    encode-all-length ps (λ q i. z q (there i)))
+    omega (
+      arith,
+      length-append (encode (p .kind) (p .message)) (encodeAll ps),
+      length-encode (p .kind) (p .message) (z p (here refl)),
+      encode-all-length ps (λ q i. z q (there i)),
+    )
 
 -- ---- a list cut in two
 

@@ -196,7 +196,7 @@ module _ (s : List ℕ) (ok : Accepted s) where
                   };
                   room =
                       let l : length (poolAfter (S .network .used) c (packets (unitsOf s) (placeOf p) o) (S .pool))
-                          ≡ length (encodeAll ((b ++ a) ++ packets (unitsOf s) (placeOf p) o)) + (length (S .pool) - 64 * (length (H .waiting) - 1 + length (packets (unitsOf s) (placeOf p) o))) =
+                      ≡ length (encodeAll ((b ++ a) ++ packets (unitsOf s) (placeOf p) o)) + (length (S .pool) - 64 * (length (H .waiting) - 1 + length (packets (unitsOf s) (placeOf p) o))) =
                       ap length (pool-after (packets (unitsOf s) (placeOf p) o))
                       ∙ length-append (encodeAll ((b ++ a) ++ packets (unitsOf s) (placeOf p) o)) (drop (64 * (length (H .waiting) - 1 + length (packets (unitsOf s) (placeOf p) o))) (S .pool))
                       ∙ ap (λ m. length (encodeAll ((b ++ a) ++ packets (unitsOf s) (placeOf p) o)) + m) (length-drop (64 * (length (H .waiting) - 1 + length (packets (unitsOf s) (placeOf p) o))) (S .pool)) in

@@ -43,7 +43,6 @@ suc-pred zero l = absurd (omega arith)
 suc-pred (suc m) l = refl
 
 module _ (s : List ℕ) (ok : Accepted s) where
-
   pub good-view : (k : ℕ) → k < unitsOf s → GoodView (unitsOf s) (sizesIn s) (viewOf (instanceOf s) k)
   unfolding instanceOf
   good-view k lt =
