@@ -1,5 +1,6 @@
 -- A network of units: counts, the pool, the run over messages, the calls on bytes, and demand 3.
 pub mod Count
+pub mod Digits
 pub mod Pool
 pub mod Run
 pub mod Calls

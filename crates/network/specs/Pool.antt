@@ -5,6 +5,7 @@ use mathlib.Core.List.{List, _++_}
 use lib.ListN.{length, take, drop}
 use Rattle.message.specs.Message.{Packet}
 use Rattle.unit.specs.Send.{encodeAll, laid}
+pub mod Laws
 
 -- the bytes of a cell
 abbrev pub cellOf : List ℕ → ℕ → List ℕ
@@ -17,3 +18,7 @@ laterCells pool used cell = take (64 * (used - suc cell)) (drop (64 * suc cell) 
 -- 01: "closes the gap by moving later cells down one, and adds what the step sends at the end; bytes past the last cell then in use stay"
 unfoldable pub poolAfter : ℕ → ℕ → List Packet → List ℕ → List ℕ
 poolAfter used cell ps pool = take (64 * cell) pool ++ laterCells pool used cell ++ encodeAll ps ++ drop (64 * (used - 1 + length ps)) pool
+
+-- the 64 bytes at `at` taken out: what lies up to `end` moves down, and the rest stays
+abbrev pub closeGap : List ℕ → ℕ → ℕ → List ℕ
+closeGap pool at end = take at pool ++ take (end - (at + 64)) (drop (at + 64) pool) ++ drop (end - 64) pool

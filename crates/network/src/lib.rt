@@ -1,5 +1,10 @@
 // A network of units with a pool of waiting messages: making, delivery, and running to the end.
 
+mod counting; // a count in two words
+mod decimal; // a count in decimal digits
+mod pool; // cells moved and written
+
+pub use decimal::digits;
 use unit::Unit;
 
 // A count in two words, the low one first.
@@ -7,6 +12,13 @@ use unit::Unit;
 pub struct Count {
     pub low: u64,
     pub high: u64,
+}
+
+// A count in decimal digits, as text: the bytes from `start` on.
+#[repr(C)]
+pub struct Text {
+    pub text: [u8; 40],
+    pub start: usize,
 }
 
 // The units, and how many records they wrote and deliveries were accepted.

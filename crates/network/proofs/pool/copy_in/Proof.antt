@@ -1,0 +1,65 @@
+-- `network::pool::copy_in` meets its contract. Invariant: the first j bytes are copied. Assumes nothing.
+use Prim.Native.Nat.{_-_, _≤_}
+use mathlib.Core.Path.{_≡_, refl}
+use native.Mathlib.Omega.{arith}
+use borrow.Author.Needs.{needs}
+use lib.ListN.{length, length-set}
+use lib.Seq.{paste, paste-zero}
+use Rattle.network.specs.Pool.Laws.{paste-more}
+use Rattle.network.proofs.pool.copy_in.Statement.{statement}
+use Rattle.network.proofs.pool.copy_in.Tie as tie
+
+abbrev Inv-loop : tie.InvT-loop
+Inv-loop pool₀ at source n j₀ pool j = (j ≤ n) × (length pool ≡ length pool₀) × (pool ≡ paste pool₀ at source j)
+
+abbrev μ-loop : tie.MeasureT-loop
+μ-loop pool₀ at source n j₀ pool j = n - j
+
+loop-holds : tie.Need-loop-holds Inv-loop μ-loop
+loop-holds c = let a = c .args in (search needs, refl, paste-zero (a .pool .now) (a .at) (a .source .now))
+
+shared-slice-read-pool : tie.Need-shared-slice-read-pool Inv-loop μ-loop
+shared-slice-read-pool c = search needs
+
+add-pool : tie.Need-add-pool Inv-loop μ-loop
+add-pool c = search needs
+
+slice-write-pool : tie.Need-slice-write-pool Inv-loop μ-loop
+slice-write-pool c = search needs
+
+add-j : tie.Need-add-j Inv-loop μ-loop
+add-j c = search needs
+
+loop-less : tie.Need-loop-less Inv-loop μ-loop
+loop-less c = search needs
+
+loop-again : tie.Need-loop-again Inv-loop μ-loop
+loop-again c =
+    let a = c .before .before .before .args in
+    let l = c .before .before .loop in
+    (omega arith, simp length-set (omega arith), rw (l .inv .2) (paste-more (a .pool .now) (a .at) (a .source .now) (l .j) (omega arith) (omega arith)))
+
+same-length : tie.Need-same-length Inv-loop μ-loop
+same-length c = search needs
+
+returns : tie.Need-returns Inv-loop μ-loop
+returns c =
+    let l = c .before .loop in
+    let e : l .j ≡ c .before .before .args .n = omega arith in
+    rw (← e) (l .inv .2)
+
+pub copy-in-spec : {M : Type 1} → statement M
+copy-in-spec =
+    tie.close
+    (tie.spec
+    Inv-loop
+    μ-loop
+    loop-holds
+    shared-slice-read-pool
+    add-pool
+    slice-write-pool
+    add-j
+    loop-less
+    loop-again
+    same-length
+    returns)

@@ -1,0 +1,70 @@
+-- How the pool's bytes move, by one turn of each loop, and that closing the gap and copying in what was sent is the pool after a delivery.
+-- By laws on lists at the next place. Assumes nothing.
+use Prim.Native.Nat.{ℕ, suc, _+_, _*_, _-_, _≤_, _<_}
+use mathlib.Core.Path.{_≡_, sym, ap, _∙_}
+use mathlib.Core.List.{List, _++_, append-assoc}
+use native.Mathlib.Numerals.{add-one}
+use native.Mathlib.Omega.{arith}
+use lib.ListN.{length, getD, take, drop, set, length-append, length-drop}
+use lib.Seq.{paste, paste-suc, length-paste-head, getD-append-add, getD-drop, length-take-le, take-at, drop-append-add, drop-drop}
+use Rattle.message.specs.Message.{Packet}
+use Rattle.unit.specs.Send.{encodeAll, laid}
+use Rattle.network.specs.Pool.{laterCells, poolAfter, closeGap}
+
+-- ---- one turn
+
+-- what lies past the part that is copied so far is as it was
+paste-past : (d : List ℕ) (at : ℕ) (s : List ℕ) (j n k : ℕ) → at ≤ length d → j ≤ length s → k ≡ at + j + n → getD (paste d at s j) k 0 ≡ getD d k 0
+paste-past d at s j n k hd hs e =
+    let p : List ℕ = take at d ++ take j s in
+    rw e
+    (ap (λ (m : ℕ). getD (p ++ drop (at + j) d) (m + n) 0) (sym (length-paste-head d at s j hd hs))
+    ∙ getD-append-add p (drop (at + j) d) n 0
+    ∙ getD-drop (at + j) d n 0)
+
+-- a byte copied
+pub paste-more : (d : List ℕ) (at : ℕ) (s : List ℕ) (j : ℕ) → at + j < length d → j < length s → set (paste d at s j) (at + j) (getD s j 0) ≡ paste d at s (j + 1)
+paste-more d at s j hd hs = rw add-one (paste-suc d at s j 0 hd hs)
+
+-- a byte moved down
+pub gap-more : (d : List ℕ) (at j : ℕ) → at + 64 + j < length d
+    → set (paste d at (drop (at + 64) d) j) (at + j) (getD (paste d at (drop (at + 64) d) j) (at + 64 + j) 0) ≡ paste d at (drop (at + 64) d) (j + 1)
+gap-more d at j h =
+    let l : j < length (drop (at + 64) d) = simp length-drop (omega arith) in
+    rw (paste-past d at (drop (at + 64) d) j 64 (at + 64 + j) (omega arith) (omega arith) (omega arith), ← getD-drop (at + 64) d j 0)
+    (paste-more d at (drop (at + 64) d) j (omega arith) l)
+
+-- ---- a delivery
+
+-- the bytes of what was sent are in front of the buffer
+pub sent-front : (ps : List Packet) (out : List ℕ) → length (encodeAll ps) ≡ 64 * length ps → take (64 * length ps) (laid ps out) ≡ encodeAll ps
+unfolding laid
+sent-front ps out e = take-at (encodeAll ps) (drop (64 * length ps) out) (64 * length ps) e
+
+module _ (pool : List ℕ) (used cell : ℕ) (inside : cell < used) (fits : 64 * used ≤ length pool) where
+  closed-front : length (take (64 * cell) pool ++ laterCells pool used cell) ≡ 64 * (used - 1)
+  closed-front =
+      let a : length (take (64 * cell) pool) ≡ 64 * cell = length-take-le (64 * cell) pool (omega arith) in
+      let d : length (drop (64 * suc cell) pool) ≡ length pool - 64 * suc cell = length-drop (64 * suc cell) pool in
+      let b : length (laterCells pool used cell) ≡ 64 * (used - suc cell) = length-take-le (64 * (used - suc cell)) (drop (64 * suc cell) pool) (omega arith) in
+      length-append (take (64 * cell) pool) (laterCells pool used cell) ∙ omega arith
+
+  closed : closeGap pool (64 * cell) (64 * used) ≡ (take (64 * cell) pool ++ laterCells pool used cell) ++ drop (64 * (used - 1)) pool
+  closed =
+      let e : 64 * used - (64 * cell + 64) ≡ 64 * (used - suc cell) = omega arith in
+      let f : 64 * cell + 64 ≡ 64 * suc cell = omega arith in
+      let g : 64 * used - 64 ≡ 64 * (used - 1) = omega arith in
+      rw (e, f, g, append-assoc)
+
+  -- the gap closed, then what was sent copied in behind
+  pub pool-stored : (ps : List Packet) (s : List ℕ) → take (64 * length ps) s ≡ encodeAll ps
+      → paste (closeGap pool (64 * cell) (64 * used)) (64 * (used - 1)) s (64 * length ps) ≡ poolAfter used cell ps pool
+  unfolding poolAfter
+  pool-stored ps s sent =
+      let p : List ℕ = take (64 * cell) pool ++ laterCells pool used cell in
+      let q : List ℕ = drop (64 * (used - 1)) pool in
+      let front : take (64 * (used - 1)) (p ++ q) ≡ p = take-at p q (64 * (used - 1)) closed-front in
+      let rest : drop (64 * (used - 1) + 64 * length ps) (p ++ q) ≡ drop (64 * (used - 1) + 64 * length ps) pool =
+      ap (λ (m : ℕ). drop (m + 64 * length ps) (p ++ q)) (sym closed-front) ∙ drop-append-add p q (64 * length ps) ∙ drop-drop (64 * length ps) (64 * (used - 1)) pool in
+      let all : 64 * (used - 1) + 64 * length ps ≡ 64 * (used - 1 + length ps) = omega arith in
+      rw (closed, front, rest, sent, all, append-assoc)

@@ -1,0 +1,19 @@
+// A count in two words.
+
+use crate::Count;
+ghost use mathlib.Core.Path.{_≡_};
+ghost use Rattle.network.specs.Count.{plus};
+
+// m more, modulo 2^128.
+pub(crate) fn plus(c: Count, m: u64) -> Count
+    ensures { λ r. ⌜ r ≡ plus m c ⌝ }
+{
+    let low = std::num::wrapping_add_u64(c.low, m);
+    if low < m {
+        return Count {
+            low,
+            high: std::num::wrapping_add_u64(c.high, 1),
+        };
+    }
+    Count { low, high: c.high }
+}

@@ -1,0 +1,32 @@
+// Cells of the pool moved and written.
+
+ghost use mathlib.Core.Path.{_≡_};
+ghost use Prim.Native.Nat.{ℕ, _+_, _≤_};
+ghost use lib.ListN.{length};
+ghost use lib.Seq.{paste};
+ghost use Rattle.network.specs.Pool.{closeGap};
+
+// The bytes from `at` + 64 to `end` move down by 64; those from `end` - 64 on stay as they were.
+pub(crate) fn close(pool: &mut [u8], at: usize, end: usize)
+    requires { ⌜ (at + 64 ≤ end) × (end ≤ length (now pool)) ⌝ }
+    ensures { λ r. ⌜ now (pool .exit) ≡ closeGap (now (pool .entry)) at end ⌝ }
+{
+    let n = end - at - 64;
+    let mut j = 0;
+    while j < n {
+        pool[at + j] = pool[at + 64 + j];
+        j += 1;
+    }
+}
+
+// The first n bytes of `source`, written at `at`.
+pub(crate) fn copy_in(pool: &mut [u8], at: usize, source: &[u8], n: usize)
+    requires { ⌜ (at + n ≤ length (now pool)) × (n ≤ length (now source)) ⌝ }
+    ensures { λ r. ⌜ now (pool .exit) ≡ paste (now (pool .entry)) at (now (source .entry)) n ⌝ }
+{
+    let mut j = 0;
+    while j < n {
+        pool[at + j] = source[j];
+        j += 1;
+    }
+}
