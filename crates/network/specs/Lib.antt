@@ -8,3 +8,4 @@ pub mod Demand3
 pub mod Simulation
 pub mod Follow
 pub mod Theorem
+pub mod Settle

@@ -2,7 +2,7 @@
 -- (Follow), and of that run the machine's theorem gives all parts (Simulation.Runs).
 -- In order: the two runs side by side; one run; two runs of one table.
 -- Assumes nothing.
-use Prim.Native.Nat.{ℕ, zero, suc, _+_, _*_, _-_, _^_, _≤_, _<_}
+use Prim.Native.Nat.{ℕ, zero, suc, _+_, _*_, _-_, _^_, _≤_, _<_, pred}
 use mathlib.Core.Path.{_≡_, refl, sym, ap, _∙_, subst}
 use mathlib.Core.Logic.{_⊎_, inl, inr}
 use mathlib.Core.Bool.{Bool, true, false, cond}
@@ -12,7 +12,7 @@ use native.Mathlib.Nat.{le-antisymm, zero-add}
 use lib.Dec.{leb, eqb}
 use lib.ListN.{length, take, drop, length-append}
 use borrow.Author.Tests.{eq-eqb, ne-eqb}
-use Rattle.table.specs.Stream.{Accepted}
+use Rattle.table.specs.Stream.{unitsOf, Accepted}
 use Rattle.costs.specs.Instance.{viewOf, instanceOf}
 use Rattle.costs.specs.Laws.{Sound}
 use Rattle.costs.specs.Laws.Stream.{sound-of}
@@ -23,9 +23,11 @@ use Rattle.unit.specs.State.{fresh}
 use Rattle.unit.specs.Step as U
 use Rattle.unit.specs.Step.{Out, Written}
 use Rattle.unit.specs.Send.{packets}
+use Rattle.network.specs.Pool.{cellOf, poolAfter}
 use Rattle.network.specs.Run as R
 use Rattle.network.specs.Run.{History, Delivery, unitAt, stopped, kept, handOver, runFrom, run}
-use Rattle.network.specs.Calls.{Result, makeOf, deliverOf}
+use Rattle.network.specs.Calls as C
+use Rattle.network.specs.Calls.{Result, makeOf, deliverRefusal, deliverOf}
 use Rattle.network.specs.Demand3.{State, stateOf, delivered, deliverAll, runBytes, refusalAt, acceptedIn, Made, most, Honest, Served, Demand3, first}
 use Rattle.network.specs.Simulation.Runs.{stream-free, HonestDelivery, Ran, ran}
 use Rattle.network.specs.Follow.Holds.{Holds, begin-holds, deliver-holds}
@@ -188,6 +190,38 @@ module _ (s pool : List ℕ) (made : Made s pool) where
 
       box : first (runBytes s pool cs) ≡ unitAt (run (instanceOf s) cs .units) 0
       box = ap (λ (us : List UnitState). unitAt us 0) (side cs .tracks .follows .units)
+
+  -- once box 1 has stopped every delivery is refused by 12
+  pub stopped-refuses : (cs : List ℕ) (c : ℕ) → first (runBytes s pool cs) .stopped ≡ true → refusalAt s (runBytes s pool cs) c ≡ 12
+  unfolding R.handOver
+  stopped-refuses cs c e =
+      step s (accepted-table s pool made) (runBytes s pool cs) cs c (side cs) .number
+      ∙ ap (λ t. numberOf (R.unlessStopped t (instanceOf s) (run (instanceOf s) cs) c)) (sym (ap (λ (us : List UnitState). unitAt us 0 .stopped) (side cs .tracks .follows .units)) ∙ e)
+
+-- ---- a refused delivery changes nothing
+
+pub refused-stays : (s : List ℕ) (S : State) (c : ℕ) → (refusalAt s S c ≡ 0 → ⊥) → delivered s S c ≡ S
+unfolding deliverOf
+refused-stays s S c ne = go (deliverRefusal (S .network) s (S .pool) c) ne
+  where
+    fits : (t : Bool) (x : Result) → (C.ifFits t (S .network) (S .pool) x .answer .refusal ≡ 0 → ⊥) → x .answer .refusal ≡ 0 → stateOf (C.ifFits t (S .network) (S .pool) x) ≡ S
+    fits true x h e = absurd (h e)
+    fits false x h e = refl
+
+    out : (n own : ℕ) (o : Out) → (C.onOut (S .network) (S .pool) c n own o .answer .refusal ≡ 0 → ⊥) → stateOf (C.onOut (S .network) (S .pool) c n own o) ≡ S
+    out n own (U.refused r) h = refl
+    out n own (U.accepted u o ws) h =
+        fits (leb (S .network .used - 1 + length (packets n (pred own) o)) R.capacity)
+        (record {
+          answer = record { refusal = 0; network = C.stepped (S .network) own u (length (packets n (pred own) o)) (length ws) };
+          pool = poolAfter (S .network .used) c (packets n (pred own) o) (S .pool);
+        }) h refl
+
+    go : (r : ℕ) → (C.deliverBy r (S .network) s (S .pool) c .answer .refusal ≡ 0 → ⊥) → stateOf (C.deliverBy r (S .network) s (S .pool) c) ≡ S
+    go zero h =
+        out (unitsOf s) (C.receiverOf (unitsOf s) (cellOf (S .pool) c))
+        (C.stepFrom8 s (S .network .core .units) (C.receiverOf (unitsOf s) (cellOf (S .pool) c)) (cellOf (S .pool) c)) h
+    go (suc r) h = refl
 
 -- ---- two runs of one table
 

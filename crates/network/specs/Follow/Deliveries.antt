@@ -30,7 +30,7 @@ use Rattle.unit.specs.Step as U
 use Rattle.unit.specs.Step.{Out, Written, assign, respond}
 use Rattle.unit.specs.Send.{packets, encodeAll, laid}
 use Rattle.unit.specs.Calls.{onRead}
-use Rattle.unit.specs.Laws.Packets.{Writable}
+use Rattle.unit.specs.Laws.Packets.{Sendable}
 use Rattle.unit.specs.Laws.Assign.{Whenever, Kept}
 use Rattle.protocol.specs.Lists.{In, here, there, in-left, in-right, Every, every-append}
 use Rattle.network.specs.declared.Network.{Network}
@@ -67,7 +67,7 @@ abbrev pub Fits : History → Type 0
 Fits H = (length (H .written) < 2 ^ 64 * 2 ^ 64) × (length (H .handed) < 2 ^ 64 * 2 ^ 64)
 
 module _ (s : List ℕ) (ok : Accepted s) where
-  sized-all : (ps : List Packet) → Every (Writable (unitsOf s) (sizesIn s)) ps → AllSized ps
+  sized-all : (ps : List Packet) → Every (Sendable (unitsOf s) (sizesIn s)) ps → AllSized ps
   sized-all ps w p i = w p i .arrays
 
   -- ---- the checks before 12
@@ -90,7 +90,7 @@ module _ (s : List ℕ) (ok : Accepted s) where
 
   -- ---- the step
 
-  step-same : (us vs : List UnitState) → us ≡ vs → (p : Packet) → Writable (unitsOf s) (sizesIn s) p
+  step-same : (us vs : List UnitState) → us ≡ vs → (p : Packet) → Sendable (unitsOf s) (sizesIn s) p
       → stepFrom8 s us (p .message .receiver) (encode (p .kind) (p .message)) ≡ respond (viewOf (instanceOf s) (placeOf p)) (p .kind) (unitAt vs (placeOf p)) (p .message)
   unfolding stepFrom8
   step-same us vs e p w =
@@ -98,7 +98,7 @@ module _ (s : List ℕ) (ok : Accepted s) where
       (parse-encode (unitsOf s) (sizesIn s) (p .kind) (p .message) (accepted-sizes-good s ok) (w .address) (w .form) (w .arrays))
       ∙ ap (λ x. respond (viewOf (instanceOf s) (placeOf p)) (p .kind) (unitAt x (placeOf p)) (p .message)) e
 
-  receiver-same : (p : Packet) → Writable (unitsOf s) (sizesIn s) p → receiverOf (unitsOf s) (encode (p .kind) (p .message)) ≡ p .message .receiver
+  receiver-same : (p : Packet) → Sendable (unitsOf s) (sizesIn s) p → receiverOf (unitsOf s) (encode (p .kind) (p .message)) ≡ p .message .receiver
   receiver-same p w =
       let e = receiver-of-encode (p .kind) (p .message) (w .arrays) in
       ap (λ r. cond (isUnit (unitsOf s) r) r 1) e ∙ ap (λ t. cond t (p .message .receiver) 1) (receiver-unit s ok p w)
@@ -115,13 +115,13 @@ module _ (s : List ℕ) (ok : Accepted s) where
 
     -- the packet p at cell c, those before it b, those behind it a
     module _ (c : ℕ) (b : List Packet) (p : Packet) (a : List Packet) (e : H .waiting ≡ b ++ (p ∷ a)) (lb : length b ≡ c) where
-      w : Writable (unitsOf s) (sizesIn s) p
+      w : Sendable (unitsOf s) (sizesIn s) p
       w = h .waiting p (subst (In p) (sym e) (in-right b (here refl)))
 
-      wb : Every (Writable (unitsOf s) (sizesIn s)) b
+      wb : Every (Sendable (unitsOf s) (sizesIn s)) b
       wb x i = h .waiting x (subst (In x) (sym e) (in-left (p ∷ a) i))
 
-      wa : Every (Writable (unitsOf s) (sizesIn s)) a
+      wa : Every (Sendable (unitsOf s) (sizesIn s)) a
       wa x i = h .waiting x (subst (In x) (sym e) (in-right b (there i)))
 
       used-is : length (H .waiting) ≡ suc (length b) + length a

@@ -27,7 +27,7 @@ use Rattle.unit.specs.Step.{Out, Written, assign, respond}
 use Rattle.unit.specs.Send.{packets}
 use Rattle.unit.specs.Laws.Views.{GoodView, unit-range}
 use Rattle.unit.specs.Laws.Range.{SizedUnit}
-use Rattle.unit.specs.Laws.Packets.{All, Writable}
+use Rattle.unit.specs.Laws.Packets.{All, Sendable}
 use Rattle.unit.specs.Laws.Assign.{Whenever, Kept}
 use Rattle.unit.specs.Laws.Steps.{respond-kept, fresh-arrays, fresh-in-range, start-kept}
 use Rattle.protocol.specs.Lists.{In, here, there, in-more, in-right, Every, every-nil, every-cons, every-append}
@@ -64,15 +64,15 @@ module _ (s : List ℕ) (ok : Accepted s) where
     pub size : length (H .units) ≡ 16
     pub states : (k : ℕ) → k < unitsOf s → inRange (sizesIn s) (viewOf (instanceOf s) k) (unitAt (H .units) k) ≡ true
     pub arrays : (k : ℕ) → k < unitsOf s → SizedUnit (unitAt (H .units) k)
-    pub waiting : Every (Writable (unitsOf s) (sizesIn s)) (H .waiting)
+    pub waiting : Every (Sendable (unitsOf s) (sizesIn s)) (H .waiting)
     pub few : length (H .waiting) ≤ capacity
 
   -- a packet's receiver is a unit
-  pub receiver-unit : (p : Packet) → Writable (unitsOf s) (sizesIn s) p → isUnit (unitsOf s) (p .message .receiver) ≡ true
+  pub receiver-unit : (p : Packet) → Sendable (unitsOf s) (sizesIn s) p → isUnit (unitsOf s) (p .message .receiver) ≡ true
   unfolding addressGood
   receiver-unit p w = and-right (isUnit (unitsOf s) (p .message .sender)) _ (w .address)
 
-  pub place-in : (p : Packet) → Writable (unitsOf s) (sizesIn s) p → (placeOf p < unitsOf s) × (p .message .receiver ≡ suc (placeOf p))
+  pub place-in : (p : Packet) → Sendable (unitsOf s) (sizesIn s) p → (placeOf p < unitsOf s) × (p .message .receiver ≡ suc (placeOf p))
   place-in p w =
       let r = unit-range (unitsOf s) (p .message .receiver) (receiver-unit p w) in
       let e : suc (placeOf p) ≡ p .message .receiver = suc-pred (p .message .receiver) (r .0) in
@@ -116,7 +116,7 @@ module _ (s : List ℕ) (ok : Accepted s) where
   -- ---- a delivery
 
   -- what a step leaves
-  pub step-kept : (H : History) → Holds H → (p : Packet) → Writable (unitsOf s) (sizesIn s) p
+  pub step-kept : (H : History) → Holds H → (p : Packet) → Sendable (unitsOf s) (sizesIn s) p
       → Whenever (Kept (unitsOf s) (sizesIn s) (viewOf (instanceOf s) (placeOf p)) 16) (R.stepAt (instanceOf s) H (placeOf p) p)
   step-kept H h p w =
       let in-n = place-in p w in
