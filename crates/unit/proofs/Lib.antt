@@ -3,3 +3,4 @@ pub mod Orders
 pub mod Lent
 pub mod Trying
 pub mod Rules
+pub mod Ranges

@@ -1,10 +1,117 @@
-// A unit's state: its parts set one at a time, and the order of stamps.
+// A unit's state: whether it is in range, the order of stamps, and its parts set one at a time.
 
 use crate::Order;
 use crate::Unit;
 ghost use mathlib.Core.Path.{_≡_};
 ghost use Prim.Native.Nat.{ℕ, _≤_, _<_};
-ghost use Rattle.unit.specs.State.{zeros, withThreshold, withBest, withEstimates, withCpa, withCounter, withStopped, compareOn, sameOn, notSmaller};
+ghost use Rattle.costs.specs.Instance.{lentView};
+ghost use Rattle.unit.specs.State.{
+    withThreshold, withBest, withEstimates, withCpa, withCounter, withStopped, compareOn, sameOn, notSmaller, allAtMost, cpaZero, cpaOutInRange, inRange,
+};
+ghost use Rattle.unit.specs.Ready.{Own};
+
+// The most that an estimate may be.
+const ESTIMATE_LIMIT: u32 = 7200000;
+
+// Whether a lent state is in range.
+pub(crate) fn in_range(own: u8, n: u8, sizes: [u8; 16], costs: &[u8], u: Unit) -> bool
+    requires { ⌜ Own own ⌝ }
+    ensures { λ r. ⌜ r ≡ inRange sizes (lentView own n sizes (now (costs .entry))) u ⌝ }
+{
+    let threshold = u.threshold;
+    if !bytes_at_most(17, threshold) {
+        return false;
+    }
+    let estimates = u.estimates;
+    if !words_at_most(ESTIMATE_LIMIT, estimates) {
+        return false;
+    }
+    let best = u.best;
+    if !message::none_or_bound(n, sizes, u.bound, best) {
+        return false;
+    }
+    if u.values[(own - 1) as usize] == 0 {
+        return cpa_zero(sizes, u);
+    }
+    cpa_out_in_range(own, n, sizes, costs, u)
+}
+
+// Whether each of the 16 places is at most m.
+fn bytes_at_most(m: u8, l: [u8; 16]) -> bool
+    ensures { λ r. ⌜ r ≡ allAtMost m l ⌝ }
+{
+    let mut i = 0;
+    while i < 16 {
+        if m < l[i] {
+            return false;
+        }
+        i += 1;
+    }
+    true
+}
+
+fn words_at_most(m: u32, l: [u32; 16]) -> bool
+    ensures { λ r. ⌜ r ≡ allAtMost m l ⌝ }
+{
+    let mut i = 0;
+    while i < 16 {
+        if m < l[i] {
+            return false;
+        }
+        i += 1;
+    }
+    true
+}
+
+// Whether the cpa is all zero.
+fn cpa_zero(sizes: [u8; 16], u: Unit) -> bool
+    ensures { λ r. ⌜ r ≡ cpaZero sizes u ⌝ }
+{
+    let stamp = u.stamp;
+    if !message::filled_to(0, sizes, stamp) {
+        return false;
+    }
+    let values = u.values;
+    if !message::filled_to(0, sizes, values) {
+        return false;
+    }
+    u.cost == 0
+}
+
+// Whether a cpa that is out keeps its limits.
+fn cpa_out_in_range(own: u8, n: u8, sizes: [u8; 16], costs: &[u8], u: Unit) -> bool
+    requires { ⌜ Own own ⌝ }
+    ensures { λ r. ⌜ r ≡ cpaOutInRange sizes (lentView own n sizes (now (costs .entry))) u ⌝ }
+{
+    let stamp = u.stamp;
+    let values = u.values;
+    if !message::filled_to(own, sizes, stamp) {
+        return false;
+    }
+    if !message::filled_to(own, sizes, values) {
+        return false;
+    }
+    if message::prefix_limit(own) < u.cost {
+        return false;
+    }
+    let place = own - 1;
+    if u.counter != stamp[place as usize] {
+        return false;
+    }
+    let value = values[place as usize];
+    if value < u.counter {
+        return false;
+    }
+    let threshold = u.threshold;
+    if !not_smaller(compare(own as usize, threshold, stamp)) {
+        return false;
+    }
+    let paid = costs::cost_with(own, n, sizes, costs, values, place, value);
+    if u.cost < paid {
+        return false;
+    }
+    u.cost - paid <= message::prefix_limit(place)
+}
 
 // How a compares with b on the first k units.
 pub(crate) fn compare(k: usize, a: [u8; 16], b: [u8; 16]) -> Order
