@@ -5,6 +5,7 @@
 --     Assign, Steps             a unit in range takes any message that reads well, stays in range, and sends what can be written; so does making
 --     Bounds                    a stale message changes nothing; the bound never rises; unit n keeps no CPA
 --     Calls                     the same of making and a step as called
+--     Readiness                 what a step has checked is what the deciding functions ask
 pub mod Views
 pub mod Stamps
 pub mod Filled
@@ -14,3 +15,4 @@ pub mod Assign
 pub mod Steps
 pub mod Bounds
 pub mod Calls
+pub mod Readiness

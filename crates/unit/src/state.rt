@@ -6,7 +6,19 @@ ghost use mathlib.Core.Path.{_≡_};
 ghost use Prim.Native.Nat.{ℕ, _≤_, _<_};
 ghost use Rattle.costs.specs.Instance.{lentView};
 ghost use Rattle.unit.specs.State.{
-    withThreshold, withBest, withEstimates, withCpa, withCounter, withStopped, compareOn, sameOn, notSmaller, allAtMost, cpaZero, cpaOutInRange, inRange,
+  withThreshold,
+  withBest,
+  withEstimates,
+  withCpa,
+  withCounter,
+  withStopped,
+  compareOn,
+  sameOn,
+  notSmaller,
+  allAtMost,
+  cpaZero,
+  cpaOutInRange,
+  inRange,
 };
 ghost use Rattle.unit.specs.Ready.{Own};
 

@@ -12,92 +12,92 @@ use Rattle.unit.proofs.state.cpa_out_in_range.Statement.{statement}
 use Rattle.unit.proofs.state.cpa_out_in_range.Tie as tie
 
 filled-to-requires : tie.Need-filled-to-requires
-filled-to-requires c κs  = search needs
+filled-to-requires c κs = search needs
 
 returns : tie.Need-returns
-returns c  =
+returns c =
     let a = c .before .before .before .before .before .args in
     let w = lentView (a .own) (a .n) (a .sizes) (a .costs .now) in
     let o = own-lent (a .own) (a .n) (a .sizes) (a .costs .now) (c .before .before .before .before .before .pre .first) in
     out-stamp (a .sizes) w (a .u) (a .own) o (sym (c .before .filled-to .ensures) ∙ not-true _ (c .if1 .taken))
 
 filled-to-requires-2 : tie.Need-filled-to-requires-2
-filled-to-requires-2 c κs  = search needs
+filled-to-requires-2 c κs = search needs
 
 returns-2 : tie.Need-returns-2
-returns-2 c  =
+returns-2 c =
     let a = c .before .before .before .before .before .before .before .args in
     let w = lentView (a .own) (a .n) (a .sizes) (a .costs .now) in
     let o = own-lent (a .own) (a .n) (a .sizes) (a .costs .now) (c .before .before .before .before .before .before .before .pre .first) in
     out-values (a .sizes) w (a .u) (a .own) o (sym (c .before .filled-to2 .ensures) ∙ not-true _ (c .if2 .taken))
 
 prefix-limit-requires : tie.Need-prefix-limit-requires
-prefix-limit-requires c κs  = search needs
+prefix-limit-requires c κs = search needs
 
 returns-3 : tie.Need-returns-3
-returns-3 c  =
+returns-3 c =
     let a = c .before .before .before .before .before .before .before .before .before .before .args in
     let w = lentView (a .own) (a .n) (a .sizes) (a .costs .now) in
     let o = own-lent (a .own) (a .n) (a .sizes) (a .costs .now) (c .before .before .before .before .before .before .before .before .before .before .pre .first) in
     out-cost (a .sizes) w (a .u) (a .own) o (rw (c .before .before .prefix-limit .ensures) at (c .if3 .taken))
 
 sub-place : tie.Need-sub-place
-sub-place c  = search needs
+sub-place c = search needs
 
 cast-if4 : tie.Need-cast-if4
-cast-if4 c  = search needs
+cast-if4 c = search needs
 
 array-read-if4 : tie.Need-array-read-if4
-array-read-if4 c  = search needs
+array-read-if4 c = search needs
 
 returns-4 : tie.Need-returns-4
-returns-4 c  =
+returns-4 c =
     let a = c .before .before .before .before .before .before .before .before .before .before .before .before .args in
     let w = lentView (a .own) (a .n) (a .sizes) (a .costs .now) in
     let o = own-lent (a .own) (a .n) (a .sizes) (a .costs .now) (c .before .before .before .before .before .before .before .before .before .before .before .before .pre .first) in
     out-counter (a .sizes) w (a .u) (a .own) o (c .if4 .taken)
 
 cast-value : tie.Need-cast-value
-cast-value c  = search needs
+cast-value c = search needs
 
 array-read-value : tie.Need-array-read-value
-array-read-value c  = search needs
+array-read-value c = search needs
 
 returns-5 : tie.Need-returns-5
-returns-5 c  =
+returns-5 c =
     let a = c .before .before .before .before .before .before .before .before .before .before .before .before .before .before .args in
     let w = lentView (a .own) (a .n) (a .sizes) (a .costs .now) in
     let o = own-lent (a .own) (a .n) (a .sizes) (a .costs .now) (c .before .before .before .before .before .before .before .before .before .before .before .before .before .before .pre .first) in
     out-tried (a .sizes) w (a .u) (a .own) o (c .if5 .taken)
 
 compare-requires : tie.Need-compare-requires
-compare-requires c κs  = search needs
+compare-requires c κs = search needs
 
 not-smaller-requires : tie.Need-not-smaller-requires
-not-smaller-requires c κs  = search needs
+not-smaller-requires c κs = search needs
 
 returns-6 : tie.Need-returns-6
-returns-6 c  =
+returns-6 c =
     let a = c .before .before .before .before .before .before .before .before .before .before .before .before .before .before .before .before .before .before .args in
     let w = lentView (a .own) (a .n) (a .sizes) (a .costs .now) in
     let o = own-lent (a .own) (a .n) (a .sizes) (a .costs .now) (c .before .before .before .before .before .before .before .before .before .before .before .before .before .before .before .before .before .before .pre .first) in
     out-threshold (a .sizes) w (a .u) (a .own) o (sym (rw (c .before .before .compare .ensures) at (c .before .not-smaller .ensures)) ∙ not-true _ (c .if6 .taken))
 
 cost-with-requires : tie.Need-cost-with-requires
-cost-with-requires c κs  = search needs
+cost-with-requires c κs = search needs
 
 returns-7 : tie.Need-returns-7
-returns-7 c  =
+returns-7 c =
     let a = c .before .before .before .before .before .before .before .before .before .before .before .before .before .before .before .before .before .before .before .before .before .args in
     let w = lentView (a .own) (a .n) (a .sizes) (a .costs .now) in
     let o = own-lent (a .own) (a .n) (a .sizes) (a .costs .now) (c .before .before .before .before .before .before .before .before .before .before .before .before .before .before .before .before .before .before .before .before .before .pre .first) in
     out-paid (a .sizes) w (a .u) (a .own) o (c .before .before .cost-with .result) (c .before .before .cost-with .ensures) (c .if7 .taken)
 
 prefix-limit-requires-2 : tie.Need-prefix-limit-requires-2
-prefix-limit-requires-2 c κs  = search needs
+prefix-limit-requires-2 c κs = search needs
 
 returns-8 : tie.Need-returns-8
-returns-8 c  =
+returns-8 c =
     let a = c .before .before .before .before .before .before .before .before .before .before .before .before .before .before .before .before .before .before .before .before .before .before .before .args in
     let w = lentView (a .own) (a .n) (a .sizes) (a .costs .now) in
     let o = own-lent (a .own) (a .n) (a .sizes) (a .costs .now) (c .before .before .before .before .before .before .before .before .before .before .before .before .before .before .before .before .before .before .before .before .before .before .before .pre .first) in

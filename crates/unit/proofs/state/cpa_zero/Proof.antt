@@ -8,23 +8,23 @@ use Rattle.unit.proofs.state.cpa_zero.Statement.{statement}
 use Rattle.unit.proofs.state.cpa_zero.Tie as tie
 
 filled-to-requires : tie.Need-filled-to-requires
-filled-to-requires c κs  = search needs
+filled-to-requires c κs = search needs
 
 returns : tie.Need-returns
-returns c  =
+returns c =
     let a = c .before .before .before .args in
     zero-stamp (a .sizes) (a .u) (sym (c .before .filled-to .ensures) ∙ not-true _ (c .if1 .taken))
 
 filled-to-requires-2 : tie.Need-filled-to-requires-2
-filled-to-requires-2 c κs  = search needs
+filled-to-requires-2 c κs = search needs
 
 returns-2 : tie.Need-returns-2
-returns-2 c  =
+returns-2 c =
     let a = c .before .before .before .before .before .before .args in
     zero-values (a .sizes) (a .u) (sym (c .before .filled-to2 .ensures) ∙ not-true _ (c .if2 .taken))
 
 returns-3 : tie.Need-returns-3
-returns-3 c  =
+returns-3 c =
     let a = c .before .before .before .before .before .before .before .args in
     zero-cost (a .sizes) (a .u) (sym (c .before .before .before .before .before .filled-to .ensures) ∙ not-false _ (c .before .before .before .before .if1 .left)) (sym (c .before .before .filled-to2 .ensures) ∙ not-false _ (c .before .if2 .left))
 

@@ -18,46 +18,46 @@ bound-at : (own n : ℕ) (sizes costs : List ℕ) (b : Bool) (bound : ℕ) (best
 bound-at own n sizes costs b bound best e = ap (λ (k : ℕ). noneOrBound k sizes bound best) (n-lent own n sizes costs) ∙ e
 
 bytes-at-most-requires : tie.Need-bytes-at-most-requires
-bytes-at-most-requires c κs  = search needs
+bytes-at-most-requires c κs = search needs
 
 returns : tie.Need-returns
-returns c  =
+returns c =
     let a = c .before .before .before .before .args in
     let w = lentView (a .own) (a .n) (a .sizes) (a .costs .now) in
     range-threshold (a .sizes) w (a .t5) (sym (c .before .bytes-at-most .ensures) ∙ not-true _ (c .if1 .taken))
 
 words-at-most-requires : tie.Need-words-at-most-requires
-words-at-most-requires c κs  = search needs
+words-at-most-requires c κs = search needs
 
 returns-2 : tie.Need-returns-2
-returns-2 c  =
+returns-2 c =
     let a = c .before .before .before .before .before .before .before .args in
     let w = lentView (a .own) (a .n) (a .sizes) (a .costs .now) in
     range-estimates (a .sizes) w (a .t5) (sym (c .before .words-at-most .ensures) ∙ not-true _ (c .if2 .taken))
 
 none-or-bound-requires : tie.Need-none-or-bound-requires
-none-or-bound-requires c κs  = search needs
+none-or-bound-requires c κs = search needs
 
 returns-3 : tie.Need-returns-3
-returns-3 c  =
+returns-3 c =
     let a = c .before .before .before .before .before .before .before .before .before .before .args in
     let w = lentView (a .own) (a .n) (a .sizes) (a .costs .now) in
     range-bound (a .sizes) w (a .t5) (bound-at (a .own) (a .n) (a .sizes) (a .costs .now) false (a .t5 .bound) (a .t5 .best) (sym (c .before .none-or-bound .ensures) ∙ not-true _ (c .if3 .taken)))
 
 sub-if4 : tie.Need-sub-if4
-sub-if4 c  = search needs
+sub-if4 c = search needs
 
 cast-if4 : tie.Need-cast-if4
-cast-if4 c  = search needs
+cast-if4 c = search needs
 
 element-copy-out-if4 : tie.Need-element-copy-out-if4
-element-copy-out-if4 c  = search needs
+element-copy-out-if4 c = search needs
 
 cpa-zero-requires : tie.Need-cpa-zero-requires
-cpa-zero-requires c κs  = search needs
+cpa-zero-requires c κs = search needs
 
 returns-4 : tie.Need-returns-4
-returns-4 c  =
+returns-4 c =
     let a = c .before .before .before .before .before .before .before .before .before .before .before .before .before .args in
     let w = lentView (a .own) (a .n) (a .sizes) (a .costs .now) in
     c .cpa-zero .ensures
@@ -66,10 +66,10 @@ returns-4 c  =
     (value-lent (a .own) (a .n) (a .sizes) (a .costs .now) (a .t5) ∙ c .before .if4 .taken)
 
 cpa-out-in-range-requires : tie.Need-cpa-out-in-range-requires
-cpa-out-in-range-requires c κs  = search needs
+cpa-out-in-range-requires c κs = search needs
 
 returns-5 : tie.Need-returns-5
-returns-5 c  =
+returns-5 c =
     let a = c .before .before .before .before .before .before .before .before .before .before .before .before .before .args in
     let w = lentView (a .own) (a .n) (a .sizes) (a .costs .now) in
     c .cpa-out-in-range .ensures

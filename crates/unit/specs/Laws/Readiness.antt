@@ -1,0 +1,91 @@
+-- What a step has checked is what the deciding functions ask: a unit's number, a state in range, a message that reads well.
+-- From the facts of the checks, kind by kind for the message. Assumes nothing.
+use Prim.Native.Nat.{ℕ, zero, suc, pred, _+_, _-_, _≤_, _<_}
+use native.Mathlib.Omega.{arith}
+use mathlib.Core.Path.{_≡_, refl, sym, ap, _∙_}
+use mathlib.Core.Bool.{Bool, true, false, cond}
+use mathlib.Core.List.{List}
+use lib.Dec.{ltb}
+use lib.ListN.{getD, length}
+use borrow.Author.Tests.{lt-ltb}
+use Rattle.base.specs.Shape.{shapeGood, shape-n, shape-size}
+use Rattle.costs.specs.Instance.{lentView}
+use Rattle.message.specs.declared.Message.{Message}
+use Rattle.message.specs.declared.Kind.{Kind}
+use Rattle.message.specs.declared.Kind.the-variants.{Cpa, Request, Estimate, Solution, Stop}
+use Rattle.message.specs.Message.{filledTo, cpaCount, stampCount, valueCount, isUnit, addressGood, wellFormed}
+use Rattle.message.specs.Laws.{filled-past, Addressed, addressed, formed}
+use Rattle.unit.specs.declared.Unit.{Unit}
+use Rattle.unit.specs.State.{fresh, zeros, ownValue, inRange}
+use Rattle.unit.specs.Ready.{Own, Shaped, Ready, Heard}
+use Rattle.unit.specs.Laws.Views.{unit-range}
+use Rattle.unit.specs.Laws.Filled.{filled-most, zeros-at}
+use Rattle.unit.specs.Laws.Range.{range-facts}
+
+pub own-of : (own n : ℕ) (sizes : List ℕ) → shapeGood n sizes ≡ true → isUnit n own ≡ true → Own own
+own-of own n sizes s e = let u = unit-range n own e in record { first = u .0; last = omega (arith, u .1, shape-n n sizes s .1) }
+
+pub shaped-of : (own n : ℕ) (sizes : List ℕ) → shapeGood n sizes ≡ true → isUnit n own ≡ true → Shaped own n sizes
+shaped-of own n sizes s e = record { number = own-of own n sizes s e; within = unit-range n own e .1; shape = s }
+
+-- ---- the state
+
+value-at : (own n : ℕ) (sizes costs : List ℕ) (u : Unit) → ownValue (lentView own n sizes costs) u ≡ getD (u .values) (own - 1) 0
+unfolding lentView
+value-at own n sizes costs u = ap (λ (k : ℕ). getD (u .values) k 0) (go own) where
+  go : (k : ℕ) → pred k ≡ k - 1
+  go zero = refl
+  go (suc k) = omega arith
+
+pub ready-of : (own n : ℕ) (sizes costs : List ℕ) (u : Unit) → Own own → inRange sizes (lentView own n sizes costs) u ≡ true → Ready own u
+ready-of own n sizes costs u o e =
+    let f = range-facts sizes (lentView own n sizes costs) u e in
+    let v = value-at own n sizes costs u in
+    record { threshold = f .threshold (own - 1) (omega arith); counter = λ z. rw v at (f .out (rw v z) .tried) }
+
+-- 01: "It starts with bound none, all else zero."
+pub ready-fresh : (own : ℕ) → Own own → Ready own fresh
+ready-fresh own o =
+    let z = zeros-at (own - 1) (omega arith) in record { threshold = omega arith; counter = λ l. absurd (none l) } where
+      none : 0 < getD zeros (own - 1) 0 → ⊥
+      none l = omega (arith, zeros-at (own - 1) (omega arith))
+
+-- ---- the message
+
+module _ (own n : ℕ) (sizes : List ℕ) (m : Message) (to : m .receiver ≡ own) (a : Addressed n m) where
+  -- a cpa has at most its receiver's places filled; going down, one fewer
+  cpa-most : cpaCount (m .sender) (m .receiver) ≤ own
+  cpa-most = go (ltb (m .sender) (m .receiver)) where
+    go : (t : Bool) → cond t (m .receiver - 1) (m .receiver) ≤ own
+    go true = omega arith
+    go false = omega arith
+
+  cpa-down : m .sender < own → cpaCount (m .sender) (m .receiver) ≡ own - 1
+  cpa-down l = simp (lt-ltb (m .sender) (m .receiver) (omega arith)) (ap (λ (k : ℕ). k - 1) to)
+
+  stamps-most : (k : Kind) → stampCount k m ≤ n
+  stamps-most Cpa = omega (arith, cpa-most, a .toMost)
+  stamps-most Request = a .fromMost
+  stamps-most Estimate = a .toMost
+  stamps-most Solution = omega arith
+  stamps-most Stop = omega arith
+
+  -- from a lower unit, no value of this one
+  values-before : (k : Kind) → m .sender < own → valueCount k m ≤ own - 1
+  values-before Cpa l = omega (arith, cpa-down l)
+  values-before Request l = omega arith
+  values-before Estimate l = omega arith
+  values-before Solution l = omega arith
+  values-before Stop l = omega arith
+
+pub heard-of : (own n : ℕ) (sizes : List ℕ) (k : Kind) (m : Message) → shapeGood n sizes ≡ true → n ≤ length sizes → addressGood n m ≡ true → m .receiver ≡ own
+    → wellFormed n sizes k m ≡ true → Heard own m
+heard-of own n sizes k m s long e to w =
+    let a = addressed n m e in
+    let f = formed n sizes k m w in
+    let b = shape-n n sizes s .1 in
+    record {
+      sender = record { first = a .from; last = omega arith };
+      stamp = omega (arith, filled-most n (stampCount k m) sizes (m .stamp) (stamps-most own n sizes m to a k) (λ j l. shape-size n sizes s long j l .1) (f .stamps) (own - 1) (omega arith));
+      bare = λ l. filled-past (valueCount k m) sizes (m .values) (f .values) (own - 1) (values-before own n sizes m to a k l) (omega arith);
+    }
