@@ -3,5 +3,6 @@ pub mod Instance
 pub mod Bounds
 pub mod Lent
 pub mod Gather
+pub mod StreamCost
 pub mod Problem
 pub mod Laws

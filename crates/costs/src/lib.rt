@@ -1,7 +1,9 @@
 // Pair costs, and what is worked out from them: the costs lent with one unit, as bytes.
 
+mod prefix; // the cost of a value with those before it, straight from a stream
 mod stream; // what is read out of a stream
 
+pub use prefix::stream_cost_with;
 pub use stream::gather;
 pub use stream::sizes_of;
 ghost use mathlib.Core.Path.{_≡_};

@@ -145,8 +145,8 @@ fn pair_start(n: u8, sizes: [u8; 16], i: usize, j: usize) -> usize
 }
 
 // The domain size of the unit at place k, 0 where there is none.
-fn size_at(stream: &[u8], k: usize) -> u8
-    requires { ⌜ k < 16 ⌝ }
+pub(crate) fn size_at(stream: &[u8], k: usize) -> u8
+    requires { ⌜ k < 256 ⌝ }
     ensures { λ r. ⌜ r ≡ domOf (now (stream .entry)) k ⌝ }
 {
     if wide(base::byte_at(stream, 0)) <= k {

@@ -1,0 +1,63 @@
+-- `all_sizes` meets its contract. The loop's invariant: the sum is that of the places passed, at most 255 for each.
+-- Assumes nothing.
+use Prim.Native.Nat.{_*_, _-_, _≤_}
+use mathlib.Core.Path.{_≡_}
+use native.Mathlib.Nat.{zero-add}
+use native.Mathlib.Omega.{arith}
+use borrow.Author.Needs.{needs}
+use Rattle.base.specs.Sums.{sumFrom}
+use Rattle.costs.specs.Gather.{domOf}
+use Rattle.costs.specs.Gather.Steps.{sum-more}
+use Rattle.costs.proofs.prefix.all_sizes.Statement.{statement}
+use Rattle.costs.proofs.prefix.all_sizes.Tie as tie
+
+abbrev Inv-loop : tie.InvT-loop
+Inv-loop stream m sum₀ i₀ sum i = (i ≤ m) × (sum ≡ sumFrom (domOf stream) 0 i) × (sum ≤ 255 * i)
+
+abbrev μ-loop : tie.MeasureT-loop
+μ-loop stream m sum₀ i₀ sum i = m - i
+
+loop-holds : tie.Need-loop-holds Inv-loop μ-loop
+loop-holds c = search needs
+
+size-at-requires : tie.Need-size-at-requires Inv-loop μ-loop
+size-at-requires c κs = search needs
+
+wide-requires : tie.Need-wide-requires Inv-loop μ-loop
+wide-requires c κs = search needs
+
+add-sum : tie.Need-add-sum Inv-loop μ-loop
+add-sum c = search needs
+
+add-i : tie.Need-add-i Inv-loop μ-loop
+add-i c = search needs
+
+loop-less : tie.Need-loop-less Inv-loop μ-loop
+loop-less c = search needs
+
+loop-again : tie.Need-loop-again Inv-loop μ-loop
+loop-again c =
+    let l = c .before .before .before .loop in
+    (omega arith, rw (l .inv .1, c .wide .ensures .0, c .before .size-at .ensures, sum-more, zero-add), omega arith)
+
+returns : tie.Need-returns Inv-loop μ-loop
+returns c =
+    let a = c .before .before .before .args in
+    let l = c .before .loop in
+    let e : l .i ≡ a .m = omega arith in
+    (rw (← e) (l .inv .1), omega arith)
+
+pub all-sizes-spec : {M : Type 1} → statement M
+all-sizes-spec =
+    tie.close
+    (tie.spec
+    Inv-loop
+    μ-loop
+    loop-holds
+    size-at-requires
+    wide-requires
+    add-sum
+    add-i
+    loop-less
+    loop-again
+    returns)

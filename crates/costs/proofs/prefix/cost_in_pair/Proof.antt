@@ -1,0 +1,82 @@
+-- `cost_in_pair` meets its contract: the place stays far below 2 ^ 64, and is the definition's.
+-- Assumes nothing.
+use Prim.Native.Nat.{_≤_, _-_}
+use mathlib.Core.Path.{_≡_, sym, _∙_}
+use mathlib.Core.Bool.{true, false}
+use native.Mathlib.Nat.{mul-le-mul}
+use native.Mathlib.Omega.{arith}
+use borrow.Author.Needs.{needs}
+use borrow.Author.Tests.{not-true, not-false}
+use Rattle.costs.specs.Instance.{isValue}
+use Rattle.costs.specs.Laws.Stream.{value-range}
+use Rattle.costs.proofs.prefix.cost_in_pair.Statement.{statement}
+use Rattle.costs.proofs.prefix.cost_in_pair.Tie as tie
+
+is-value-requires : tie.Need-is-value-requires
+is-value-requires c κs = search needs
+
+returns : tie.Need-returns
+returns c =
+    let a = c .before .before .before .args in
+    let none : isValue (a .e) (a .u) ≡ false = sym (c .before .is-value .ensures) ∙ not-true _ (c .if1 .taken) in
+    (rw none, omega arith)
+
+sub-u16-at : tie.Need-sub-u16-at
+sub-u16-at c =
+    let a = c .before .before .before .args in
+    value-range (a .e) (a .u) (sym (c .before .is-value .ensures) ∙ not-false _ (c .if1 .left)) .0
+
+mul-u16-at : tie.Need-mul-u16-at
+mul-u16-at c =
+    let a = c .before .before .before .args in
+    let u : a .u - 1 ≤ 254 = omega arith in
+    let d : a .d ≤ 255 = omega arith in
+    omega (arith, mul-le-mul u d)
+
+sub-u16-at-2 : tie.Need-sub-u16-at-2
+sub-u16-at-2 c = search needs
+
+add-u16-at : tie.Need-add-u16-at
+add-u16-at c =
+    let a = c .before .before .before .args in
+    let u : a .u - 1 ≤ 254 = omega arith in
+    let d : a .d ≤ 255 = omega arith in
+    omega (arith, mul-le-mul u d)
+
+mul-u16-at-2 : tie.Need-mul-u16-at-2
+mul-u16-at-2 c =
+    let a = c .before .before .before .args in
+    let u : a .u - 1 ≤ 254 = omega arith in
+    let d : a .d ≤ 255 = omega arith in
+    omega (arith, mul-le-mul u d)
+
+add-u16-at-2 : tie.Need-add-u16-at-2
+add-u16-at-2 c =
+    let a = c .before .before .before .args in
+    let u : a .u - 1 ≤ 254 = omega arith in
+    let d : a .d ≤ 255 = omega arith in
+    omega (arith, mul-le-mul u d)
+
+u16-at-requires : tie.Need-u16-at-requires
+u16-at-requires c κs = search needs
+
+returns-2 : tie.Need-returns-2
+returns-2 c =
+    let a = c .before .before .before .before .args in
+    let some : isValue (a .e) (a .u) ≡ true = sym (c .before .before .is-value .ensures) ∙ not-false _ (c .before .if1 .left) in
+    (rw some (c .u16-at .ensures .0), c .u16-at .ensures .1)
+
+pub cost-in-pair-spec : {M : Type 1} → statement M
+cost-in-pair-spec =
+    tie.close
+    (tie.spec
+    is-value-requires
+    returns
+    sub-u16-at
+    mul-u16-at
+    sub-u16-at-2
+    add-u16-at
+    mul-u16-at-2
+    add-u16-at-2
+    u16-at-requires
+    returns-2)

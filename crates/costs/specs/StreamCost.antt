@@ -1,0 +1,133 @@
+-- How the cost of a value with the values before it is read straight out of a stream: where the costs of the next pair start,
+-- counted along. By taking the table's definition apart at one pair. Assumes nothing.
+use Prim.Native.Nat.{ℕ, suc, _+_, _*_, _-_, _≤_, _<_}
+use mathlib.Core.Path.{_≡_, refl, sym, ap, _∙_}
+use mathlib.Core.Bool.{Bool, true, false, cond, and-false, and-true}
+use mathlib.Core.List.{List}
+use native.Mathlib.Numerals.{add-one}
+use native.Mathlib.Omega.{arith}
+use native.Mathlib.Nat.{mul-le-mul, sub-zero}
+use lib.Dec.{ltb}
+use lib.ListN.{getD, drop}
+use lib.Seq.{getD-drop}
+use borrow.Author.Tests.{lt-ltb, ltb-true, ltb-false}
+use Rattle.base.specs.Bytes.{u16At}
+use Rattle.base.specs.Sums.{sumFrom}
+use Rattle.table.specs.Stream.{unitsOf}
+use Rattle.costs.specs.Instance.{isValue, inPair, costNumber, pairStart, rowStart, tableCost, viewOf, instanceOf}
+use Rattle.costs.specs.Bounds.{costWith}
+use Rattle.costs.specs.Laws.Sums.{sumTo-sumFrom}
+use Rattle.costs.specs.Lent.Steps.{dom-past-count, no-value, sumFrom-zero, cost-none, cost-more}
+use Rattle.costs.specs.Gather.{domOf, costsOf}
+
+-- a unit with a value is one of the n
+pub value-inside : (s : List ℕ) (k v : ℕ) → isValue (domOf s k) v ≡ true → k < unitsOf s
+value-inside s k v e = go (ltb k (unitsOf s)) refl
+  where
+    go : (t : Bool) → ltb k (unitsOf s) ≡ t → k < unitsOf s
+    go true q = ltb-true k (unitsOf s) q
+    go false q =
+        let z : domOf s k ≡ 0 = dom-past-count (unitsOf s) (drop 1 s) k (ltb-false k (unitsOf s) q) in
+        let none : isValue (domOf s k) v ≡ false = rw z (no-value v) in
+        let c : _≡_ {A = ℕ} 0 1 = ap (λ (b : Bool). cond b 1 0) (sym none ∙ e) in
+        omega arith
+
+-- what is no value costs nothing
+pub no-own-cost : (s values : List ℕ) (k v : ℕ) → isValue (domOf s k) v ≡ false → costWith (viewOf (instanceOf s) k) values k v ≡ 0
+unfolding costWith instanceOf
+no-own-cost s values k v none =
+    sumTo-sumFrom (λ j. viewOf (instanceOf s) k .pair j (getD values j 0) v) k
+    ∙ sumFrom-zero (λ j. viewOf (instanceOf s) k .pair j (getD values j 0) v) (λ j. go (ltb j k) j) 0 k
+  where
+    go : (t : Bool) (j : ℕ)
+        → cond t (tableCost (unitsOf s) (domOf s) (costsOf s) j (getD values j 0) k v) (tableCost (unitsOf s) (domOf s) (costsOf s) k v j (getD values j 0)) ≡ 0
+    go true j = simp (none, and-false)
+    go false j = simp (none, and-false)
+
+-- the cost of own value v with value u of the unit at place j, before it
+pub stream-pair : (s : List ℕ) (k j u v from : ℕ) → isValue (domOf s k) v ≡ true → j < k → from ≡ 1 + unitsOf s + 2 * pairStart (domOf s) (unitsOf s) j k
+    → viewOf (instanceOf s) k .pair j u v ≡ cond (isValue (domOf s j) u) (u16At s (from + 2 * inPair (domOf s k) u v)) 0
+unfolding instanceOf
+stream-pair s k j u v from own h start =
+    let x : ℕ = pairStart (domOf s) (unitsOf s) j k + inPair (domOf s k) u v in
+    let a : getD (costsOf s) (2 * x) 0 ≡ getD s (from + 2 * inPair (domOf s k) u v) 0 = getD-drop (1 + unitsOf s) s (2 * x) 0 ∙ ap (λ (i : ℕ). getD s i 0) (omega arith) in
+    let b : getD (costsOf s) (2 * x + 1) 0 ≡ getD s (from + 2 * inPair (domOf s k) u v + 1) 0 = getD-drop (1 + unitsOf s) s (2 * x + 1) 0 ∙ ap (λ (i : ℕ). getD s i 0) (omega arith) in
+    let c : costNumber (costsOf s) x ≡ u16At s (from + 2 * inPair (domOf s k) u v) = rw (a, b) in
+    simp (lt-ltb j k h, lt-ltb k (unitsOf s) (value-inside s k v own), own, and-true, c)
+
+-- the sizes from the next place on
+pub sizes-after : (f : ℕ → ℕ) (j m : ℕ) → j < m → sumFrom f j (m - j) ≡ f j + sumFrom f (suc j) (m - suc j)
+sizes-after f j m h =
+    let e : m - j ≡ suc (m - suc j) = omega arith in
+    rw e
+
+-- ---- what is counted along, before the pair with the unit at place j
+
+pub record Running (s values : List ℕ) (place v later between row sum j : ℕ) : Type 0 where
+  pub inside : j ≤ place
+  pub later-sizes : later ≡ sumFrom (domOf s) j (unitsOf s - j)
+  pub between-sizes : between ≡ sumFrom (domOf s) j (place - j)
+  pub row-start : row ≡ rowStart (domOf s) (unitsOf s) j
+  pub cost-so-far : sum ≡ costWith (viewOf (instanceOf s) place) values j v
+  pub later-most : later ≤ 65025
+  pub between-most : between ≤ 65025
+  pub row-most : row ≤ 16581375 * j
+  pub sum-most : sum ≤ 65535 * j
+
+module _ (s values : List ℕ) (place v : ℕ) where
+  pub running-first : (later between : ℕ) → unitsOf s ≤ 255 → place ≤ 255 → later ≡ sumFrom (domOf s) 0 (unitsOf s) → between ≡ sumFrom (domOf s) 0 place
+      → later ≤ 255 * unitsOf s → between ≤ 255 * place → Running s values place v later between 0 0 0
+  running-first later between n k a b x y = record {
+    inside = omega arith;
+    later-sizes = rw sub-zero a;
+    between-sizes = rw sub-zero b;
+    row-start = refl;
+    cost-so-far = sym (cost-none (viewOf (instanceOf s) place) values v);
+    later-most = omega arith;
+    between-most = omega arith;
+    row-most = omega arith;
+    sum-most = omega arith;
+  }
+
+  module _ (later between row sum j e paid : ℕ) (own : isValue (domOf s place) v ≡ true) (now : Running s values place v later between row sum j) (more : j < place) (size : e ≡ domOf s j) (byte : e ≤ 255) where
+    in-units : j < unitsOf s
+    in-units = omega (arith, value-inside s place v own)
+
+    pub later-after : later ≡ e + sumFrom (domOf s) (suc j) (unitsOf s - suc j)
+    later-after = now .later-sizes ∙ sizes-after (domOf s) j (unitsOf s) in-units ∙ rw size
+
+    pub between-after : between ≡ e + sumFrom (domOf s) (suc j) (place - suc j)
+    between-after = now .between-sizes ∙ sizes-after (domOf s) j place more ∙ rw size
+
+    pub place-most : row + e * (between - e) ≤ 16581375 * place
+    place-most =
+        let b : between - e ≤ 65025 = omega (arith, now .between-most) in
+        omega (arith, mul-le-mul byte b, now .row-most)
+
+    -- where the costs of the pair start
+    pub pair-begins : row + e * (between - e) ≡ pairStart (domOf s) (unitsOf s) j place
+    pair-begins =
+        let b : between - e ≡ sumFrom (domOf s) (suc j) (place - suc j) = omega (arith, between-after) in
+        rw (now .row-start, b, size)
+
+    pub running-next : paid < 65536 → paid ≡ cond (isValue e (getD values j 0)) (u16At s (1 + unitsOf s + 2 * (row + e * (between - e)) + 2 * inPair (domOf s place) (getD values j 0) v)) 0
+        → Running s values place v (later - e) (between - e) (row + e * (later - e)) (sum + paid) (j + 1)
+    running-next small is =
+        let a : later - e ≡ sumFrom (domOf s) (suc j) (unitsOf s - suc j) = omega (arith, later-after) in
+        let b : between - e ≡ sumFrom (domOf s) (suc j) (place - suc j) = omega (arith, between-after) in
+        let from : 1 + unitsOf s + 2 * (row + e * (between - e)) ≡ 1 + unitsOf s + 2 * pairStart (domOf s) (unitsOf s) j place = ap (λ (x : ℕ). 1 + unitsOf s + 2 * x) pair-begins in
+        let l : later - e ≤ 65025 = omega (arith, now .later-most) in
+        let pair : paid ≡ viewOf (instanceOf s) place .pair j (getD values j 0) v =
+        is ∙ ap (λ (x : ℕ). cond (isValue x (getD values j 0)) (u16At s (1 + unitsOf s + 2 * (row + e * (between - e)) + 2 * inPair (domOf s place) (getD values j 0) v)) 0) size
+        ∙ sym (stream-pair s place j (getD values j 0) v (1 + unitsOf s + 2 * (row + e * (between - e))) own more from) in
+        record {
+          inside = omega arith;
+          later-sizes = rw add-one a;
+          between-sizes = rw add-one b;
+          row-start = rw (add-one, now .row-start, a, size);
+          cost-so-far = rw (now .cost-so-far, pair, cost-more);
+          later-most = l;
+          between-most = omega (arith, now .between-most);
+          row-most = omega (arith, now .row-most, mul-le-mul byte l);
+          sum-most = omega (arith, now .sum-most);
+        }

@@ -1,0 +1,76 @@
+// The cost of a value with the values before it, straight from a stream.
+
+use crate::is_value;
+use crate::stream::size_at;
+use crate::value_at;
+use crate::wide;
+ghost use mathlib.Core.Path.{_≡_};
+ghost use mathlib.Core.Bool.{cond, true};
+ghost use Prim.Native.Nat.{ℕ, _+_, _*_, _≤_, _<_};
+ghost use Rattle.base.specs.Bytes.{u16At};
+ghost use Rattle.base.specs.Sums.{sumFrom};
+ghost use Rattle.costs.specs.Instance.{isValue, inPair, viewOf, instanceOf};
+ghost use Rattle.costs.specs.Bounds.{costWith};
+ghost use Rattle.costs.specs.Gather.{domOf};
+
+// The cost of value v of the unit at place k with the values of the units before it.
+pub fn stream_cost_with(stream: &[u8], values: [u8; 16], k: u8, v: u8) -> u32
+    ensures { λ r. ⌜ r ≡ costWith (viewOf (instanceOf (now (stream .entry))) k) values k v ⌝ }
+{
+    let place = wide(k);
+    let own = wide(v);
+    let d = wide(size_at(stream, place));
+    if !is_value(d, own) {
+        return 0;
+    }
+    cost_before(stream, values, place, d, own)
+}
+
+// The same for a value v of the unit at `place`, which has d values. The costs of its pair with the unit at place j follow those of the
+// pairs of the units before j, and of j with the units between: both are counted along.
+fn cost_before(stream: &[u8], values: [u8; 16], place: usize, d: usize, v: usize) -> u32
+    requires { ⌜ (place < 256) × (d ≡ domOf (now stream) place) × (d < 256) × (isValue d v ≡ true) ⌝ }
+    ensures { λ r. ⌜ r ≡ costWith (viewOf (instanceOf (now (stream .entry))) place) values place v ⌝ }
+{
+    let units = wide(base::byte_at(stream, 0));
+    let mut later = all_sizes(stream, units);
+    let mut between = all_sizes(stream, place);
+    let mut row = 0;
+    let mut sum: u32 = 0;
+    let mut j = 0;
+    while j < place {
+        let e = wide(size_at(stream, j));
+        later -= e;
+        between -= e;
+        let u = value_at(values, j);
+        sum += cost_in_pair(stream, 1 + units + 2 * (row + e * between), d, e, u, v);
+        row += e * later;
+        j += 1;
+    }
+    sum
+}
+
+// The cost of the values u and v of units of e and d values, the costs of which start at byte `from`; 0 where u is no value.
+fn cost_in_pair(stream: &[u8], from: usize, d: usize, e: usize, u: usize, v: usize) -> u32
+    requires { ⌜ (from ≤ 17179869184) × (d < 256) × (u < 256) × (1 ≤ v) × (v < 256) ⌝ }
+    ensures { λ r. ⌜ (r ≡ cond (isValue e u) (u16At (now (stream .entry)) (from + 2 * inPair d u v)) 0) × (r < 65536) ⌝ }
+{
+    if !is_value(e, u) {
+        return 0;
+    }
+    base::u16_at(stream, from + 2 * ((u - 1) * d + (v - 1)))
+}
+
+// The sizes of the first m units, added up.
+fn all_sizes(stream: &[u8], m: usize) -> usize
+    requires { ⌜ m < 256 ⌝ }
+    ensures { λ r. ⌜ (r ≡ sumFrom (domOf (now (stream .entry))) 0 m) × (r ≤ 255 * m) ⌝ }
+{
+    let mut sum = 0;
+    let mut i = 0;
+    while i < m {
+        sum += wide(size_at(stream, i));
+        i += 1;
+    }
+    sum
+}
