@@ -4,3 +4,4 @@ pub mod Lent
 pub mod Trying
 pub mod Rules
 pub mod Ranges
+pub mod Calls

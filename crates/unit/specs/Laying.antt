@@ -150,11 +150,6 @@ module _ (n : ℕ) (m : Message) where
   handed-wide z zero = wide-each Stop (boundOnly m) (bound-sized m z) 1 (n - 1)
   handed-wide z (suc k) = wide-each Cpa m z k 1
 
-  -- behind what unit n hands back there is room for its solutions
-  pub handed-few : (k : ℕ) → suc k ≡ n → length (handBack n k m) + k ≤ n
-  handed-few zero e = rw (each-length (boundTo Stop m) 1 (n - 1)) (omega arith)
-  handed-few (suc k) e = omega arith
-
 module _ (n own : ℕ) (m : Message) (l : List ℕ) (first : 1 ≤ own) (z : Sized m) where
   place : suc (own - 1) ≡ own
   place = omega arith
@@ -224,3 +219,7 @@ pub sent-by : (n k : ℕ) (s : Sending) (p : Plan) (r : ℕ) (l t : List ℕ) �
     → (r ≡ length (packets n k s)) × (t ≡ laid (packets n k s) l)
 unfolding packets
 sent-by n k s p r l t e h = rw e h
+
+pub few-by : (n k : ℕ) (s : Sending) (p : Plan) → s .plan ≡ p → length (packets n k s) ≤ 16 → length (byPlan n k p (s .improved) (s .message)) ≤ 16
+unfolding packets
+few-by n k s p e h = rw (← e) h

@@ -1,6 +1,17 @@
 // One unit: its state, what it decides on a message, and what it sends.
 
 use message::Message;
+use message::Read;
+ghost use mathlib.Core.Path.{_≡_};
+ghost use Prim.Native.Nat.{ℕ, pred, _-_, _≤_};
+ghost use lib.ListN.{length};
+ghost use Rattle.costs.specs.Instance.{lentView};
+ghost use Rattle.unit.specs.State.{fresh, noUnit};
+ghost use Rattle.unit.specs.Step.{Out, refused, decidedOf};
+ghost use Rattle.unit.specs.Send.{packets};
+ghost use Rattle.unit.specs.Laying.{Room};
+ghost use Rattle.unit.specs.Calls.{outcomeOf, bytesOf, makeRefusal, start, makeOut, stepRefusal, stepOut};
+ghost use Rattle.unit.specs.Ready.{Shaped};
 
 mod decide; // what each message makes a unit do
 mod send; // what is sent, laid into the lent buffer
@@ -59,4 +70,151 @@ pub struct Outcome {
     pub unit: Unit,
     pub sent: u8,
     pub records: u8,
+}
+
+// A unit is made: unit 1 assigns, the others wait. Refusals 5, 10, 6, 7, 13 in order.
+pub fn make(own: u8, n: u8, sizes: [u8; 16], costs: &[u8], out: &mut [u8]) -> Outcome
+    ensures { λ r. ⌜ (r ≡ outcomeOf n (pred own) noUnit (makeOut own n sizes (now (costs .entry)) (length (now (out .entry))))) × (now (out .exit) ≡ bytesOf n (pred own) (now (out .entry)) (makeOut own n sizes (now (costs .entry)) (length (now (out .entry))))) ⌝ }
+{
+    let refusal = make_refusal(own, n, sizes, costs, out.len());
+    if refusal != 0 {
+        return refused(refusal, no_unit());
+    }
+    let d = start(own, n, sizes, costs);
+    carry_out(n, own, d, out)
+}
+
+// A step: the packet is read, and the unit does what it says. Refusals 13, 5, 10, 6, 7, 5, then reading's 8, 10, 9, then 12, 11.
+pub fn step(
+    u: Unit,
+    own: u8,
+    n: u8,
+    sizes: [u8; 16],
+    costs: &[u8],
+    packet: &[u8],
+    out: &mut [u8],
+) -> Outcome
+    ensures { λ r. ⌜ (r ≡ outcomeOf n (pred own) u (stepOut u own n sizes (now (costs .entry)) (now (packet .entry)) (length (now (out .entry))))) × (now (out .exit) ≡ bytesOf n (pred own) (now (out .entry)) (stepOut u own n sizes (now (costs .entry)) (now (packet .entry)) (length (now (out .entry))))) ⌝ }
+{
+    let refusal = step_refusal(u, own, n, sizes, costs, out.len());
+    if refusal != 0 {
+        return refused(refusal, u);
+    }
+    let parsed = message::parse_for(n, sizes, own, packet);
+    let answer = parsed.answer;
+    let Read::Good(kind) = answer else {
+        return refused(message::refusal_of(answer), u);
+    };
+    let m = parsed.message;
+    let d = decide::respond(own, n, sizes, costs, kind, u, m);
+    carry_out(n, own, d, out)
+}
+
+// The first refusal of making that applies, or 0.
+fn make_refusal(own: u8, n: u8, sizes: [u8; 16], costs: &[u8], room: usize) -> u8
+    ensures { λ r. ⌜ r ≡ makeRefusal own n sizes (now (costs .entry)) room ⌝ }
+{
+    if !base::shape_good(n, sizes) {
+        return 5;
+    }
+    if !message::is_unit(n, own) {
+        return 10;
+    }
+    let lent = costs::lent_refusal(own, n, sizes, costs);
+    if lent != 0 {
+        return lent;
+    }
+    if room < 1024 {
+        return 13;
+    }
+    0
+}
+
+// The first refusal of a step that applies before its packet is read, or 0.
+fn step_refusal(u: Unit, own: u8, n: u8, sizes: [u8; 16], costs: &[u8], room: usize) -> u8
+    ensures { λ r. ⌜ r ≡ stepRefusal u own n sizes (now (costs .entry)) room ⌝ }
+{
+    if room < 1024 {
+        return 13;
+    }
+    if !base::shape_good(n, sizes) {
+        return 5;
+    }
+    if !message::is_unit(n, own) {
+        return 10;
+    }
+    let lent = costs::lent_refusal(own, n, sizes, costs);
+    if lent != 0 {
+        return lent;
+    }
+    if !state::in_range(own, n, sizes, costs, u) {
+        return 5;
+    }
+    0
+}
+
+// What a new unit decides.
+fn start(own: u8, n: u8, sizes: [u8; 16], costs: &[u8]) -> Decided
+    requires { ⌜ Shaped own n sizes ⌝ }
+    ensures { λ r. ⌜ ((was : Unit) → r ≡ decidedOf was (start (lentView own n sizes (now (costs .entry))) (pred own))) ⌝ }
+{
+    let u = fresh();
+    if own == 1 {
+        return decide::assign(own, n, sizes, costs, u);
+    }
+    decide::quiet(u)
+}
+
+// What was decided is sent and handed back.
+fn carry_out(n: u8, own: u8, d: Decided, out: &mut [u8]) -> Outcome
+    requires { ⌜ Room own n (now out) × (length (packets n (own - 1) (d .sending)) ≤ 16) ⌝ }
+    ensures { λ r. ⌜ ((was : Unit) (o : Out) → d ≡ decidedOf was o → (r ≡ outcomeOf n (pred own) was o) × (now (out .exit) ≡ bytesOf n (pred own) (now (out .entry)) o)) ⌝ }
+{
+    let sending = d.sending;
+    let sent = send::send(n, own, sending, out);
+    let unit = d.unit;
+    Outcome {
+        refusal: d.refusal,
+        unit,
+        sent,
+        records: d.records,
+    }
+}
+
+// A refusal: nothing sent, no record.
+fn refused(refusal: u8, unit: Unit) -> Outcome
+    ensures { λ r. ⌜ ((n k : ℕ) → r ≡ outcomeOf n k unit (refused refusal)) ⌝ }
+{
+    Outcome {
+        refusal,
+        unit,
+        sent: 0,
+        records: 0,
+    }
+}
+
+// A new unit: bound *none*, all else zero.
+fn fresh() -> Unit
+    ensures { λ r. ⌜ r ≡ fresh ⌝ }
+{
+    let mut u = no_unit();
+    u.bound = message::NONE;
+    u
+}
+
+// The unit beside a refusal of making: all zero.
+fn no_unit() -> Unit
+    ensures { λ r. ⌜ r ≡ noUnit ⌝ }
+{
+    Unit {
+        threshold: [0u8; 16],
+        bound: 0,
+        best: [0u8; 16],
+        estimates: [0u32; 16],
+        stamp: [0u8; 16],
+        values: [0u8; 16],
+        cost: 0,
+        counter: 0,
+        stopped: false,
+    }
 }

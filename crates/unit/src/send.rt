@@ -5,7 +5,7 @@ use crate::Sending;
 use message::Kind;
 use message::Message;
 ghost use mathlib.Core.Path.{_≡_};
-ghost use mathlib.Core.Bool.{Bool, true};
+ghost use mathlib.Core.Bool.{Bool};
 ghost use Prim.Native.Nat.{_+_, _*_, _-_, _≤_};
 ghost use lib.ListN.{length};
 ghost use Rattle.message.specs.Encode.{putAt};
@@ -15,7 +15,7 @@ ghost use Rattle.unit.specs.Laying.{withReceiver, addressed, noBound, bo
 
 // The messages of a plan are laid at the front; how many.
 pub(crate) fn send(n: u8, own: u8, s: Sending, out: &mut [u8]) -> u8
-    requires { ⌜ Room own n (now out) × (s .improved ≡ true → own ≡ n) ⌝ }
+    requires { ⌜ Room own n (now out) × (length (packets n (own - 1) s) ≤ 16) ⌝ }
     ensures { λ r. ⌜ (r ≡ length (packets n (own - 1) s)) × (now (out .exit) ≡ laid (packets n (own - 1) s) (now (out .entry))) ⌝ }
 {
     let m = s.message;
@@ -43,7 +43,7 @@ fn forward(n: u8, own: u8, m: Message, out: &mut [u8]) -> u8
 
 // The cpa or the stops, and solutions behind it if unit n improved.
 fn back(n: u8, own: u8, improved: bool, m: Message, out: &mut [u8]) -> u8
-    requires { ⌜ Room own n (now out) × (improved ≡ true → own ≡ n) ⌝ }
+    requires { ⌜ Room own n (now out) × (length (byPlan n (own - 1) Back improved m) ≤ 16) ⌝ }
     ensures { λ r. ⌜ (r ≡ length (byPlan n (own - 1) Back improved m)) × (now (out .exit) ≡ laid (byPlan n (own - 1) Back improved m) (now (out .entry))) ⌝ }
 {
     let sent = hand_back(n, own, m, out);

@@ -1,13 +1,13 @@
 -- `back` meets its contract: the solutions to lower and to higher units are laid behind what is handed back.
 -- Assumes nothing.
 use Prim.Native.Nat.{_+_, _-_, _≤_}
-use mathlib.Core.Path.{_≡_, _∙_}
+use mathlib.Core.Path.{_≡_, refl, _∙_}
 use mathlib.Core.Bool.{true}
 use native.Mathlib.Omega.{arith}
 use lib.ListN.{length}
 use borrow.Author.Tests.{not-true, not-false}
 use Rattle.message.specs.Message.{Sized}
-use Rattle.unit.specs.Laying.{handed-few, back-laid, back-count, back-quiet}
+use Rattle.unit.specs.Laying.{back-laid, back-count, back-quiet}
 use borrow.Author.Needs.{needs}
 use Rattle.unit.proofs.send.back.Statement.{statement}
 use Rattle.unit.proofs.send.back.Tie as tie
@@ -16,12 +16,12 @@ use Rattle.unit.proofs.send.back.Tie as tie
 sized : (c : tie.Start) → Sized (c .args .m)
 sized c = record { stamp = search needs; values = search needs; best = search needs; cost = search needs; bound = search needs }
 
--- there is room for the solutions to lower units, and unit n has no higher ones
-room : (c : tie.Else1) → let a = c .before .before .before .before .before .before .args in (a .own ≡ a .n) × (c .before .before .before .hand-back .result + (a .own - 1) ≤ a .n)
+-- there is room for the solutions: they are at most 16 with what is handed back
+room : (c : tie.Else1) → let a = c .before .before .before .before .before .before .args in c .before .before .before .hand-back .result + (a .own - 1) + (a .n - a .own) ≤ 16
 room c =
     let s = c .before .before .before .before .before .before in
-    let e : s .args .own ≡ s .args .n = s .pre .1 (not-false _ (c .if1 .left)) in
-    (e, rw (c .before .before .before .hand-back .ensures .0) (handed-few (s .args .n) (s .args .m) (s .args .own - 1) (omega arith)))
+    let a = s .args in
+    rw (back-count (a .n) (a .own) (a .m) (a .out .now) (omega arith) (sized s) (a .improved) _ _ (not-false _ (c .if1 .left)) (c .before .before .before .hand-back .ensures .0) refl) (s .pre .1)
 
 hand-back-requires : tie.Need-hand-back-requires
 hand-back-requires c κs = search needs
@@ -43,7 +43,7 @@ spread-requires c κs =
     let a = c .before .before .before .before .before .before .before .before .args in
     let few = room (c .before .before) in
     let same : length (c .before .before .before .before .before .hand-back .last .1 .1 .1 .0) ≡ length (a .out .now) = search needs in
-    (omega arith, omega (arith, few .1), omega (arith, few .1, same))
+    (omega arith, omega (arith, few), omega (arith, few, same))
 
 sub-spread-2 : tie.Need-sub-spread-2
 sub-spread-2 c = search needs
@@ -54,7 +54,7 @@ spread-requires-2 c κs =
     let few = room (c .before .before .before .before .before .before) in
     let lower = c .before .before .before .spread .ensures .0 in
     let same : length (c .before .before .before .spread .last .1 .1 .1 .1 .0) ≡ length (a .out .now) = search needs in
-    (omega (arith, few .0), omega (arith, few, lower), omega (arith, few, lower, same))
+    (omega arith, omega (arith, few, lower), omega (arith, few, lower, same))
 
 same-length-2 : tie.Need-same-length-2
 same-length-2 c = search needs

@@ -5,7 +5,7 @@ use mathlib.Core.Path.{refl, sym, _∙_}
 use native.Mathlib.Omega.{arith}
 use Rattle.message.specs.Message.{Sized}
 use Rattle.unit.specs.declared.Plan.the-variants.{Nothing, Forward, Back, Reply}
-use Rattle.unit.specs.Laying.{laid-none, reply-laid, sent-by}
+use Rattle.unit.specs.Laying.{laid-none, reply-laid, sent-by, few-by}
 use borrow.Author.Needs.{needs}
 use Rattle.unit.proofs.send.send.Statement.{statement}
 use Rattle.unit.proofs.send.send.Tie as tie
@@ -23,7 +23,7 @@ enum-told-3 : tie.Need-enum-told-3
 enum-told-3 c = search needs
 
 back-requires : tie.Need-back-requires
-back-requires c κs = search needs
+back-requires c κs = let s = c .before .before .before .before .before in (s .pre .0, few-by (s .args .n) (s .args .own - 1) (s .args .s) Back (c .before .enum-told3 .given .1) (s .pre .1))
 
 enum-told-4 : tie.Need-enum-told-4
 enum-told-4 c = search needs

@@ -1,0 +1,203 @@
+-- What making and a step go by: which refusal comes first, what the checks passed say, and what was decided as the caller gets it.
+-- By the definitions of the calls; what is sent is at most 16 packets, by the laws of a unit. Assumes nothing.
+use Prim.Native.Nat.{ℕ, zero, suc, pred, _-_, _≤_, _<_}
+use native.Mathlib.Omega.{arith}
+use mathlib.Core.Path.{_≡_, refl, sym, ap, subst, _∙_}
+use mathlib.Core.Bool.{Bool, true, false}
+use mathlib.Core.List.{List}
+use lib.Dec.{eqb}
+use lib.ListN.{length}
+use borrow.Author.Tests.{lt-ltb, le-ltb, eq-eqb, ne-eqb, eqb-true}
+use Rattle.base.specs.Shape.{shapeGood, shape-n}
+use Rattle.costs.specs.Instance.{View, lentView}
+use Rattle.costs.specs.Lent.{lentRefusal}
+use Rattle.message.specs.declared.Message.{Message}
+use Rattle.message.specs.declared.Parsed.{Parsed}
+use Rattle.message.specs.declared.Kind.{Kind}
+use Rattle.message.specs.declared.Read.{Read}
+use Rattle.message.specs.declared.Read.the-variants.{Good, Refused}
+use Rattle.message.specs.Message.{Sized, isUnit, refusalOf}
+use Rattle.message.specs.Decode.{messageIn, forUnit, parseFor}
+use Rattle.message.specs.RoundTrip as trip
+use Rattle.unit.specs.declared.Unit.{Unit}
+use Rattle.unit.specs.declared.Decided.{Decided}
+use Rattle.unit.specs.declared.Outcome.{Outcome}
+use Rattle.unit.specs.State.{fresh, inRange}
+use Rattle.unit.specs.Step.{Out, refused, accepted, stale, assign, respond, decidedOf}
+use Rattle.unit.specs.Send.{packets, laid}
+use Rattle.unit.specs.Laying.{Room, laid-none}
+use Rattle.unit.specs.Calls.{outcomeOf, bytesOf, makeRefusal, start, unlessRefused, makeOut, stepRefusal, onRead, stepOut}
+use Rattle.unit.specs.Ready.{Shaped, Ready, Heard}
+use Rattle.unit.specs.Laws.Views.{unit-range, lent-good}
+use Rattle.unit.specs.Laws.Range.{SizedUnit}
+use Rattle.unit.specs.Laws.Assign.{Whenever, Kept}
+use Rattle.unit.specs.Laws.Steps.{respond-kept, start-kept}
+use Rattle.unit.specs.Laws.Calls.{Makes, Passed}
+use Rattle.unit.specs.Laws.Readiness.{own-of, shaped-of, ready-of, heard-of}
+
+pred-sub : (k : ℕ) → pred k ≡ k - 1
+pred-sub zero = refl
+pred-sub (suc k) = omega arith
+
+-- ---- what the caller gets
+
+-- a result and the bytes left, of what was decided
+abbrev pub Told : ℕ → ℕ → Unit → List ℕ → Outcome → List ℕ → Out → Type 0
+Told n k was l r t o = (r ≡ outcomeOf n k was o) × (t ≡ bytesOf n k l o)
+
+pub told-by : (n k : ℕ) (was : Unit) (l : List ℕ) (r : Outcome) (t : List ℕ) (o o′ : Out) → o ≡ o′ → Told n k was l r t o′ → Told n k was l r t o
+told-by n k was l r t o o′ e h = rw e h
+
+pub told-refused : (n k : ℕ) (was : Unit) (l : List ℕ) (r : Outcome) (o : Out) (x : ℕ) → o ≡ refused x → r ≡ outcomeOf n k was (refused x) → Told n k was l r l o
+told-refused n k was l r o x e h = rw e (h, refl)
+
+pub carried-out : (n own : ℕ) (was : Unit) (o : Out) (d : Decided) (sent : ℕ) (l t : List ℕ) → d ≡ decidedOf was o → sent ≡ length (packets n (own - 1) (d .sending))
+    → t ≡ laid (packets n (own - 1) (d .sending)) l → Told n (pred own) was l (record { refusal = d .refusal; unit = d .unit; sent = sent; records = d .records }) t o
+unfolding packets
+carried-out n own was (refused x) d sent l t e f g = rw (f, g, e) (refl, laid-none l)
+carried-out n own was (accepted u s ws) d sent l t e f g = rw (f, g, e, pred-sub own) (refl, refl)
+
+-- ---- what was decided is at most 16 packets
+
+few-decided : (n : ℕ) (sizes : List ℕ) (w : View) (was : Unit) (o : Out) (d : Decided) → d ≡ decidedOf was o → Whenever (Kept n sizes w 16) o → length (packets n (w .place) (d .sending)) ≤ 16
+unfolding packets
+few-decided n sizes w was (refused x) d e h = rw e (omega arith)
+few-decided n sizes w was (accepted u s ws) d e h = rw e (h .few)
+
+room-of : (own n : ℕ) (sizes out : List ℕ) → shapeGood n sizes ≡ true → isUnit n own ≡ true → 1024 ≤ length out → Room own n out
+room-of own n sizes out s i f = let u = unit-range n own i in record { first = u .0; last = u .1; units = shape-n n sizes s .1; bytes = f }
+
+place-of : (own n : ℕ) (sizes costs : List ℕ) → lentView own n sizes costs .place ≡ own - 1
+unfolding lentView
+place-of own n sizes costs = pred-sub own
+
+-- ---- making
+
+module _ (own n : ℕ) (sizes costs : List ℕ) (room : ℕ) where
+  pub make-5 : shapeGood n sizes ≡ false → 5 ≡ makeRefusal own n sizes costs room
+  unfolding makeRefusal
+  make-5 a = rw a
+
+  pub make-10 : shapeGood n sizes ≡ true → isUnit n own ≡ false → 10 ≡ makeRefusal own n sizes costs room
+  unfolding makeRefusal
+  make-10 a b = rw (a, b)
+
+  pub make-lent : shapeGood n sizes ≡ true → isUnit n own ≡ true → (r : ℕ) → r ≡ lentRefusal own n sizes costs → (r ≡ 0 → ⊥) → r ≡ makeRefusal own n sizes costs room
+  unfolding makeRefusal
+  make-lent a b r e f = rw (a, b, ← e, ne-eqb r 0 f)
+
+  pub make-13 : shapeGood n sizes ≡ true → isUnit n own ≡ true → (r : ℕ) → r ≡ lentRefusal own n sizes costs → r ≡ 0 → room < 1024 → 13 ≡ makeRefusal own n sizes costs room
+  unfolding makeRefusal
+  make-13 a b r e f g = rw (a, b, ← e, eq-eqb r 0 f, lt-ltb room 1024 g)
+
+  pub make-0 : shapeGood n sizes ≡ true → isUnit n own ≡ true → (r : ℕ) → r ≡ lentRefusal own n sizes costs → r ≡ 0 → 1024 ≤ room → 0 ≡ makeRefusal own n sizes costs room
+  unfolding makeRefusal
+  make-0 a b r e f g = rw (a, b, ← e, eq-eqb r 0 f, le-ltb room 1024 g)
+
+unless : (r : ℕ) (o : Out) → (r ≡ 0 → ⊥) → unlessRefused r o ≡ refused r
+unless zero o h = absurd (h refl)
+unless (suc r) o h = refl
+
+module _ (own n : ℕ) (sizes costs : List ℕ) (room : ℕ) where
+  pub make-stops : (r : ℕ) → r ≡ makeRefusal own n sizes costs room → (r ≡ 0 → ⊥) → makeOut own n sizes costs room ≡ refused r
+  unfolding makeOut
+  make-stops r e h = rw (← e) (unless r _ h)
+
+  pub make-starts : (r : ℕ) → r ≡ makeRefusal own n sizes costs room → r ≡ 0 → makeOut own n sizes costs room ≡ start (lentView own n sizes costs) (pred own)
+  unfolding makeOut
+  make-starts r e h = rw (← e, h)
+
+module _ (own n : ℕ) (sizes costs out : List ℕ) (m : Makes own n sizes costs (length out)) where
+  pub make-shaped : Shaped own n sizes
+  make-shaped = shaped-of own n sizes (m .shape) (m .unit)
+
+  pub make-room : Room own n out
+  make-room = room-of own n sizes out (m .shape) (m .unit) (m .fits)
+
+  pub make-few : n ≤ length sizes → (was : Unit) (d : Decided) → d ≡ decidedOf was (start (lentView own n sizes costs) (pred own)) → length (packets n (own - 1) (d .sending)) ≤ 16
+  unfolding lentView
+  make-few long was d e =
+      let w : View = lentView own n sizes costs in
+      rw (← pred-sub own) (few-decided n sizes w was (start w (pred own)) d e (start-kept n sizes w (lent-good own n sizes costs (m .shape) long (m .unit) (m .lent)) (pred own) refl))
+
+pub start-first : (own : ℕ) (was : Unit) (w : View) → own ≡ 1 → decidedOf was (assign w fresh) ≡ decidedOf was (start w (pred own))
+start-first own was w e = rw e
+
+pub start-later : (own : ℕ) (was : Unit) (w : View) → 1 ≤ own → (own ≡ 1 → ⊥) → decidedOf was (stale fresh) ≡ decidedOf was (start w (pred own))
+start-later own was w h f = let e : pred own ≡ suc (own - 2) = pred-sub own ∙ omega arith in rw e
+
+-- ---- a step
+
+module _ (u : Unit) (own n : ℕ) (sizes costs : List ℕ) (room : ℕ) where
+  pub step-13 : room < 1024 → 13 ≡ stepRefusal u own n sizes costs room
+  unfolding stepRefusal
+  step-13 h = rw (lt-ltb room 1024 h)
+
+  module _ (fits : 1024 ≤ room) where
+    pub step-5 : shapeGood n sizes ≡ false → 5 ≡ stepRefusal u own n sizes costs room
+    unfolding stepRefusal
+    step-5 a = rw (le-ltb room 1024 fits, a)
+
+    pub step-10 : shapeGood n sizes ≡ true → isUnit n own ≡ false → 10 ≡ stepRefusal u own n sizes costs room
+    unfolding stepRefusal
+    step-10 a b = rw (le-ltb room 1024 fits, a, b)
+
+    pub step-lent : shapeGood n sizes ≡ true → isUnit n own ≡ true → (r : ℕ) → r ≡ lentRefusal own n sizes costs → (r ≡ 0 → ⊥) → r ≡ stepRefusal u own n sizes costs room
+    unfolding stepRefusal
+    step-lent a b r e f = rw (le-ltb room 1024 fits, a, b, ← e, ne-eqb r 0 f)
+
+    pub step-state : shapeGood n sizes ≡ true → isUnit n own ≡ true → (r : ℕ) → r ≡ lentRefusal own n sizes costs → r ≡ 0 → inRange sizes (lentView own n sizes costs) u ≡ false
+        → 5 ≡ stepRefusal u own n sizes costs room
+    unfolding stepRefusal
+    step-state a b r e f g = rw (le-ltb room 1024 fits, a, b, ← e, eq-eqb r 0 f, g)
+
+    pub step-0 : shapeGood n sizes ≡ true → isUnit n own ≡ true → (r : ℕ) → r ≡ lentRefusal own n sizes costs → r ≡ 0 → inRange sizes (lentView own n sizes costs) u ≡ true
+        → 0 ≡ stepRefusal u own n sizes costs room
+    unfolding stepRefusal
+    step-0 a b r e f g = rw (le-ltb room 1024 fits, a, b, ← e, eq-eqb r 0 f, g)
+
+  module _ (bytes : List ℕ) (r : ℕ) (e : r ≡ stepRefusal u own n sizes costs room) where
+    pub step-stops : (r ≡ 0 → ⊥) → stepOut u own n sizes costs bytes room ≡ refused r
+    unfolding stepOut
+    step-stops h = rw (← e) (unless r _ h)
+
+    -- 01: "unless reading gave a message, the step ends there"
+    pub step-unread : r ≡ 0 → (p : Parsed) → p ≡ parseFor n sizes own bytes → (x : ℕ) → p .answer ≡ Refused x → (y : ℕ) → y ≡ refusalOf (p .answer) → stepOut u own n sizes costs bytes room ≡ refused y
+    unfolding stepOut
+    step-unread z p f x a y g = rw (g, ← e, z, ← f, a)
+
+    pub step-reads : r ≡ 0 → (p : Parsed) → p ≡ parseFor n sizes own bytes → (k : Kind) → p .answer ≡ Good k → stepOut u own n sizes costs bytes room ≡ respond (lentView own n sizes costs) k u (p .message)
+    unfolding stepOut
+    step-reads z p f k a = rw (← e, z, ← f, a)
+
+module _ (u : Unit) (own n : ℕ) (sizes costs out : List ℕ) (q : Passed u own n sizes costs (length out)) where
+  pub step-room : Room own n out
+  step-room = room-of own n sizes out (q .shape) (q .unit) (q .fits)
+
+  module _ (long : n ≤ length sizes) (bytes : List ℕ) (p : Parsed) (read : p ≡ parseFor n sizes own bytes) (k : Kind) (good : p .answer ≡ Good k) where
+    known : trip.Accepted n sizes own bytes k
+    known = trip.accepted n sizes own bytes k (ap (λ (x : Parsed). x .answer) (sym read) ∙ good)
+
+    fields : p .message ≡ messageIn bytes
+    fields = ap (λ (x : Parsed). x .message) (read ∙ known .whole)
+
+    to-own : p .message .receiver ≡ own
+    unfolding forUnit
+    to-own =
+        let z : eqb own 0 ≡ false = ne-eqb own 0 (λ x. omega (arith, unit-range n own (q .unit) .0)) in
+        rw fields (eqb-true (messageIn bytes .receiver) own (rw z at (known .receiver)))
+
+    pub step-asks : Shaped own n sizes × Ready own u × Heard own (p .message)
+    step-asks = (
+      shaped-of own n sizes (q .shape) (q .unit),
+      ready-of own n sizes costs u (own-of own n sizes (q .shape) (q .unit)) (q .state),
+      heard-of own n sizes k (p .message) (q .shape) long (rw fields (known .address)) to-own (rw fields (known .formed)),
+    )
+
+    pub step-few : SizedUnit u → Sized (p .message) → (was : Unit) (d : Decided) → d ≡ decidedOf was (respond (lentView own n sizes costs) k u (p .message)) → length (packets n (own - 1) (d .sending)) ≤ 16
+    unfolding lentView
+    step-few arrays z was d e =
+        let w : View = lentView own n sizes costs in
+        let to : p .message .receiver ≡ suc (pred own) = omega (arith, to-own, unit-range n own (q .unit) .0) in
+        rw (← pred-sub own) (few-decided n sizes w was (respond w k u (p .message)) d e
+        (respond-kept n sizes w (lent-good own n sizes costs (q .shape) long (q .unit) (q .lent)) k u (p .message) (q .state) arrays record { address = rw fields (known .address); form = rw fields (known .formed); arrays = z } to))

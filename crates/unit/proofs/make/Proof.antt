@@ -1,0 +1,58 @@
+-- `make` meets its contract: the first refusal that applies with a unit all zero, or what a new unit decides.
+-- Assumes nothing.
+use Prim.Native.Nat.{pred, _≤_}
+use mathlib.Core.Path.{_≡_, refl, sym, _∙_}
+use native.Mathlib.Omega.{arith}
+use lib.ListN.{length}
+use Rattle.base.specs.Shape.{shape-n}
+use Rattle.costs.specs.Instance.{lentView}
+use Rattle.unit.specs.State.{noUnit}
+use Rattle.unit.specs.Calls.{start}
+use Rattle.unit.specs.Laws.Calls.{Makes, makes}
+use Rattle.unit.proofs.Calls.{told-by, told-refused, make-stops, make-starts, make-shaped, make-room, make-few}
+use borrow.Author.Needs.{needs}
+use Rattle.unit.proofs.make.Statement.{statement}
+use Rattle.unit.proofs.make.Tie as tie
+
+-- what the checks have said
+made : (c : tie.Else1) → let a = c .before .before .before .before .args in Makes (a .own) (a .n) (a .sizes) (a .costs .now) (length (a .out .now))
+made c = let a = c .before .before .before .before .args in makes (a .own) (a .n) (a .sizes) (a .costs .now) (length (a .out .now)) (sym (c .before .make-refusal .ensures) ∙ c .if1 .left)
+
+make-refusal-requires : tie.Need-make-refusal-requires
+make-refusal-requires c κs = search needs
+
+no-unit-requires : tie.Need-no-unit-requires
+no-unit-requires c κs = search needs
+
+refused-requires : tie.Need-refused-requires
+refused-requires c κs = search needs
+
+returns : tie.Need-returns
+returns c =
+    let a = c .before .before .before .before .before .before .args in
+    told-refused (a .n) (pred (a .own)) noUnit (a .out .now) _ _ _ (make-stops (a .own) (a .n) (a .sizes) (a .costs .now) (length (a .out .now)) _ (c .before .before .before .make-refusal .ensures) (c .before .before .if1 .taken))
+    (c .refused .ensures (a .n) (pred (a .own)) ∙ rw (c .before .no-unit .ensures))
+
+start-requires : tie.Need-start-requires
+start-requires c κs = let a = c .before .before .before .before .args in make-shaped (a .own) (a .n) (a .sizes) (a .costs .now) (a .out .now) (made c)
+
+carry-out-requires : tie.Need-carry-out-requires
+carry-out-requires c κs =
+    let a = c .before .before .before .before .before .before .args in
+    let m = made (c .before .before) in
+    let sixteen : length (a .sizes) ≡ 16 = search needs in (
+      make-room (a .own) (a .n) (a .sizes) (a .costs .now) (a .out .now) m,
+      make-few (a .own) (a .n) (a .sizes) (a .costs .now) (a .out .now) m (omega (arith, sixteen, shape-n (a .n) (a .sizes) (m .shape) .1)) noUnit _ (c .before .start .ensures noUnit),
+    )
+
+same-length : tie.Need-same-length
+same-length c = search needs
+
+returns-2 : tie.Need-returns-2
+returns-2 c =
+    let a = c .before .before .before .before .before .before .before .before .before .args in
+    told-by (a .n) (pred (a .own)) noUnit (a .out .now) _ _ _ _ (make-starts (a .own) (a .n) (a .sizes) (a .costs .now) (length (a .out .now)) _ (c .before .before .before .before .before .before .make-refusal .ensures) (c .before .before .before .before .before .if1 .left))
+    (c .before .before .carry-out .ensures noUnit (start (lentView (a .own) (a .n) (a .sizes) (a .costs .now)) (pred (a .own))) (c .before .before .before .before .start .ensures noUnit))
+
+pub make-spec : {M : Type 1} → statement M
+make-spec = tie.close (tie.spec make-refusal-requires no-unit-requires refused-requires returns start-requires carry-out-requires same-length returns-2)

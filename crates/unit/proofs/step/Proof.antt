@@ -1,0 +1,113 @@
+-- `step` meets its contract: the first refusal that applies, reading's refusal, or what the unit decides on the message read.
+-- Assumes nothing.
+use Prim.Native.Nat.{pred, _≤_}
+use mathlib.Core.Path.{_≡_, refl, sym, _∙_}
+use native.Mathlib.Omega.{arith}
+use lib.ListN.{length}
+use Rattle.base.specs.Shape.{shape-n}
+use Rattle.costs.specs.Instance.{lentView}
+use Rattle.message.specs.declared.Parsed.{Parsed}
+use Rattle.message.specs.Message.{Sized}
+use Rattle.unit.specs.Step.{respond}
+use Rattle.unit.specs.Laws.Range.{SizedUnit}
+use Rattle.unit.specs.Laws.Calls.{Passed, passed}
+use Rattle.unit.proofs.Calls.{told-by, told-refused, step-stops, step-unread, step-reads, step-room, step-asks, step-few}
+use contract.Lifetimes.{Lfts}
+use borrow.Author.Needs.{needs}
+use Rattle.unit.proofs.step.Statement.{statement}
+use Rattle.unit.proofs.step.Tie as tie
+use Rattle.unit.proofs.step.Lts as lts
+
+-- what the types say of the state and of the message read
+arrays : (c : tie.Start) → SizedUnit (c .args .u)
+arrays c = record { threshold = search needs; best = search needs; estimates = search needs; stamp = search needs; values = search needs }
+
+sized : (κs : Lfts 1) (p : Parsed) → lts.r·2 .is .Ok κs p → Sized (p .message)
+sized κs p ok = record { stamp = search needs; values = search needs; best = search needs; cost = search needs; bound = search needs }
+
+-- what the checks have said
+through : (c : tie.Else1) → let a = c .before .before .before .before .before .args in Passed (a .u) (a .own) (a .n) (a .sizes) (a .costs .now) (length (a .out .now))
+through c = let a = c .before .before .before .before .before .args in passed (a .own) (a .n) (a .sizes) (a .costs .now) (length (a .out .now)) (a .u) (sym (c .before .step-refusal .ensures) ∙ c .if1 .left)
+
+long : (c : tie.Else1) → let a = c .before .before .before .before .before .args in a .n ≤ length (a .sizes)
+long c =
+    let a = c .before .before .before .before .before .args in
+    let sixteen : length (a .sizes) ≡ 16 = search needs in
+    omega (arith, sixteen, shape-n (a .n) (a .sizes) (through c .shape) .1)
+
+step-refusal-requires : tie.Need-step-refusal-requires
+step-refusal-requires c κs = search needs
+
+refused-requires : tie.Need-refused-requires
+refused-requires c κs = search needs
+
+returns : tie.Need-returns
+returns c =
+    let a = c .before .before .before .before .before .before .args in
+    told-refused (a .n) (pred (a .own)) (a .u) (a .out .now) _ _ _
+    (step-stops (a .u) (a .own) (a .n) (a .sizes) (a .costs .now) (length (a .out .now)) (a .packet .now) _ (c .before .before .step-refusal .ensures) (c .before .if1 .taken)) (c .refused .ensures (a .n) (pred (a .own)))
+
+parse-for-requires : tie.Need-parse-for-requires
+parse-for-requires c κs = search needs
+
+enum-known-answer : tie.Need-enum-known-answer
+enum-known-answer c = search needs
+
+enum-told : tie.Need-enum-told
+enum-told c = search needs
+
+refusal-of-requires : tie.Need-refusal-of-requires
+refusal-of-requires c κs = search needs
+
+refused-requires-2 : tie.Need-refused-requires-2
+refused-requires-2 c κs = search needs
+
+returns-2 : tie.Need-returns-2
+returns-2 c =
+    let a = c .before .before .before .before .before .before .before .before .before .before .args in
+    told-refused (a .n) (pred (a .own)) (a .u) (a .out .now) _ _ _
+    (step-unread (a .u) (a .own) (a .n) (a .sizes) (a .costs .now) (length (a .out .now)) (a .packet .now) _ (c .before .before .before .before .before .before .step-refusal .ensures) (c .before .before .before .before .before .if1 .left) (c .before .before .before .before .parse-for .result) (c .before .before .before .before .parse-for .ensures) _
+    (c .before .before .enum-told .given .1) _ (c .before .refusal-of .ensures))
+    (c .refused2 .ensures (a .n) (pred (a .own)))
+
+respond-requires : tie.Need-respond-requires
+respond-requires c κs =
+    let a = c .before .before .before .before .before .before .before .before .before .before .args in
+    step-asks (a .u) (a .own) (a .n) (a .sizes) (a .costs .now) (a .out .now) (through (c .before .before .before .before .before)) (long (c .before .before .before .before .before)) (a .packet .now) (c .before .before .before .before .parse-for .result) (c .before .before .before .before .parse-for .ensures) _ (c .before .before .answer .given .1)
+
+carry-out-requires : tie.Need-carry-out-requires
+carry-out-requires c κs =
+    let a = c .before .before .before .before .before .before .before .before .before .before .before .before .args in (
+      step-room (a .u) (a .own) (a .n) (a .sizes) (a .costs .now) (a .out .now) (through (c .before .before .before .before .before .before .before)),
+      step-few (a .u) (a .own) (a .n) (a .sizes) (a .costs .now) (a .out .now) (through (c .before .before .before .before .before .before .before)) (long (c .before .before .before .before .before .before .before)) (a .packet .now) (c .before .before .before .before .before .before .parse-for .result) (c .before .before .before .before .before .before .parse-for .ensures) _ (c .before .before .before .before .answer .given .1)
+          (arrays (c .before .before .before .before .before .before .before .before .before .before .before .before)) (sized (c .before .before .before .before .before .before .parse-for .lifetimes) (c .before .before .before .before .before .before .parse-for .result) (c .before .before .before .before .before .before .parse-for .ok)) (a .u) _ (c .before .respond .ensures),
+    )
+
+same-length : tie.Need-same-length
+same-length c = search needs
+
+returns-3 : tie.Need-returns-3
+returns-3 c =
+    let a = c .before .before .before .before .before .before .before .before .before .before .before .before .before .before .before .args in
+    let good = c .before .before .before .before .before .before .before .answer .given .1 in
+    told-by (a .n) (pred (a .own)) (a .u) (a .out .now) _ _ _ _
+    (step-reads (a .u) (a .own) (a .n) (a .sizes) (a .costs .now) (length (a .out .now)) (a .packet .now) _ (c .before .before .before .before .before .before .before .before .before .before .before .step-refusal .ensures) (c .before .before .before .before .before .before .before .before .before .before .if1 .left) (c .before .before .before .before .before .before .before .before .before .parse-for .result) (c .before .before .before .before .before .before .before .before .before .parse-for .ensures) _ good)
+    (c .before .before .carry-out .ensures (a .u) (respond (lentView (a .own) (a .n) (a .sizes) (a .costs .now)) _ (a .u) (c .before .before .before .before .before .before .before .before .before .parse-for .result .message)) (c .before .before .before .before .respond .ensures))
+
+pub step-spec : {M : Type 1} → statement M
+step-spec =
+    tie.close
+    (tie.spec
+    step-refusal-requires
+    refused-requires
+    returns
+    parse-for-requires
+    enum-known-answer
+    enum-told
+    refusal-of-requires
+    refused-requires-2
+    returns-2
+    respond-requires
+    carry-out-requires
+    same-length
+    returns-3)
