@@ -1,12 +1,12 @@
 -- The view of a unit from what is lent with it: its place, the number of units, its own domain size and value.
 -- By computing. Assumes nothing.
-use Prim.Native.Nat.{ℕ, zero, suc, pred, _-_, _≤_, _<_}
+use Prim.Native.Nat.{ℕ, zero, suc, pred, _-_, _≤_}
 use native.Mathlib.Omega.{arith}
-use mathlib.Core.Path.{_≡_, refl, sym, ap, _∙_}
+use mathlib.Core.Path.{_≡_, refl, ap}
 use mathlib.Core.List.{List}
-use lib.ListN.{getD, take, length}
+use lib.ListN.{getD}
 use lib.Seq.{getD-take}
-use Rattle.costs.specs.Instance.{View, lentView, domIn}
+use Rattle.costs.specs.Instance.{lentView}
 use Rattle.unit.specs.declared.Unit.{Unit}
 use Rattle.unit.specs.State.{ownValue}
 

@@ -6,9 +6,9 @@ use native.Mathlib.Numerals.{add-one}
 use mathlib.Core.Path.{_≡_, refl, sym, ap, _∙_}
 use mathlib.Core.Bool.{Bool, true, false, cond, _&&_, false≢true}
 use mathlib.Core.List.{List}
-use lib.Dec.{ltb, leb, eqb}
+use lib.Dec.{ltb, eqb}
 use lib.ListN.{getD}
-use borrow.Author.Tests.{lt-ltb, le-ltb, le-leb, lt-leb, eq-eqb, ne-eqb}
+use borrow.Author.Tests.{lt-ltb, le-ltb, le-leb, lt-leb, ne-eqb}
 use Rattle.base.specs.Sums.{sumFrom}
 use Rattle.costs.specs.Instance.{View, lentView}
 use Rattle.message.specs.declared.Message.{Message}
@@ -17,39 +17,9 @@ use Rattle.unit.specs.declared.Unit.{Unit}
 use Rattle.unit.specs.declared.Order.{Order}
 use Rattle.unit.specs.declared.Order.the-variants.{Smaller, Equal, Bigger}
 use Rattle.unit.specs.State.{zeros, withThreshold, withCpa, withCounter, withEstimates, ownValue, compareOn, sameOn, notSmaller}
-use Rattle.unit.specs.Step.{
-  Out,
-  refused,
-  stale,
-  takeLower,
-  takeBound,
-  bareCost,
-  takeOff,
-  backtrack,
-  tryAfter,
-  begun,
-  assign,
-  resume,
-  onDown,
-  isOut,
-  isCpaOut,
-  onOwn,
-  onBack,
-  onCpa,
-  onFresh,
-  onRequest,
-  stored,
-  sumLater,
-  reachedByEstimates,
-  onOwnEstimate,
-  onTimely,
-  onEstimate,
-  byKind,
-  respond,
-  decidedOf,
-}
+use Rattle.unit.specs.Step.{refused, stale, takeLower, takeBound, bareCost, takeOff, backtrack, tryAfter, begun, assign, resume, onDown, isOut, isCpaOut, onOwn, onBack, onCpa, onFresh, onRequest, stored, sumLater, reachedByEstimates, onOwnEstimate, onTimely, onEstimate, byKind, unlessStopped, respond}
 use Rattle.unit.specs.Ready.{Ready, Heard}
-use Rattle.unit.proofs.Lent.{place-lent, dom-lent, value-lent}
+use Rattle.unit.proofs.Lent.{dom-lent, value-lent}
 
 -- ---- the state stays ready
 
@@ -189,8 +159,8 @@ module _ (w : View) (u t : Unit) (m : Message) (same : (isOut w u && sameOn (suc
 
 pub respond-stopped : (w : View) (k : Kind) (u : Unit) (m : Message) → u .stopped ≡ true → refused 12 ≡ respond w k u m
 unfolding respond
-respond-stopped w k u m e = rw e
+respond-stopped w k u m e = ap (λ (b : Bool). unlessStopped b w k u m) (sym e)
 
 pub respond-kind : (w : View) (k x : Kind) (u : Unit) (m : Message) → u .stopped ≡ false → k ≡ x → byKind w x u m ≡ respond w k u m
 unfolding respond
-respond-kind w k x u m e f = rw (e, f)
+respond-kind w k x u m e f = ap (λ (y : Kind). byKind w y u m) (sym f) ∙ ap (λ (b : Bool). unlessStopped b w k u m) (sym e)

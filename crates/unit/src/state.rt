@@ -3,7 +3,7 @@
 use crate::Order;
 use crate::Unit;
 ghost use mathlib.Core.Path.{_≡_};
-ghost use Prim.Native.Nat.{ℕ, _≤_, _<_};
+ghost use Prim.Native.Nat.{_≤_, _<_};
 ghost use Rattle.costs.specs.Instance.{lentView};
 ghost use Rattle.unit.specs.State.{
   withThreshold,

@@ -1,8 +1,8 @@
 -- What a step has checked is what the deciding functions ask: a unit's number, a state in range, a message that reads well.
 -- From the facts of the checks, kind by kind for the message. Assumes nothing.
-use Prim.Native.Nat.{ℕ, zero, suc, pred, _+_, _-_, _≤_, _<_}
+use Prim.Native.Nat.{ℕ, zero, suc, pred, _-_, _≤_, _<_}
 use native.Mathlib.Omega.{arith}
-use mathlib.Core.Path.{_≡_, refl, sym, ap, _∙_}
+use mathlib.Core.Path.{_≡_, refl, ap}
 use mathlib.Core.Bool.{Bool, true, false, cond}
 use mathlib.Core.List.{List}
 use lib.Dec.{ltb}
@@ -13,7 +13,7 @@ use Rattle.costs.specs.Instance.{lentView}
 use Rattle.message.specs.declared.Message.{Message}
 use Rattle.message.specs.declared.Kind.{Kind}
 use Rattle.message.specs.declared.Kind.the-variants.{Cpa, Request, Estimate, Solution, Stop}
-use Rattle.message.specs.Message.{filledTo, cpaCount, stampCount, valueCount, isUnit, addressGood, wellFormed}
+use Rattle.message.specs.Message.{cpaCount, stampCount, valueCount, isUnit, addressGood, wellFormed}
 use Rattle.message.specs.Laws.{filled-past, Addressed, addressed, formed}
 use Rattle.unit.specs.declared.Unit.{Unit}
 use Rattle.unit.specs.State.{fresh, zeros, ownValue, inRange}

@@ -1,10 +1,8 @@
 -- `assign` meets its contract: the values after the own one are tried, from where `begin` leaves the state.
 -- Assumes nothing.
-use Prim.Native.Nat.{ℕ, _-_, _≤_}
-use mathlib.Core.Path.{_≡_, sym, ap, _∙_}
-use lib.ListN.{getD}
+use Prim.Native.Nat.{_-_}
+use mathlib.Core.Path.{ap, _∙_}
 use Rattle.costs.specs.Instance.{lentView}
-use Rattle.unit.specs.declared.Unit.{Unit}
 use Rattle.unit.specs.Step.{Out, decidedOf}
 use Rattle.unit.proofs.Rules.{begun-low, begun-few, assign-lent}
 use borrow.Author.Needs.{needs}

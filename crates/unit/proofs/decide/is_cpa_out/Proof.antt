@@ -1,8 +1,7 @@
 -- `is_cpa_out` meets its contract: each way out decides the first tests.
 -- Assumes nothing.
-use mathlib.Core.Path.{_≡_, refl, sym, ap, _∙_}
-use mathlib.Core.Bool.{Bool, true, false, _&&_}
-use lib.Dec.{eqb}
+use mathlib.Core.Path.{_≡_, refl}
+use mathlib.Core.Bool.{true, false}
 use borrow.Author.Tests.{not-true, not-false}
 use Rattle.unit.specs.State.{sameOn}
 use Rattle.unit.proofs.Rules.{cpa-out}

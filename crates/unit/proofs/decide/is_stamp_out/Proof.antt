@@ -2,7 +2,7 @@
 -- Assumes nothing.
 use Prim.Native.Nat.{_-_}
 use native.Mathlib.Omega.{arith}
-use mathlib.Core.Path.{_≡_, _∙_}
+use mathlib.Core.Path.{_∙_}
 use Rattle.unit.proofs.Rules.{is-out-not, is-out}
 use borrow.Author.Needs.{needs}
 use Rattle.unit.proofs.decide.is_stamp_out.Statement.{statement}

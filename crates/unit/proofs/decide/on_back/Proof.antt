@@ -6,7 +6,7 @@ use borrow.Author.Tests.{not-true, not-false}
 use Rattle.costs.specs.Instance.{lentView}
 use Rattle.unit.specs.declared.Unit.{Unit}
 use Rattle.unit.specs.State.{notSmaller}
-use Rattle.unit.specs.Step.{Out, resume, isCpaOut, onOwn, onBack, decidedOf}
+use Rattle.unit.specs.Step.{Out, resume, isCpaOut, onOwn, decidedOf}
 use Rattle.unit.proofs.Lent.{own-lent}
 use Rattle.unit.proofs.Rules.{ready-bound, back-stale, back-own}
 use borrow.Author.Needs.{needs}

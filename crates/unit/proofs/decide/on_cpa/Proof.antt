@@ -1,6 +1,6 @@
 -- `on_cpa` meets its contract: the sender decides which way the cpa goes.
 -- Assumes nothing.
-use mathlib.Core.Path.{_≡_, sym, ap, _∙_}
+use mathlib.Core.Path.{ap, _∙_}
 use Rattle.costs.specs.Instance.{lentView}
 use Rattle.unit.specs.Step.{Out, decidedOf}
 use Rattle.unit.proofs.Lent.{own-lent}

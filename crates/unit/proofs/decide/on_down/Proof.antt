@@ -1,6 +1,6 @@
 -- `on_down` meets its contract: each arm is a clause of `onDown`.
 -- Assumes nothing.
-use mathlib.Core.Path.{_≡_, sym, ap, _∙_}
+use mathlib.Core.Path.{sym, ap, _∙_}
 use Rattle.costs.specs.Instance.{lentView}
 use Rattle.unit.specs.declared.Unit.{Unit}
 use Rattle.unit.specs.declared.Order.{Order}

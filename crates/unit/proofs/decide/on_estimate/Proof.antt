@@ -1,6 +1,6 @@
 -- `on_estimate` meets its contract: each arm is a clause of `onTimely`.
 -- Assumes nothing.
-use mathlib.Core.Path.{_≡_, sym, ap, _∙_}
+use mathlib.Core.Path.{sym, ap, _∙_}
 use Rattle.costs.specs.Instance.{lentView}
 use Rattle.unit.specs.declared.Order.{Order}
 use Rattle.unit.specs.Step.{Out, onTimely, decidedOf}

@@ -2,12 +2,10 @@
 -- Assumes nothing.
 use Prim.Native.Nat.{_+_, _≤_, _<_}
 use native.Mathlib.Omega.{arith}
-use mathlib.Core.Path.{_≡_, sym, ap, _∙_}
-use mathlib.Core.Bool.{Bool, true, false}
+use mathlib.Core.Path.{sym, ap, _∙_}
 use borrow.Author.Tests.{not-true, not-false}
 use Rattle.base.specs.Shape.{shape-n}
 use Rattle.costs.specs.Instance.{lentView}
-use Rattle.unit.specs.declared.Unit.{Unit}
 use Rattle.unit.specs.Step.{Out, sumLater, decidedOf}
 use Rattle.unit.proofs.Lent.{own-lent, n-lent}
 use Rattle.unit.proofs.Rules.{ready-stored, estimate-foreign, estimate-reached, estimate-short}

@@ -1,6 +1,6 @@
 -- `respond` meets its contract: each arm is a clause of `byKind`.
 -- Assumes nothing.
-use mathlib.Core.Path.{_≡_, ap, _∙_}
+use mathlib.Core.Path.{ap, _∙_}
 use Rattle.costs.specs.Instance.{lentView}
 use Rattle.message.specs.declared.Kind.the-variants.{Cpa, Request, Estimate, Solution, Stop}
 use Rattle.unit.specs.Step.{Out, decidedOf}

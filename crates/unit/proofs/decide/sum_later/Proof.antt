@@ -1,9 +1,9 @@
 -- `sum_later` meets its contract. The loop's invariant: the whole sum is what is summed and the rest from place j on.
 -- Assumes nothing.
 use borrow.Author.Needs.{needs}
-use Prim.Native.Nat.{ℕ, suc, _+_, _*_, _-_, _≤_}
+use Prim.Native.Nat.{ℕ, _+_, _*_, _-_, _≤_}
 use native.Mathlib.Omega.{arith}
-use mathlib.Core.Path.{_≡_, refl, sym, ap, _∙_}
+use mathlib.Core.Path.{_≡_, refl}
 use lib.ListN.{getD}
 use Rattle.base.specs.Sums.{sumFrom}
 use Rattle.unit.proofs.Rules.{sum-more, sum-done}

@@ -1,16 +1,16 @@
 -- `try_after` meets its contract. The loop's invariant: what all values give is what those after v give, after the records written.
 -- Each turn is a law of proofs/Trying. Assumes nothing.
 use borrow.Author.Needs.{needs}
-use Prim.Native.Nat.{ℕ, suc, _+_, _-_, _≤_, _<_}
+use Prim.Native.Nat.{suc, _+_, _-_}
 use native.Mathlib.Omega.{arith}
-use mathlib.Core.Path.{_≡_, refl, sym, _∙_}
-use mathlib.Core.Bool.{true, false}
+use mathlib.Core.Path.{_≡_, sym, _∙_}
+use mathlib.Core.Bool.{false}
 use lib.ListN.{length, getD}
 use Rattle.base.specs.Shape.{shape-n, shape-size}
-use Rattle.costs.specs.Instance.{View, lentView}
-use Rattle.costs.specs.Bounds.{costWith, h}
+use Rattle.costs.specs.Instance.{lentView}
+use Rattle.costs.specs.Bounds.{h}
 use Rattle.unit.specs.Step.{tryAfter, write}
-use Rattle.unit.proofs.Lent.{place-lent, n-lent, own-lent}
+use Rattle.unit.proofs.Lent.{n-lent, own-lent}
 use Rattle.unit.proofs.Trying.{Tried, counted-none, passed-over, written-last, written-on, none-left}
 use Rattle.unit.proofs.decide.try_after.Statement.{statement}
 use Rattle.unit.proofs.decide.try_after.Tie as tie

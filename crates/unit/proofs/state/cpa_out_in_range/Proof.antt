@@ -1,7 +1,7 @@
 -- `cpa_out_in_range` meets its contract: each way out decides a test of `cpaOutInRange`.
 -- Assumes nothing.
-use Prim.Native.Nat.{_<_, _≤_}
-use mathlib.Core.Path.{_≡_, sym, _∙_}
+use Prim.Native.Nat.{_≤_}
+use mathlib.Core.Path.{sym, _∙_}
 use borrow.Author.Tests.{not-true, not-false}
 use Rattle.costs.specs.Instance.{lentView}
 use Rattle.message.specs.Message.{prefixLimit}
