@@ -3,14 +3,21 @@
 -- Assumes nothing.
 use Prim.Native.Nat.{ℕ}
 use mathlib.Core.Path.{_≡_, refl}
-use mathlib.Core.List.{List, [], _∷_, map}
-use lib.ListN.{length}
+use mathlib.Core.Bool.{cond}
+use mathlib.Core.List.{List, [], _∷_, _++_, map}
+use lib.ListN.{length, getD}
 use Rattle.base.specs.Shape.{allInSixteen, shapeGood}
 use Rattle.checksum.specs.Sum.{sumOf}
 use Rattle.table.specs.Stream.{sumList, pairsIn, costsGood, streamRefusal}
 use Rattle.table.specs.Block.{allZero, blockRefusal, checkOf, blockOf}
 use Rattle.table.specs.File.{blocksRefusal, joined, streamOf, readRefusal, fileFrom, fileOf}
-use Rattle.cases.specs.Sheds.{streamT, pairAt, single}
+use Rattle.costs.specs.Instance.{Instance, viewOf, instanceOf}
+use Rattle.costs.specs.Bounds.{costWith, h, estimate}
+use Rattle.unit.specs.State.{compareOn, sameOn}
+use Rattle.unit.specs.Step.{backtrack, tryAfter, assign, resume, onCpa, onRequest, onEstimate, onSolution, onStop, respond}
+use Rattle.unit.specs.Send.{each, packets}
+use Rattle.network.specs.Run.{History, unitAt, begin, handOver, runFrom, run}
+use Rattle.cases.specs.Sheds.{streamWith, streamT, pairAt, single}
 
 pub record Row : Type 0 where
   pub number : ℕ
@@ -24,10 +31,39 @@ row k f s = record { number = k; found = f; said = s }
 abbrev reading : List ℕ → ℕ
 reading s = readRefusal (fileOf s) 61457
 
+-- T's instance, and that of one unit of three values
+abbrev instanceT : Instance
+instanceT = instanceOf streamT
+
+abbrev instanceOne : Instance
+instanceOne = instanceOf (streamWith (3 ∷ []) [])
+
+-- unit 1 after a run: whether it has stopped, its bound, its best assignment's first two values
+abbrev reportOf : History → List ℕ
+reportOf H = let u = unitAt (H .units) 0 in cond (u .stopped) 1 0 ∷ u .bound ∷ getD (u .best) 0 0 ∷ getD (u .best) 1 0 ∷ []
+
+-- how many records were written, and messages handed over and waiting
+abbrev countsOf : History → List ℕ
+countsOf H = length (H .written) ∷ length (H .handed) ∷ length (H .waiting) ∷ []
+
+-- unit 1's own value, its stamp, and the cost of its CPA
+abbrev cpaOf : History → List ℕ
+cpaOf H = let u = unitAt (H .units) 0 in getD (u .values) 0 0 ∷ getD (u .stamp) 0 0 ∷ u .cost ∷ []
+
 unfoldable pub table : List Row
 table =
     -- "T's stream is 11 bytes, its check 219"
     row 1 (length streamT ∷ checkOf (blockOf 0 streamT) ∷ reading streamT ∷ []) (11 ∷ 219 ∷ 0 ∷ []) ∷
+    -- "h of unit 1: 3 and 2"
+    row 2 (h (viewOf instanceT 0) 1 ∷ h (viewOf instanceT 0) 2 ∷ []) (3 ∷ 2 ∷ []) ∷
+    -- "n = 1, size 3: total 0, value 1, one record, no delivery"
+    row 4 (reportOf (run instanceOne []) ++ countsOf (run instanceOne [])) (1 ∷ 0 ∷ 1 ∷ 0 ∷ 1 ∷ 0 ∷ 0 ∷ []) ∷
+    -- "Copy of unit 1's value 1: estimate 3; of value 2: 2"
+    row 5 (estimate (viewOf instanceT 1) (1 ∷ []) 1 ∷ estimate (viewOf instanceT 1) (2 ∷ []) 1 ∷ []) (3 ∷ 2 ∷ []) ∷
+    -- "T: paper, news, copy, estimate delivered: unit 1 gives up value 1 and writes value 2 with stamp 2": cells 0, 2, 0, 1
+    row 6 (cpaOf (run instanceT (0 ∷ 2 ∷ 0 ∷ 1 ∷ [])) ++ countsOf (run instanceT (0 ∷ 2 ∷ 0 ∷ 1 ∷ []))) (2 ∷ 2 ∷ 0 ∷ 4 ∷ 4 ∷ 3 ∷ []) ∷
+    -- "the paper going back is then stale": it is handed over, and nothing else changes
+    row 6 (cpaOf (run instanceT (0 ∷ 2 ∷ 0 ∷ 1 ∷ 0 ∷ [])) ++ countsOf (run instanceT (0 ∷ 2 ∷ 0 ∷ 1 ∷ 0 ∷ []))) (2 ∷ 2 ∷ 0 ∷ 4 ∷ 5 ∷ 2 ∷ []) ∷
     -- "Cost 60,000 read, 60,001 refused by 7"
     row 7 (reading (pairAt 60000) ∷ reading (pairAt 60001) ∷ []) (0 ∷ 7 ∷ []) ∷
     -- "n = 16 read, 17 and 0 refused by 5"
@@ -35,5 +71,5 @@ table =
     []
 
 pub cases-hold : map (λ (r : Row). r .found) table ≡ map (λ (r : Row). r .said) table
-unfolding table allInSixteen shapeGood sumOf sumList pairsIn costsGood streamRefusal allZero blockRefusal blockOf blocksRefusal joined streamOf readRefusal fileFrom fileOf
+unfolding table allInSixteen shapeGood sumOf sumList pairsIn costsGood streamRefusal allZero blockRefusal blockOf blocksRefusal joined streamOf readRefusal fileFrom fileOf instanceOf costWith h estimate compareOn sameOn backtrack tryAfter assign resume onCpa onRequest onEstimate onSolution onStop respond each packets begin handOver runFrom run
 cases-hold = refl
