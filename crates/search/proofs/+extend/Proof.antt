@@ -1,0 +1,281 @@
+-- `extend` meets its contract, and ends as the units left fall. The loop's invariant: the search is what is kept so far with the values from v on.
+-- Assumes nothing.
+use Prim.Native.Nat.{ℕ, _+_, _-_, _≤_, _<_}
+use mathlib.Core.Path.{_≡_, sym, _∙_}
+use native.Mathlib.Omega.{arith}
+use lib.ListN.{length, getD}
+use borrow.Author.Needs.{needs}
+use Rattle.costs.specs.Instance.{instanceOf}
+use Rattle.search.specs.Search.{over, bestFrom}
+use Rattle.search.specs.Steps.{withValue, over-next, over-done, best-of-values, best-full, cost-is-total, size-is-dom, extending-next}
+use borrow.Fn.Kinds.{In}
+use borrow.Fn.PlainCycle.{Measures, is, falls, and}
+use Rattle.search.proofs.extend.Reads as extend
+use Rattle.search.proofs.extend.Kinds as extend-kinds
+use Rattle.search.proofs.+extend.Lts-extend as extend-lts
+use Rattle.search.proofs.added_cost.Reads as added-cost-reads
+use Rattle.search.proofs.better.Reads as better-reads
+use Rattle.search.proofs.byte.Reads as byte-reads
+use Rattle.search.proofs.+extend.{statement}
+use Rattle.search.proofs.+extend.Tie.{close}
+
+abbrev μ-extend : Measures 2 extend-kinds.ps ℕ
+μ-extend κs a = a .1 .1 .0
+
+abbrev extend-at : ℕ → In 2 extend-kinds.ps
+extend-at t = and 2 extend-kinds.ps (is 2 extend-kinds.ps μ-extend t) extend.Pre
+
+abbrev extend-below : ℕ → In 2 extend-kinds.ps
+extend-below t = and 2 extend-kinds.ps (falls 2 extend-kinds.ps _<_ μ-extend t) extend.Pre
+
+abbrev extend-Inv-loop : extend-lts.InvT-loop
+extend-Inv-loop stream starts left level cost chosen d best₀ v₀ best v = (1 ≤ v) × (v ≤ d + 1) × (d < 256) × (d ≡ getD stream (1 + level) 0) × (bestFrom (instanceOf stream) left level chosen best₀ ≡ over (withValue (instanceOf stream) left level chosen) v (d + 1 - v) best)
+
+abbrev extend-μ-loop : extend-lts.MeasureT-loop
+extend-μ-loop stream starts left level cost chosen d best₀ v₀ best v = d + 1 - v
+
+extend-better-requires : (t : ℕ) → extend-lts.Need-better-requires (
+  better-reads.Asked,
+  better-reads.Learnt,
+  byte-reads.Asked,
+  byte-reads.Learnt,
+  added-cost-reads.Asked,
+  added-cost-reads.Learnt,
+  extend-below t,
+  extend.Post,
+) (extend-at t) extend.Post extend-Inv-loop extend-μ-loop
+extend-better-requires t c κs = search needs
+
+extend-returns : (t : ℕ) → extend-lts.Need-returns (
+  better-reads.Asked,
+  better-reads.Learnt,
+  byte-reads.Asked,
+  byte-reads.Learnt,
+  added-cost-reads.Asked,
+  added-cost-reads.Learnt,
+  extend-below t,
+  extend.Post,
+) (extend-at t) extend.Post extend-Inv-loop extend-μ-loop
+extend-returns t c =
+    let z = c .before .before .before .before in
+    let a = z .args in
+    let e = c .before .if1 .taken in
+    c .better .ensures ∙ best-full (instanceOf (a .stream .now)) (a .left) (a .level) (a .chosen) (a .b) (a .cost) e (cost-is-total (z .pre .1) e)
+
+extend-add-byte : (t : ℕ) → extend-lts.Need-add-byte (
+  better-reads.Asked,
+  better-reads.Learnt,
+  byte-reads.Asked,
+  byte-reads.Learnt,
+  added-cost-reads.Asked,
+  added-cost-reads.Learnt,
+  extend-below t,
+  extend.Post,
+) (extend-at t) extend.Post extend-Inv-loop extend-μ-loop
+extend-add-byte t c = search needs
+
+extend-byte-requires : (t : ℕ) → extend-lts.Need-byte-requires (
+  better-reads.Asked,
+  better-reads.Learnt,
+  byte-reads.Asked,
+  byte-reads.Learnt,
+  added-cost-reads.Asked,
+  added-cost-reads.Learnt,
+  extend-below t,
+  extend.Post,
+) (extend-at t) extend.Post extend-Inv-loop extend-μ-loop
+extend-byte-requires t c κs = search needs
+
+extend-loop-holds : (t : ℕ) → extend-lts.Need-loop-holds (
+  better-reads.Asked,
+  better-reads.Learnt,
+  byte-reads.Asked,
+  byte-reads.Learnt,
+  added-cost-reads.Asked,
+  added-cost-reads.Learnt,
+  extend-below t,
+  extend.Post,
+) (extend-at t) extend.Post extend-Inv-loop extend-μ-loop
+extend-loop-holds t c =
+    let z = c .before .before .before .before in
+    let a = z .args in
+    let some = c .before .if1 .left in
+    let size = c .byte .ensures .0 in
+    (omega arith, omega arith, omega arith, size, best-of-values (instanceOf (a .stream .now)) (a .left) (a .level) (c .byte .result) (a .chosen) (a .b) some (size-is-dom (z .pre .1) (c .byte .result) some size))
+
+extend-added-cost-requires : (t : ℕ) → extend-lts.Need-added-cost-requires (
+  better-reads.Asked,
+  better-reads.Learnt,
+  byte-reads.Asked,
+  byte-reads.Learnt,
+  added-cost-reads.Asked,
+  added-cost-reads.Learnt,
+  extend-below t,
+  extend.Post,
+) (extend-at t) extend.Post extend-Inv-loop extend-μ-loop
+extend-added-cost-requires t c κs = search needs
+
+extend-cast-next : (t : ℕ) → extend-lts.Need-cast-next (
+  better-reads.Asked,
+  better-reads.Learnt,
+  byte-reads.Asked,
+  byte-reads.Learnt,
+  added-cost-reads.Asked,
+  added-cost-reads.Learnt,
+  extend-below t,
+  extend.Post,
+) (extend-at t) extend.Post extend-Inv-loop extend-μ-loop
+extend-cast-next t c = search needs
+
+extend-array-write-next : (t : ℕ) → extend-lts.Need-array-write-next (
+  better-reads.Asked,
+  better-reads.Learnt,
+  byte-reads.Asked,
+  byte-reads.Learnt,
+  added-cost-reads.Asked,
+  added-cost-reads.Learnt,
+  extend-below t,
+  extend.Post,
+) (extend-at t) extend.Post extend-Inv-loop extend-μ-loop
+extend-array-write-next t c = search needs
+
+extend-sub-extend : (t : ℕ) → extend-lts.Need-sub-extend (
+  better-reads.Asked,
+  better-reads.Learnt,
+  byte-reads.Asked,
+  byte-reads.Learnt,
+  added-cost-reads.Asked,
+  added-cost-reads.Learnt,
+  extend-below t,
+  extend.Post,
+) (extend-at t) extend.Post extend-Inv-loop extend-μ-loop
+extend-sub-extend t c = search needs
+
+extend-add-extend : (t : ℕ) → extend-lts.Need-add-extend (
+  better-reads.Asked,
+  better-reads.Learnt,
+  byte-reads.Asked,
+  byte-reads.Learnt,
+  added-cost-reads.Asked,
+  added-cost-reads.Learnt,
+  extend-below t,
+  extend.Post,
+) (extend-at t) extend.Post extend-Inv-loop extend-μ-loop
+extend-add-extend t c = search needs
+
+extend-add-extend-2 : (t : ℕ) → extend-lts.Need-add-extend-2 (
+  better-reads.Asked,
+  better-reads.Learnt,
+  byte-reads.Asked,
+  byte-reads.Learnt,
+  added-cost-reads.Asked,
+  added-cost-reads.Learnt,
+  extend-below t,
+  extend.Post,
+) (extend-at t) extend.Post extend-Inv-loop extend-μ-loop
+extend-add-extend-2 t c = search needs
+
+extend-extend-requires : (t : ℕ) → extend-lts.Need-extend-requires (
+  better-reads.Asked,
+  better-reads.Learnt,
+  byte-reads.Asked,
+  byte-reads.Learnt,
+  added-cost-reads.Asked,
+  added-cost-reads.Learnt,
+  extend-below t,
+  extend.Post,
+) (extend-at t) extend.Post extend-Inv-loop extend-μ-loop
+extend-extend-requires t c κs =
+    let z = c .before .before .before .before .before .before .before in
+    let l = c .before .before .loop in
+    let some = c .before .before .before .before .if1 .left in
+    let places : length (z .args .chosen) ≡ 16 = search needs in
+    (omega arith, extending-next (z .pre .1) (c .before .before .before .byte .result) some (l .inv .3) (l .v) (l .inv .0) (omega arith) (c .added-cost .result) places (c .added-cost .ensures .0))
+
+extend-add-v : (t : ℕ) → extend-lts.Need-add-v (
+  better-reads.Asked,
+  better-reads.Learnt,
+  byte-reads.Asked,
+  byte-reads.Learnt,
+  added-cost-reads.Asked,
+  added-cost-reads.Learnt,
+  extend-below t,
+  extend.Post,
+) (extend-at t) extend.Post extend-Inv-loop extend-μ-loop
+extend-add-v t c = search needs
+
+extend-loop-less : (t : ℕ) → extend-lts.Need-loop-less (
+  better-reads.Asked,
+  better-reads.Learnt,
+  byte-reads.Asked,
+  byte-reads.Learnt,
+  added-cost-reads.Asked,
+  added-cost-reads.Learnt,
+  extend-below t,
+  extend.Post,
+) (extend-at t) extend.Post extend-Inv-loop extend-μ-loop
+extend-loop-less t c = search needs
+
+extend-loop-again : (t : ℕ) → extend-lts.Need-loop-again (
+  better-reads.Asked,
+  better-reads.Learnt,
+  byte-reads.Asked,
+  byte-reads.Learnt,
+  added-cost-reads.Asked,
+  added-cost-reads.Learnt,
+  extend-below t,
+  extend.Post,
+) (extend-at t) extend.Post extend-Inv-loop extend-μ-loop
+extend-loop-again t c =
+    let a = c .before .before .before .before .before .before .before .before .args in
+    let l = c .before .before .before .loop in
+    let d = c .before .before .before .before .byte .result in
+    (omega arith, omega arith, omega arith, l .inv .3, l .inv .4 ∙ over-next (withValue (instanceOf (a .stream .now)) (a .left) (a .level) (a .chosen)) (l .v) d (l .best) (omega arith) ∙ simp (c .extend .ensures))
+
+extend-returns-2 : (t : ℕ) → extend-lts.Need-returns-2 (
+  better-reads.Asked,
+  better-reads.Learnt,
+  byte-reads.Asked,
+  byte-reads.Learnt,
+  added-cost-reads.Asked,
+  added-cost-reads.Learnt,
+  extend-below t,
+  extend.Post,
+) (extend-at t) extend.Post extend-Inv-loop extend-μ-loop
+extend-returns-2 t c =
+    let a = c .before .before .before .before .before .before .args in
+    let l = c .before .loop in
+    let d = c .before .before .byte .result in
+    sym (l .inv .4 ∙ over-done (withValue (instanceOf (a .stream .now)) (a .left) (a .level) (a .chosen)) (l .v) d (l .best) (omega arith))
+
+pub +extend-spec : {M : Type 1} → statement M
++extend-spec = close μ-extend λ t. extend-lts.spec (
+  better-reads.Asked,
+  better-reads.Learnt,
+  byte-reads.Asked,
+  byte-reads.Learnt,
+  added-cost-reads.Asked,
+  added-cost-reads.Learnt,
+  extend-below t,
+  extend.Post,
+)
+    (extend-at t)
+    extend.Post
+    extend-Inv-loop
+    extend-μ-loop
+    (extend-better-requires t)
+    (extend-returns t)
+    (extend-add-byte t)
+    (extend-byte-requires t)
+    (extend-loop-holds t)
+    (extend-added-cost-requires t)
+    (extend-cast-next t)
+    (extend-array-write-next t)
+    (extend-sub-extend t)
+    (extend-add-extend t)
+    (extend-add-extend-2 t)
+    (extend-extend-requires t)
+    (extend-add-v t)
+    (extend-loop-less t)
+    (extend-loop-again t)
+    (extend-returns-2 t)

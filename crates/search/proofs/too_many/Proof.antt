@@ -1,0 +1,73 @@
+-- `too_many` meets its contract. The loop's invariant: the count is the product of the sizes passed, at most 1,048,576; sizes of 1 or more never lower it.
+-- Assumes nothing.
+use borrow.Author.Needs.{needs}
+use Prim.Native.Nat.{_-_, _≤_}
+use mathlib.Core.Path.{_≡_, sym}
+use native.Mathlib.Omega.{arith}
+use native.Mathlib.Nat.{mul-le-mul}
+use Rattle.costs.specs.Instance.{instanceOf}
+use Rattle.search.specs.Search.{productTo}
+use Rattle.search.specs.Steps.{count-none, count-turn, count-above, count-within}
+use Rattle.search.proofs.too_many.Statement.{statement}
+use Rattle.search.proofs.too_many.Tie as tie
+
+abbrev Inv-loop : tie.InvT-loop
+Inv-loop stream n count₀ i₀ count i = (i ≤ n) × (count ≡ productTo (instanceOf stream .dom) i) × (count ≤ 1048576)
+
+abbrev μ-loop : tie.MeasureT-loop
+μ-loop stream n count₀ i₀ count i = n - i
+
+loop-holds : tie.Need-loop-holds Inv-loop μ-loop
+loop-holds c = let a = c .before .args in (omega arith, sym (count-none (instanceOf (a .stream .now) .dom)), omega arith)
+
+add-byte : tie.Need-add-byte Inv-loop μ-loop
+add-byte c = search needs
+
+byte-requires : tie.Need-byte-requires Inv-loop μ-loop
+byte-requires c κs = search needs
+
+mul-count : tie.Need-mul-count Inv-loop μ-loop
+mul-count c =
+    let l = c .before .before .loop in
+    let b : c .byte .result ≤ 255 = omega arith in
+    omega (arith, mul-le-mul (l .inv .2) b)
+
+returns : tie.Need-returns Inv-loop μ-loop
+returns c =
+    let l = c .before .before .before .loop in
+    let z = c .before .before .before .before .before in
+    count-above (z .args .stream .now) (z .pre .0) (l .i) (l .count) (c .before .byte .result) (l .inv .1) (omega arith) (c .before .byte .ensures .0) (c .if1 .taken)
+
+add-i : tie.Need-add-i Inv-loop μ-loop
+add-i c = search needs
+
+loop-less : tie.Need-loop-less Inv-loop μ-loop
+loop-less c = search needs
+
+loop-again : tie.Need-loop-again Inv-loop μ-loop
+loop-again c =
+    let l = c .before .before .before .loop in
+    let z = c .before .before .before .before .before in
+    (omega arith, count-turn (z .args .stream .now) (z .pre .0) (l .i) (l .count) (c .before .byte .result) (l .inv .1) (omega arith) (c .before .byte .ensures .0), omega arith)
+
+returns-2 : tie.Need-returns-2 Inv-loop μ-loop
+returns-2 c =
+    let l = c .before .loop in
+    let z = c .before .before .before in
+    count-within (z .args .stream .now) (z .pre .0) (l .i) (l .count) 0 (l .inv .1) (omega arith) (l .inv .2)
+
+pub too-many-spec : {M : Type 1} → statement M
+too-many-spec =
+    tie.close
+    (tie.spec
+    Inv-loop
+    μ-loop
+    loop-holds
+    add-byte
+    byte-requires
+    mul-count
+    returns
+    add-i
+    loop-less
+    loop-again
+    returns-2)

@@ -1,0 +1,76 @@
+-- What the answer of the search is: the least total with its first assignment in ascending order where it isn't refused, and only the number
+-- where it is. Each by taking the definition's tests apart; the rest is in Least.
+-- Assumes nothing.
+use Prim.Native.Nat.{ℕ, _≤_}
+use mathlib.Core.Path.{_≡_, refl, _∙_}
+use mathlib.Core.Bool.{Bool, true, false, cond}
+use mathlib.Core.List.{List}
+use native.Mathlib.Omega.{arith}
+use lib.Dec.{eqb, ltb}
+use borrow.Author.Tests.{ltb-false, eq-eqb, ne-eqb, eqb-true, eqb-false}
+use Rattle.table.specs.Stream.{streamRefusal, Accepted}
+use Rattle.costs.specs.Instance.{instanceOf}
+use Rattle.costs.specs.Bounds.{total}
+use Rattle.costs.specs.Laws.Stream.{sound-of}
+use Rattle.search.specs.Search.{bestOf, countOf, searchRefusal, refusedBy, foundBest, searchOf}
+use Rattle.search.specs.Least.{LeastFirst, Padded}
+use Rattle.search.specs.Least.Order.{least-unique, first-unique}
+use Rattle.search.specs.Least.Kept.{best-least-first, best-of-padded}
+
+-- ---- the refusal
+
+not-refused : (t r : Bool) (k : ℕ) → eqb k 0 ≡ t → _≡_ {A = ℕ} (cond t (cond r 16 0) k) 0 → (k ≡ 0) × (r ≡ false)
+not-refused true true k e h = absurd (omega arith)
+not-refused true false k e h = (eqb-true k 0 e, refl)
+not-refused false r k e h = absurd (eqb-false k 0 e h)
+
+module _ (s : List ℕ) where
+  -- a stream that is searched passes 5, 6 and 7 and has at most 1,048,576 assignments
+  pub searched : searchRefusal s ≡ 0 → Accepted s × (countOf (instanceOf s) ≤ 1048576)
+  unfolding searchRefusal Accepted
+  searched h = let q = not-refused (eqb (streamRefusal s) 0) (ltb 1048576 (countOf (instanceOf s))) (streamRefusal s) refl h in (q .0, ltb-false 1048576 (countOf (instanceOf s)) (q .1))
+
+  -- only the number
+  pub search-refused : (searchRefusal s ≡ 0 → ⊥) → searchOf s ≡ refusedBy (searchRefusal s)
+  unfolding searchOf
+  search-refused h = rw (ne-eqb (searchRefusal s) 0 h)
+
+  -- ---- the answer
+
+  module _ (h : searchRefusal s ≡ 0) where
+    pub search-found : searchOf s ≡ foundBest (bestOf (instanceOf s))
+    unfolding searchOf
+    search-found = rw (eq-eqb (searchRefusal s) 0 h)
+
+    -- the reported assignment is full and totals what is reported; every full one totals at least that, and each before it more
+    pub search-least-first : LeastFirst (instanceOf s) (searchOf s .total) (searchOf s .values)
+    search-least-first = rw search-found (best-least-first (instanceOf s) (sound-of s (searched h .0)))
+
+    pub search-padded : Padded (instanceOf s .n) (searchOf s .values)
+    search-padded = rw search-found (best-of-padded (instanceOf s) (sound-of s (searched h .0)))
+
+    -- and there is no other such answer
+    pub search-is-least-first : (t : ℕ) (l : List ℕ) → LeastFirst (instanceOf s) t l → Padded (instanceOf s .n) l → searchOf s ≡ record { refusal = 0; total = t; values = l }
+    search-is-least-first t l f p =
+        let I = instanceOf s in
+        let sound = sound-of s (searched h .0) in
+        let found = best-least-first I sound in
+        let e : bestOf I .total ≡ t = least-unique I (bestOf I .total) t (bestOf I .values) l found f in
+        let g : bestOf I .values ≡ l = first-unique I (bestOf I .total) t (bestOf I .values) l found f (best-of-padded I sound) p in
+        search-found ∙ rw (e, g)
+
+  -- ---- the answer, as each of the code's ways out gives it
+
+  pub answer-stream-refused : (k : ℕ) → k ≡ streamRefusal s → (k ≡ 0 → ⊥) → refusedBy k ≡ searchOf s
+  unfolding searchRefusal searchOf
+  answer-stream-refused k e h =
+      let q : eqb (streamRefusal s) 0 ≡ false = ne-eqb (streamRefusal s) 0 (λ z. h (e ∙ z)) in
+      simp (e, q)
+
+  pub answer-too-many : streamRefusal s ≡ 0 → ltb 1048576 (countOf (instanceOf s)) ≡ true → refusedBy 16 ≡ searchOf s
+  unfolding searchRefusal searchOf
+  answer-too-many e h = simp (eq-eqb (streamRefusal s) 0 e, h)
+
+  pub answer-found : streamRefusal s ≡ 0 → ltb 1048576 (countOf (instanceOf s)) ≡ false → foundBest (bestOf (instanceOf s)) ≡ searchOf s
+  unfolding searchRefusal searchOf
+  answer-found e h = simp (eq-eqb (streamRefusal s) 0 e, h)

@@ -1,0 +1,192 @@
+// The bench's exhaustive search over the assignments of a stream's table.
+
+ghost use mathlib.Core.Path.{_≡_};
+ghost use Prim.Native.Nat.{_+_, _*_, _-_, _≤_, _<_};
+ghost use lib.Dec.{ltb};
+ghost use lib.ListN.{getD};
+ghost use Rattle.table.specs.Stream.{unitsOf, Accepted};
+ghost use Rattle.costs.specs.Instance.{instanceOf, viewOf};
+ghost use Rattle.costs.specs.Bounds.{costWith};
+ghost use Rattle.search.specs.Search.{keep, bestFrom, countOf, searchOf};
+ghost use Rattle.search.specs.Steps.{Filled, Filling, Adding, Extending};
+
+// What the search gives: the refusal, or 0 with the least total and its first assignment, places past n zero.
+pub struct Found {
+    pub refusal: u8,
+    pub total: u32,
+    pub values: [u8; 16],
+}
+
+// The best assignment so far.
+struct Best {
+    values: [u8; 16],
+    total: u32,
+}
+
+// The least total over all assignments, with its first assignment in ascending order.
+pub fn exhaustive(stream: &[u8]) -> Found
+    ensures { λ r. ⌜ r ≡ searchOf (now (stream .entry)) ⌝ }
+{
+    let none = [0u8; 16];
+    let refusal = table::stream_refusal(stream);
+    if refusal != 0 {
+        return Found {
+            refusal,
+            total: 0,
+            values: none,
+        };
+    }
+    let n = byte(stream, 0);
+    if too_many(stream, n) {
+        return Found {
+            refusal: 16,
+            total: 0,
+            values: none,
+        };
+    }
+    let starts = pair_starts(stream, n);
+    let nothing = Best {
+        values: none,
+        total: 4294967295,
+    };
+    let best = extend(stream, &starts, n, 0, 0, none, nothing);
+    let values = best.values;
+    Found {
+        refusal: 0,
+        total: best.total,
+        values,
+    }
+}
+
+// Whether there are more than 1,048,576 assignments; the product stops once it is above.
+fn too_many(stream: &[u8], n: usize) -> bool
+    requires { ⌜ Accepted (now stream) × (n ≡ unitsOf (now stream)) ⌝ }
+    ensures { λ r. ⌜ r ≡ ltb 1048576 (countOf (instanceOf (now (stream .entry)))) ⌝ }
+{
+    let mut count = 1;
+    let mut i = 0;
+    while i < n {
+        count *= byte(stream, 1 + i);
+        if 1048576 < count {
+            return true;
+        }
+        i += 1;
+    }
+    false
+}
+
+// The best of b and of the assignments that begin with the first `level` places of `chosen`, which cost `cost`. `left` units come
+// after these: each value of the next hands on to the one after it.
+fn extend(
+    stream: &[u8],
+    starts: &[u32],
+    left: usize,
+    level: usize,
+    cost: u32,
+    chosen: [u8; 16],
+    b: Best,
+) -> Best
+    requires { ⌜ Extending (now stream) (now starts) left level cost chosen ⌝ }
+    ensures { λ r. ⌜ r ≡ bestFrom (instanceOf (now (stream .entry))) left level chosen b ⌝ }
+{
+    if left == 0 {
+        return better(b, cost, chosen);
+    }
+    let d = byte(stream, 1 + level);
+    let mut best = b;
+    let mut v: usize = 1;
+    while v <= d {
+        let more = added_cost(stream, starts, level, d, chosen, v);
+        let mut next = chosen;
+        next[level] = v as u8;
+        best = extend(stream, starts, left - 1, level + 1, cost + more, next, best);
+        v += 1;
+    }
+    best
+}
+
+// The assignment in place of b where its total is lower.
+fn better(b: Best, total: u32, values: [u8; 16]) -> Best
+    ensures { λ r. ⌜ r ≡ keep b total values ⌝ }
+{
+    if total < b.total {
+        return Best { values, total };
+    }
+    b
+}
+
+// The cost of value v of the unit at `level`, which has d values, with the values chosen before it.
+fn added_cost(
+    stream: &[u8],
+    starts: &[u32],
+    level: usize,
+    d: usize,
+    chosen: [u8; 16],
+    v: usize,
+) -> u32
+    requires { ⌜ Adding (now stream) (now starts) level d chosen v ⌝ }
+    ensures { λ r. ⌜ (r ≡ costWith (viewOf (instanceOf (now (stream .entry))) level) chosen level v) × (r ≤ 60000 * level) ⌝ }
+{
+    let column = 16 * level;
+    let mut sum: u32 = 0;
+    let mut i = 0;
+    while i < level {
+        let at = cost_place(starts[column + i], d, chosen[i], v);
+        sum += base::u16_at(stream, at);
+        i += 1;
+    }
+    sum
+}
+
+// Where the cost of the values u and v stands, the second unit having d values, of a pair whose costs begin at `start`.
+fn cost_place(start: u32, d: usize, u: u8, v: usize) -> usize
+    requires { ⌜ (d < 256) × (1 ≤ u) × (1 ≤ v) × (v < 256) ⌝ }
+    ensures { λ r. ⌜ r ≡ start + 2 * ((u - 1) * d + (v - 1)) ⌝ }
+{
+    start as usize + 2 * ((value(u) - 1) * d + (v - 1))
+}
+
+// Where in the stream the costs of each pair of places i < j begin, at 16 × j + i.
+fn pair_starts(stream: &[u8], n: usize) -> [u32; 256]
+    requires { ⌜ Accepted (now stream) × (n ≡ unitsOf (now stream)) × (n ≤ 16) ⌝ }
+    ensures { λ r. ⌜ Filled (now (stream .entry)) 256 r ⌝ }
+{
+    let mut starts = [0u32; 256];
+    let mut at = 1 + n;
+    let mut i = 0;
+    while i < n {
+        at = fill_row(stream, n, i, at, &mut starts);
+        i += 1;
+    }
+    starts
+}
+
+// The starts of the pairs of place i, the first of which begins at `at`; gives where those of the next place begin.
+fn fill_row(stream: &[u8], n: usize, i: usize, at: usize, starts: &mut [u32]) -> usize
+    requires { ⌜ Filling (now stream) n i at (now starts) × (i < n) ⌝ }
+    ensures { λ r. ⌜ Filling (now (stream .entry)) n (i + 1) r (now (starts .exit)) ⌝ }
+{
+    let d = byte(stream, 1 + i);
+    let mut from = at;
+    let mut j = i + 1;
+    while j < n {
+        starts[16 * j + i] = from as u32;
+        from += 2 * (d * byte(stream, 1 + j));
+        j += 1;
+    }
+    from
+}
+
+// The byte at k, 0 past the end.
+fn byte(stream: &[u8], k: usize) -> usize
+    ensures { λ r. ⌜ (r ≡ getD (now (stream .entry)) k 0) × (r < 256) ⌝ }
+{
+    base::wide_at(stream, k) as usize
+}
+
+// A value as a wider number.
+fn value(x: u8) -> usize
+    ensures { λ r. ⌜ (r ≡ x) × (r < 256) ⌝ }
+{
+    x as usize
+}
