@@ -22,11 +22,12 @@ use Rattle.message.specs.RoundTrip as trip
 use Rattle.unit.specs.declared.Unit.{Unit}
 use Rattle.unit.specs.declared.Decided.{Decided}
 use Rattle.unit.specs.declared.Outcome.{Outcome}
+use Rattle.unit.specs.declared.Report.{Report}
 use Rattle.unit.specs.State.{fresh, inRange}
 use Rattle.unit.specs.Step.{Out, refused, accepted, stale, assign, respond, decidedOf}
 use Rattle.unit.specs.Send.{packets, laid}
 use Rattle.unit.specs.Laying.{Room, laid-none}
-use Rattle.unit.specs.Calls.{outcomeOf, bytesOf, makeRefusal, start, unlessRefused, makeOut, stepRefusal, onRead, stepOut}
+use Rattle.unit.specs.Calls.{outcomeOf, reportOf, unitOf, bytesOf, makeRefusal, start, unlessRefused, makeOut, stepRefusal, onRead, stepOut}
 use Rattle.unit.specs.Ready.{Shaped, Ready, Heard}
 use Rattle.unit.specs.Laws.Views.{unit-range, lent-good}
 use Rattle.unit.specs.Laws.Range.{SizedUnit}
@@ -201,3 +202,13 @@ module _ (u : Unit) (own n : ℕ) (sizes costs out : List ℕ) (q : Passed u own
         let to : p .message .receiver ≡ suc (pred own) = omega (arith, to-own, unit-range n own (q .unit) .0) in
         rw (← pred-sub own) (few-decided n sizes w was (respond w k u (p .message)) d e
         (respond-kept n sizes w (lent-good own n sizes costs (q .shape) long (q .unit) (q .lent)) k u (p .message) (q .state) arrays record { address = rw fields (known .address); form = rw fields (known .formed); arrays = z } to))
+
+-- ---- a step in place: the numbers and the state of the outcome
+
+pub reported : (n k : ℕ) (was : Unit) (o : Out) (r : Outcome) → r ≡ outcomeOf n k was o → record { refusal = r .refusal; sent = r .sent; records = r .records } ≡ reportOf n k o
+reported n k was (refused x) r e = rw e
+reported n k was (accepted u s ws) r e = rw e
+
+pub left-behind : (n k : ℕ) (was : Unit) (o : Out) (r : Outcome) → r ≡ outcomeOf n k was o → r .unit ≡ unitOf was o
+left-behind n k was (refused x) r e = rw e
+left-behind n k was (accepted u s ws) r e = rw e

@@ -17,6 +17,7 @@ use Rattle.message.specs.Message.{isUnit}
 use Rattle.message.specs.Decode.{parseFor}
 use Rattle.unit.specs.declared.Unit.{Unit}
 use Rattle.unit.specs.declared.Outcome.{Outcome}
+use Rattle.unit.specs.declared.Report.{Report}
 use Rattle.unit.specs.State.{noUnit, fresh, inRange}
 use Rattle.unit.specs.Step.{Out, refused, accepted, Written, silent, assign, respond}
 use Rattle.unit.specs.Send.{packets, laid}
@@ -26,6 +27,15 @@ use Rattle.unit.specs.Send.{packets, laid}
 abbrev pub outcomeOf : ℕ → ℕ → Unit → Out → Outcome
 outcomeOf n k was (refused r) = record { refusal = r; unit = was; sent = 0; records = 0 }
 outcomeOf n k was (accepted u s ws) = record { refusal = 0; unit = u; sent = length (packets n k s); records = length ws }
+
+-- the same of a step in place: its numbers, and the state left behind the reference
+abbrev pub reportOf : ℕ → ℕ → Out → Report
+reportOf n k (refused r) = record { refusal = r; sent = 0; records = 0 }
+reportOf n k (accepted u s ws) = record { refusal = 0; sent = length (packets n k s); records = length ws }
+
+abbrev pub unitOf : Unit → Out → Unit
+unitOf was (refused r) = was
+unitOf was (accepted u s ws) = u
 
 abbrev pub bytesOf : ℕ → ℕ → List ℕ → Out → List ℕ
 bytesOf n k out (refused r) = out

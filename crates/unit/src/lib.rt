@@ -10,7 +10,7 @@ ghost use Rattle.unit.specs.State.{fresh, noUnit};
 ghost use Rattle.unit.specs.Step.{Out, refused, decidedOf};
 ghost use Rattle.unit.specs.Send.{packets};
 ghost use Rattle.unit.specs.Laying.{Room};
-ghost use Rattle.unit.specs.Calls.{outcomeOf, bytesOf, makeRefusal, start, makeOut, stepRefusal, stepOut};
+ghost use Rattle.unit.specs.Calls.{outcomeOf, reportOf, unitOf, bytesOf, makeRefusal, start, makeOut, stepRefusal, stepOut};
 ghost use Rattle.unit.specs.Ready.{Shaped};
 
 mod decide; // what each message makes a unit do
@@ -72,6 +72,14 @@ pub struct Outcome {
     pub records: u8,
 }
 
+// What a step in place hands back beside the state and the bytes.
+#[repr(C)]
+pub struct Report {
+    pub refusal: u8,
+    pub sent: u8,
+    pub records: u8,
+}
+
 // A unit is made: unit 1 assigns, the others wait. Refusals 5, 10, 6, 7, 13 in order.
 pub fn make(own: u8, n: u8, sizes: [u8; 16], costs: &[u8], out: &mut [u8]) -> Outcome
     ensures { λ r. ⌜ (r ≡ outcomeOf n (pred own) noUnit (makeOut own n sizes (now (costs .entry)) (length (now (out .entry))))) × (now (out .exit) ≡ bytesOf n (pred own) (now (out .entry)) (makeOut own n sizes (now (costs .entry)) (length (now (out .entry))))) ⌝ }
@@ -108,6 +116,29 @@ pub fn step(
     let m = parsed.message;
     let d = decide::respond(own, n, sizes, costs, kind, u, m);
     carry_out(n, own, d, out)
+}
+
+// The step on a lent state: 01, "The box lends its state to each step, and the step writes it there".
+pub fn step_in_place(
+    u: &mut Unit,
+    own: u8,
+    n: u8,
+    sizes: [u8; 16],
+    costs: &[u8],
+    packet: &[u8],
+    out: &mut [u8],
+) -> Report
+    ensures { λ r. ⌜ (r ≡ reportOf n (pred own) (stepOut (now (u .entry)) own n sizes (now (costs .entry)) (now (packet .entry)) (length (now (out .entry))))) × (now (u .exit) ≡ unitOf (now (u .entry)) (stepOut (now (u .entry)) own n sizes (now (costs .entry)) (now (packet .entry)) (length (now (out .entry))))) × (now (out .exit) ≡ bytesOf n (pred own) (now (out .entry)) (stepOut (now (u .entry)) own n sizes (now (costs .entry)) (now (packet .entry)) (length (now (out .entry))))) ⌝ }
+{
+    let v = *u;
+    let r = step(v, own, n, sizes, costs, packet, out);
+    let w = r.unit;
+    *u = w;
+    Report {
+        refusal: r.refusal,
+        sent: r.sent,
+        records: r.records,
+    }
 }
 
 // The first refusal of making that applies, or 0.
