@@ -15,6 +15,7 @@ use lib.ListN.{length, replicate, replicate-append-replicate}
 use borrow.Author.Tests.{eqb-true, eqb-false, eq-eqb, ne-eqb}
 use Rattle.costs.specs.Instance.{instanceOf}
 use Rattle.network.specs.declared.Network.{Network}
+use Rattle.network.specs.declared.Answer.{Answer}
 use Rattle.network.specs.Count.{valueOf}
 use Rattle.network.specs.Calls.{Result, makeOf, deliverOf}
 use Rattle.network.specs.Demand3.{State, stateOf, delivered, deliverAll, runBytes, refusalAt, acceptedIn, Made, most, first}
@@ -59,23 +60,24 @@ module _ (s : List ℕ) where
   one-more : (k : ℕ) → cellZero (k + 1) ≡ cellZero k ++ (0 ∷ [])
   one-more k = sym (replicate-append-replicate k 1 0)
 
--- ---- after k accepted deliveries of cell 0
+-- ---- after k accepted deliveries of cell 0, from the state S₀ on
 
-pub record After (s pool : List ℕ) (S : State) (k : ℕ) : Type 0 where
-  pub is : S ≡ runBytes s pool (cellZero k)
-  pub accepted : acceptedIn s (stateOf (makeOf s pool)) (cellZero k) ≡ k
+pub record After (s : List ℕ) (S₀ S : State) (k : ℕ) : Type 0 where
+  pub is : S ≡ deliverAll s S₀ (cellZero k)
+  pub accepted : acceptedIn s S₀ (cellZero k) ≡ k
 
 module _ (s pool : List ℕ) (made : Made s pool) where
-  pub after-making : After s pool (stateOf (makeOf s pool)) 0
+  pub after-making : After s (stateOf (makeOf s pool)) (stateOf (makeOf s pool)) 0
   unfolding runBytes deliverAll acceptedIn
   after-making = record { is = refl; accepted = refl }
 
   -- the words count them
-  pub after-counts : (S : State) (k : ℕ) → After s pool S k → valueOf (S .network .core .deliveries) ≡ k
+  pub after-counts : (S : State) (k : ℕ) → After s (stateOf (makeOf s pool)) S k → valueOf (S .network .core .deliveries) ≡ k
+  unfolding runBytes
   after-counts S k a = ap (λ (T : State). valueOf (T .network .core .deliveries)) (a .is) ∙ served s pool made (cellZero k) .deliveries ∙ a .accepted
 
   -- one more that is accepted
-  pub after-next : (S : State) (k : ℕ) → After s pool S k → refusalAt s S 0 ≡ 0 → After s pool (delivered s S 0) (k + 1)
+  pub after-next : (S : State) (k : ℕ) → After s (stateOf (makeOf s pool)) S k → refusalAt s S 0 ≡ 0 → After s (stateOf (makeOf s pool)) (delivered s S 0) (k + 1)
   unfolding runBytes deliverAll acceptedIn
   after-next S k a e =
       record {
@@ -88,11 +90,11 @@ module _ (s pool : List ℕ) (made : Made s pool) where
       }
 
   -- and no run accepts more than (3n - 1) × N
-  pub after-bounded : (S : State) (k : ℕ) → After s pool S k → k ≤ most (instanceOf s)
+  pub after-bounded : (S : State) (k : ℕ) → After s (stateOf (makeOf s pool)) S k → k ≤ most (instanceOf s)
   after-bounded S k a = subst (λ x. x ≤ most (instanceOf s)) (a .accepted) (served s pool made (cellZero k) .bounded)
 
   -- once cell 0 is refused, the run of (3n - 1) × N zeros is where it stands
-  pub after-refused : (S : State) (k : ℕ) → After s pool S k → (refusalAt s S 0 ≡ 0 → ⊥) → runBytes s pool (cellZero (most (instanceOf s))) ≡ S
+  pub after-refused : (S : State) (k : ℕ) → After s (stateOf (makeOf s pool)) S k → (refusalAt s S 0 ≡ 0 → ⊥) → runBytes s pool (cellZero (most (instanceOf s))) ≡ S
   unfolding runBytes
   after-refused S k a ne =
       let m : ℕ = most (instanceOf s) - k in
@@ -110,8 +112,9 @@ module _ (s pool : List ℕ) (made : Made s pool) where
   unfolding settleOf
   settled-is = ap (λ r. unlessUnmade r s pool) made
 
-  pub settles-stopped : (S : State) (k : ℕ) → After s pool S k → first S .stopped ≡ true
+  pub settles-stopped : (S : State) (k : ℕ) → After s (stateOf (makeOf s pool)) S k → first S .stopped ≡ true
       → settleOf s pool ≡ record { answer = record { refusal = 0; network = S .network }; pool = S .pool }
+  unfolding runBytes
   settles-stopped S k a st =
       settled-is ∙ ap (reported s) (after-refused S k a (λ z. twelve (sym z ∙ refuses)))
       ∙ ap (λ t. record { answer = record { refusal = cond t 0 (refusalAt s S 0); network = S .network }; pool = S .pool }) st
@@ -122,7 +125,77 @@ module _ (s pool : List ℕ) (made : Made s pool) where
       twelve : _≡_ {A = ℕ} 0 12 → ⊥
       twelve e = absurd (omega arith)
 
-  pub settles-refused : (S : State) (k : ℕ) → After s pool S k → first S .stopped ≡ false → (refusalAt s S 0 ≡ 0 → ⊥) → settleOf s pool ≡ deliverOf (S .network) s (S .pool) 0
+  pub settles-refused : (S : State) (k : ℕ) → After s (stateOf (makeOf s pool)) S k → first S .stopped ≡ false → (refusalAt s S 0 ≡ 0 → ⊥) → settleOf s pool ≡ deliverOf (S .network) s (S .pool) 0
   settles-refused S k a st ne =
       settled-is ∙ ap (reported s) (after-refused S k a ne) ∙ ap (λ t. record { answer = record { refusal = cond t 0 (refusalAt s S 0); network = S .network }; pool = S .pool }) st
       ∙ ap (λ (T : State). record { answer = record { refusal = refusalAt s S 0; network = T .network }; pool = T .pool }) (sym (refused-stays s S 0 ne))
+
+-- a table or a pool that making refuses
+pub settles-unmade : (s pool : List ℕ) → (makeOf s pool .answer .refusal ≡ 0 → ⊥) → settleOf s pool ≡ makeOf s pool
+unfolding settleOf
+settles-unmade s pool ne = go (makeOf s pool .answer .refusal) ne
+  where
+    go : (r : ℕ) → (r ≡ 0 → ⊥) → unlessUnmade r s pool ≡ makeOf s pool
+    go zero h = absurd (h refl)
+    go (suc r) h = refl
+
+-- ---- the turns of the loop that does it
+
+-- making refused: nothing more is done
+pub settle-unmade : (s p : List ℕ) (a : Answer) (l : List ℕ) → (a ≡ makeOf s p .answer) × (l ≡ makeOf s p .pool) → (a .refusal ≡ 0 → ⊥) → (a ≡ settleOf s p .answer) × (l ≡ settleOf s p .pool)
+settle-unmade s p a l e ne =
+    let q = settles-unmade s p (λ z. ne (ap (λ (x : Answer). x .refusal) (e .0) ∙ z)) in
+    (e .0 ∙ ap (λ (x : Result). x .answer) (sym q), e .1 ∙ ap (λ (x : Result). x .pool) (sym q))
+
+-- making gave a and the pool l; now the network is net and the pool is m
+module _ (s p : List ℕ) (a : Answer) (l : List ℕ) (e : (a ≡ makeOf s p .answer) × (l ≡ makeOf s p .pool)) (z : a .refusal ≡ 0) where
+  abbrev pub Reached : Network → List ℕ → Type 0
+  Reached net m = (k : ℕ) × After s (record { network = a .network; pool = l }) (record { network = net; pool = m }) k
+
+  made : Made s p
+  made = ap (λ (x : Answer). x .refusal) (sym (e .0)) ∙ z
+
+  start-is : _≡_ {A = State} (record { network = a .network; pool = l }) (stateOf (makeOf s p))
+  start-is = λ i. record { network = e .0 i .network; pool = e .1 i }
+
+  pub reached-start : Reached (a .network) l
+  unfolding deliverAll acceptedIn
+  reached-start = (0, record { is = refl; accepted = refl })
+
+  module _ (net : Network) (m : List ℕ) (r : Reached net m) where
+    from-making : After s (stateOf (makeOf s p)) (record { network = net; pool = m }) (r .0)
+    from-making = subst (λ (S₀ : State). After s S₀ (record { network = net; pool = m }) (r .0)) start-is (r .1)
+
+    -- unit 1 has stopped
+    pub settle-stopped : first (record { network = net; pool = m }) .stopped ≡ true → (record { refusal = 0; network = net } ≡ settleOf s p .answer) × (m ≡ settleOf s p .pool)
+    settle-stopped st =
+        let q = settles-stopped s p made (record { network = net; pool = m }) (r .0) from-making st in
+        (ap (λ (x : Result). x .answer) (sym q), ap (λ (x : Result). x .pool) (sym q))
+
+    -- the next delivery gave d, and left the pool m′
+    module _ (d : Answer) (m′ : List ℕ) (f : (d ≡ deliverOf net s m 0 .answer) × (m′ ≡ deliverOf net s m 0 .pool)) where
+      next-is : _≡_ {A = State} (record { network = d .network; pool = m′ }) (delivered s (record { network = net; pool = m }) 0)
+      next-is = λ i. record { network = f .0 i .network; pool = f .1 i }
+
+      pub settle-refused : first (record { network = net; pool = m }) .stopped ≡ false → (d .refusal ≡ 0 → ⊥) → (d ≡ settleOf s p .answer) × (m′ ≡ settleOf s p .pool)
+      settle-refused st ne =
+          let q = settles-refused s p made (record { network = net; pool = m }) (r .0) from-making st (λ y. ne (ap (λ (x : Answer). x .refusal) (f .0) ∙ y)) in
+          (f .0 ∙ ap (λ (x : Result). x .answer) (sym q), f .1 ∙ ap (λ (x : Result). x .pool) (sym q))
+
+      module _ (y : d .refusal ≡ 0) where
+        next-after : After s (stateOf (makeOf s p)) (record { network = d .network; pool = m′ }) (r .0 + 1)
+        next-after =
+            subst (λ (S : State). After s (stateOf (makeOf s p)) S (r .0 + 1)) (sym next-is)
+            (after-next s p made (record { network = net; pool = m }) (r .0) from-making (ap (λ (x : Answer). x .refusal) (sym (f .0)) ∙ y))
+
+        pub reached-next : Reached (d .network) m′
+        reached-next = (r .0 + 1, subst (λ (S₀ : State). After s S₀ (record { network = d .network; pool = m′ }) (r .0 + 1)) (sym start-is) next-after)
+
+        pub measure-falls : most (instanceOf s) - valueOf (d .network .core .deliveries) < most (instanceOf s) - valueOf (net .core .deliveries)
+        measure-falls =
+            omega (
+              arith,
+              after-counts s p made (record { network = net; pool = m }) (r .0) from-making,
+              after-counts s p made (record { network = d .network; pool = m′ }) (r .0 + 1) next-after,
+              after-bounded s p made (record { network = d .network; pool = m′ }) (r .0 + 1) next-after,
+            )
