@@ -1,19 +1,20 @@
 -- The tests of a state in range as the code makes them, one after another: which one fails the whole, and what all but the last give.
 -- A test that fails makes the conjunction false whatever stands before it. Assumes nothing.
 use Prim.Native.Nat.{ℕ, suc, _+_, _-_, _≤_, _<_}
-use native.Mathlib.Omega.{arith}
+use native.Mathlib.Numerals.{add-one}
 use mathlib.Core.Path.{_≡_, sym, ap, _∙_}
 use mathlib.Core.Bool.{Bool, true, false, and-false}
 use mathlib.Core.List.{List}
 use lib.Dec.{leb, eqb}
 use lib.ListN.{getD}
 use borrow.Author.Tests.{le-leb, lt-leb, eq-eqb, ne-eqb}
-use Rattle.costs.specs.Instance.{View}
+use Rattle.costs.specs.Instance.{lentView}
 use Rattle.costs.specs.Bounds.{costWith}
 use Rattle.message.specs.Message.{totalLimit, prefixLimit, every, filledTo, noneOrBound}
 use Rattle.message.specs.Laws.{every-more, every-not}
 use Rattle.unit.specs.declared.Unit.{Unit}
-use Rattle.unit.specs.State.{ownValue, compareOn, notSmaller, allAtMost, cpaZero, cpaOutInRange, inRange}
+use Rattle.unit.specs.State.{compareOn, notSmaller, allAtMost, cpaZero, cpaOutInRange, inRangePaid, inRange}
+use Rattle.unit.proofs.Lent.{place-lent, n-lent}
 
 -- ---- 16 places at most m, the first i of them looked at
 
@@ -47,87 +48,82 @@ module _ (sizes : List ℕ) (u : Unit) where
   unfolding cpaZero
   zero-cost e f = simp (e, f)
 
--- ---- a cpa out, of unit `own`
+-- ---- a cpa out, of the unit at place k
 
-module _ (sizes : List ℕ) (w : View) (u : Unit) (own : ℕ) (number : suc (w .place) ≡ own) where
-  place : w .place ≡ own - 1
-  place = omega arith
+module _ (sizes : List ℕ) (k paid : ℕ) (u : Unit) where
+  -- a test at the code's k + 1
+  at : (f : ℕ → Bool) (b : Bool) → f (k + 1) ≡ b → f (suc k) ≡ b
+  at f b e = ap f (sym (add-one k)) ∙ e
 
-  -- a test at the unit's number, or at its place
-  at : (f : ℕ → Bool) (b : Bool) → f own ≡ b → f (suc (w .place)) ≡ b
-  at f b e = ap f number ∙ e
-
-  at-place : (f : ℕ → Bool) (b : Bool) → f (own - 1) ≡ b → f (w .place) ≡ b
-  at-place f b e = ap f place ∙ e
-
-  pub out-stamp : filledTo own sizes (u .stamp) ≡ false → false ≡ cpaOutInRange sizes w u
+  pub out-stamp : filledTo (k + 1) sizes (u .stamp) ≡ false → false ≡ cpaOutInRange sizes k paid u
   unfolding cpaOutInRange
-  out-stamp e = simp (at (λ (k : ℕ). filledTo k sizes (u .stamp)) false e)
+  out-stamp e = simp (at (λ (j : ℕ). filledTo j sizes (u .stamp)) false e)
 
-  pub out-values : filledTo own sizes (u .values) ≡ false → false ≡ cpaOutInRange sizes w u
+  pub out-values : filledTo (k + 1) sizes (u .values) ≡ false → false ≡ cpaOutInRange sizes k paid u
   unfolding cpaOutInRange
-  out-values e = simp (at (λ (k : ℕ). filledTo k sizes (u .values)) false e, and-false)
+  out-values e = simp (at (λ (j : ℕ). filledTo j sizes (u .values)) false e, and-false)
 
-  pub out-cost : prefixLimit own < u .cost → false ≡ cpaOutInRange sizes w u
+  pub out-cost : prefixLimit (k + 1) < u .cost → false ≡ cpaOutInRange sizes k paid u
   unfolding cpaOutInRange
-  out-cost l = simp (at (λ (k : ℕ). leb (u .cost) (prefixLimit k)) false (lt-leb _ _ l), and-false)
+  out-cost l = simp (at (λ (j : ℕ). leb (u .cost) (prefixLimit j)) false (lt-leb _ _ l), and-false)
 
-  pub out-counter : (u .counter ≡ getD (u .stamp) (own - 1) 0 → ⊥) → false ≡ cpaOutInRange sizes w u
+  pub out-counter : (u .counter ≡ getD (u .stamp) k 0 → ⊥) → false ≡ cpaOutInRange sizes k paid u
   unfolding cpaOutInRange
-  out-counter n = simp (at-place (λ (k : ℕ). eqb (u .counter) (getD (u .stamp) k 0)) false (ne-eqb _ _ n), and-false)
+  out-counter n = simp (ne-eqb (u .counter) (getD (u .stamp) k 0) n, and-false)
 
-  pub out-tried : getD (u .values) (own - 1) 0 < u .counter → false ≡ cpaOutInRange sizes w u
+  pub out-tried : getD (u .values) k 0 < u .counter → false ≡ cpaOutInRange sizes k paid u
   unfolding cpaOutInRange
-  out-tried l = simp (at-place (λ (k : ℕ). leb (u .counter) (getD (u .values) k 0)) false (lt-leb _ _ l), and-false)
+  out-tried l = simp (lt-leb (u .counter) (getD (u .values) k 0) l, and-false)
 
-  pub out-threshold : notSmaller (compareOn own (u .threshold) (u .stamp)) ≡ false → false ≡ cpaOutInRange sizes w u
+  pub out-threshold : notSmaller (compareOn (k + 1) (u .threshold) (u .stamp)) ≡ false → false ≡ cpaOutInRange sizes k paid u
   unfolding cpaOutInRange
-  out-threshold e = simp (at (λ (k : ℕ). notSmaller (compareOn k (u .threshold) (u .stamp))) false e, and-false)
+  out-threshold e = simp (at (λ (j : ℕ). notSmaller (compareOn j (u .threshold) (u .stamp))) false e, and-false)
 
-  module _ (paid : ℕ) (pays : paid ≡ costWith w (u .values) (own - 1) (getD (u .values) (own - 1) 0)) where
-    here : costWith w (u .values) (w .place) (ownValue w u) ≡ paid
-    here = ap (λ (k : ℕ). costWith w (u .values) k (getD (u .values) k 0)) place ∙ sym pays
+  pub out-paid : u .cost < paid → false ≡ cpaOutInRange sizes k paid u
+  unfolding cpaOutInRange
+  out-paid l = simp (lt-leb paid (u .cost) l, and-false)
 
-    pub out-paid : u .cost < paid → false ≡ cpaOutInRange sizes w u
-    unfolding cpaOutInRange
-    out-paid l = simp (here, lt-leb paid (u .cost) l, and-false)
-
-    pub out-bare : filledTo own sizes (u .stamp) ≡ true → filledTo own sizes (u .values) ≡ true → u .cost ≤ prefixLimit own
-        → u .counter ≡ getD (u .stamp) (own - 1) 0 → u .counter ≤ getD (u .values) (own - 1) 0
-        → notSmaller (compareOn own (u .threshold) (u .stamp)) ≡ true → paid ≤ u .cost
-        → leb (u .cost - paid) (prefixLimit (own - 1)) ≡ cpaOutInRange sizes w u
-    unfolding cpaOutInRange
-    out-bare s v c n t o p = simp (
-      here,
-      at (λ (k : ℕ). filledTo k sizes (u .stamp)) true s,
-      at (λ (k : ℕ). filledTo k sizes (u .values)) true v,
-      at (λ (k : ℕ). leb (u .cost) (prefixLimit k)) true (le-leb _ _ c),
-      at-place (λ (k : ℕ). eqb (u .counter) (getD (u .stamp) k 0)) true (eq-eqb _ _ n),
-      at-place (λ (k : ℕ). leb (u .counter) (getD (u .values) k 0)) true (le-leb _ _ t),
-      at (λ (k : ℕ). notSmaller (compareOn k (u .threshold) (u .stamp))) true o,
-      le-leb paid (u .cost) p,
-    ) (ap (λ (k : ℕ). leb (u .cost - paid) (prefixLimit k)) (sym place))
+  pub out-bare : filledTo (k + 1) sizes (u .stamp) ≡ true → filledTo (k + 1) sizes (u .values) ≡ true → u .cost ≤ prefixLimit (k + 1)
+      → u .counter ≡ getD (u .stamp) k 0 → u .counter ≤ getD (u .values) k 0 → notSmaller (compareOn (k + 1) (u .threshold) (u .stamp)) ≡ true → paid ≤ u .cost
+      → leb (u .cost - paid) (prefixLimit k) ≡ cpaOutInRange sizes k paid u
+  unfolding cpaOutInRange
+  out-bare s v c n t o p = simp (
+    at (λ (j : ℕ). filledTo j sizes (u .stamp)) true s,
+    at (λ (j : ℕ). filledTo j sizes (u .values)) true v,
+    at (λ (j : ℕ). leb (u .cost) (prefixLimit j)) true (le-leb _ _ c),
+    eq-eqb (u .counter) (getD (u .stamp) k 0) n,
+    le-leb (u .counter) (getD (u .values) k 0) t,
+    at (λ (j : ℕ). notSmaller (compareOn j (u .threshold) (u .stamp))) true o,
+    le-leb paid (u .cost) p,
+  )
 
 -- ---- the whole
 
-module _ (sizes : List ℕ) (w : View) (u : Unit) where
-  pub range-threshold : allAtMost 17 (u .threshold) ≡ false → false ≡ inRange sizes w u
-  unfolding inRange
+module _ (n : ℕ) (sizes : List ℕ) (k paid : ℕ) (u : Unit) where
+  pub range-threshold : allAtMost 17 (u .threshold) ≡ false → false ≡ inRangePaid n sizes k paid u
+  unfolding inRangePaid
   range-threshold e = simp e
 
-  pub range-estimates : allAtMost totalLimit (u .estimates) ≡ false → false ≡ inRange sizes w u
-  unfolding inRange
+  pub range-estimates : allAtMost totalLimit (u .estimates) ≡ false → false ≡ inRangePaid n sizes k paid u
+  unfolding inRangePaid
   range-estimates e = simp (e, and-false)
 
-  pub range-bound : noneOrBound (w .n) sizes (u .bound) (u .best) ≡ false → false ≡ inRange sizes w u
-  unfolding inRange
+  pub range-bound : noneOrBound n sizes (u .bound) (u .best) ≡ false → false ≡ inRangePaid n sizes k paid u
+  unfolding inRangePaid
   range-bound e = simp (e, and-false)
 
-  module _ (t : allAtMost 17 (u .threshold) ≡ true) (e : allAtMost totalLimit (u .estimates) ≡ true) (b : noneOrBound (w .n) sizes (u .bound) (u .best) ≡ true) where
-    pub range-none : ownValue w u ≡ 0 → cpaZero sizes u ≡ inRange sizes w u
-    unfolding inRange
-    range-none z = simp (t, e, b, eq-eqb (ownValue w u) 0 z)
+  module _ (t : allAtMost 17 (u .threshold) ≡ true) (e : allAtMost totalLimit (u .estimates) ≡ true) (b : noneOrBound n sizes (u .bound) (u .best) ≡ true) where
+    pub range-none : getD (u .values) k 0 ≡ 0 → cpaZero sizes u ≡ inRangePaid n sizes k paid u
+    unfolding inRangePaid
+    range-none z = simp (t, e, b, eq-eqb (getD (u .values) k 0) 0 z)
 
-    pub range-out : (ownValue w u ≡ 0 → ⊥) → cpaOutInRange sizes w u ≡ inRange sizes w u
-    unfolding inRange
-    range-out n = simp (t, e, b, ne-eqb (ownValue w u) 0 n)
+    pub range-out : (getD (u .values) k 0 ≡ 0 → ⊥) → cpaOutInRange sizes k paid u ≡ inRangePaid n sizes k paid u
+    unfolding inRangePaid
+    range-out z = simp (t, e, b, ne-eqb (getD (u .values) k 0) 0 z)
+
+-- what a unit pays by its view
+pub range-lent : (own n : ℕ) (sizes costs : List ℕ) (u : Unit) (v paid : ℕ) → v ≡ getD (u .values) (own - 1) 0 → paid ≡ costWith (lentView own n sizes costs) (u .values) (own - 1) v
+    → inRangePaid n sizes (own - 1) paid u ≡ inRange sizes (lentView own n sizes costs) u
+unfolding inRange
+range-lent own n sizes costs u v paid own-value pays =
+    rw (pays, own-value, n-lent own n sizes costs, place-lent own n sizes costs)

@@ -2,7 +2,7 @@
 --     fresh, the setters `with..`          a new unit; one idea changed, the rest kept
 --     ownValue, next, left, placeTried     the own value, and the order in which values are tried
 --     order, compareOn, sameOn             01: "Stamps compare from unit 1 on"
---     cpaInRange, inRange                  01: "A lent state is in range when .."
+--     cpaOutInRange, inRangePaid, inRange  01: "A lent state is in range when .."
 -- Places count from 0: place k of an array is unit k + 1's. Assumes nothing.
 use Prim.Native.Nat.{ℕ, zero, suc, _+_, _*_, _-_}
 use mathlib.Core.Bool.{Bool, true, false, cond, not, _&&_}
@@ -167,18 +167,20 @@ cpaZero sizes u = filledTo 0 sizes (u .stamp) && filledTo 0 sizes (u .values) &&
 -- 01: "with a paper out, counter and own stamp are equal and at most the own value's place in the order tried, the threshold
 -- compared on units 1 to i isn't smaller than the paper's stamp, and the paper's cost less the own value's costs is 0 or more
 -- and within the limit for one unit fewer"; and the paper keeps the message limits of i = k + 1 filled units
-unfoldable pub cpaOutInRange : List ℕ → View → Unit → Bool
-cpaOutInRange sizes w u =
-    let k = w .place in
-    let paid = costWith w (u .values) k (ownValue w u) in
+-- The unit stands at place k, and its own value's costs are `paid`.
+unfoldable pub cpaOutInRange : List ℕ → ℕ → ℕ → Unit → Bool
+cpaOutInRange sizes k paid u =
     filledTo (suc k) sizes (u .stamp) && filledTo (suc k) sizes (u .values) && leb (u .cost) (prefixLimit (suc k))
-    && eqb (u .counter) (getD (u .stamp) k 0) && leb (u .counter) (placeTried (ownValue w u))
+    && eqb (u .counter) (getD (u .stamp) k 0) && leb (u .counter) (placeTried (getD (u .values) k 0))
     && notSmaller (compareOn (suc k) (u .threshold) (u .stamp))
     && leb paid (u .cost) && leb (u .cost - paid) (prefixLimit k)
 
 -- 01: "A lent state is in range when threshold bytes are at most 17, estimates at most 7,200,000, and bound and paper keep the
 -- message limits; .."
+unfoldable pub inRangePaid : ℕ → List ℕ → ℕ → ℕ → Unit → Bool
+inRangePaid n sizes k paid u =
+    allAtMost 17 (u .threshold) && allAtMost totalLimit (u .estimates) && noneOrBound n sizes (u .bound) (u .best)
+    && cond (eqb (getD (u .values) k 0) 0) (cpaZero sizes u) (cpaOutInRange sizes k paid u)
+
 unfoldable pub inRange : List ℕ → View → Unit → Bool
-inRange sizes w u =
-    allAtMost 17 (u .threshold) && allAtMost totalLimit (u .estimates) && noneOrBound (w .n) sizes (u .bound) (u .best)
-    && cond (eqb (ownValue w u) 0) (cpaZero sizes u) (cpaOutInRange sizes w u)
+inRange sizes w u = inRangePaid (w .n) sizes (w .place) (costWith w (u .values) (w .place) (ownValue w u)) u

@@ -15,7 +15,10 @@ ghost use Rattle.unit.specs.Ready.{Shaped};
 
 mod decide; // what each message makes a unit do
 mod send; // what is sent, laid into the lent buffer
-mod state; // the order of stamps, and the parts of a state set
+mod state; // whether a state is in range, the order of stamps, and the parts of a state set
+
+pub use state::in_range_paid;
+pub use state::known;
 
 // 01: "A unit's state keeps its threshold stamp, its best bound and lotting, its estimates, its paper, its own counter and
 // whether it has stopped." The paper out is the cpa in stamp, values and cost; the own value 0 means that none is out.
@@ -225,7 +228,7 @@ fn refused(refusal: u8, unit: Unit) -> Outcome
 }
 
 // A new unit: bound *none*, all else zero.
-fn fresh() -> Unit
+pub fn fresh() -> Unit
     ensures { λ r. ⌜ r ≡ fresh ⌝ }
 {
     let mut u = no_unit();
@@ -234,7 +237,7 @@ fn fresh() -> Unit
 }
 
 // The unit beside a refusal of making: all zero.
-fn no_unit() -> Unit
+pub fn no_unit() -> Unit
     ensures { λ r. ⌜ r ≡ noUnit ⌝ }
 {
     Unit {

@@ -18,8 +18,10 @@ ghost use Rattle.unit.specs.State.{
   allAtMost,
   cpaZero,
   cpaOutInRange,
+  inRangePaid,
   inRange,
 };
+ghost use Rattle.unit.specs.Laws.Range.{SizedUnit};
 ghost use Rattle.unit.specs.Ready.{Own};
 
 // The most that an estimate may be.
@@ -29,6 +31,17 @@ const ESTIMATE_LIMIT: u32 = 7200000;
 pub(crate) fn in_range(own: u8, n: u8, sizes: [u8; 16], costs: &[u8], u: Unit) -> bool
     requires { ⌜ Own own ⌝ }
     ensures { λ r. ⌜ r ≡ inRange sizes (lentView own n sizes (now (costs .entry))) u ⌝ }
+{
+    let place = own - 1;
+    let values = u.values;
+    let value = values[place as usize];
+    let paid = costs::cost_with(own, n, sizes, costs, values, place, value);
+    in_range_paid(place, n, sizes, paid, u)
+}
+
+// Whether the state of the unit at this place is in range, its own value's costs being `paid`.
+pub fn in_range_paid(place: u8, n: u8, sizes: [u8; 16], paid: u32, u: Unit) -> bool
+    ensures { λ r. ⌜ r ≡ inRangePaid n sizes place paid u ⌝ }
 {
     let threshold = u.threshold;
     if !bytes_at_most(17, threshold) {
@@ -42,10 +55,20 @@ pub(crate) fn in_range(own: u8, n: u8, sizes: [u8; 16], costs: &[u8], u: Unit) -
     if !message::none_or_bound(n, sizes, u.bound, best) {
         return false;
     }
-    if u.values[(own - 1) as usize] == 0 {
+    if 16 <= place {
         return cpa_zero(sizes, u);
     }
-    cpa_out_in_range(own, n, sizes, costs, u)
+    if u.values[place as usize] == 0 {
+        return cpa_zero(sizes, u);
+    }
+    cpa_out_in_range(place, sizes, paid, u)
+}
+
+// The same state. What its type says is known of a parameter, and by this of an element of an array of states too.
+pub fn known(u: Unit) -> Unit
+    ensures { λ r. ⌜ (r ≡ u) × SizedUnit u ⌝ }
+{
+    u
 }
 
 // Whether each of the 16 places is at most m.
@@ -91,10 +114,11 @@ fn cpa_zero(sizes: [u8; 16], u: Unit) -> bool
 }
 
 // Whether a cpa that is out keeps its limits.
-fn cpa_out_in_range(own: u8, n: u8, sizes: [u8; 16], costs: &[u8], u: Unit) -> bool
-    requires { ⌜ Own own ⌝ }
-    ensures { λ r. ⌜ r ≡ cpaOutInRange sizes (lentView own n sizes (now (costs .entry))) u ⌝ }
+fn cpa_out_in_range(place: u8, sizes: [u8; 16], paid: u32, u: Unit) -> bool
+    requires { ⌜ place < 16 ⌝ }
+    ensures { λ r. ⌜ r ≡ cpaOutInRange sizes place paid u ⌝ }
 {
+    let own = place + 1;
     let stamp = u.stamp;
     let values = u.values;
     if !message::filled_to(own, sizes, stamp) {
@@ -106,19 +130,16 @@ fn cpa_out_in_range(own: u8, n: u8, sizes: [u8; 16], costs: &[u8], u: Unit) -> b
     if message::prefix_limit(own) < u.cost {
         return false;
     }
-    let place = own - 1;
     if u.counter != stamp[place as usize] {
         return false;
     }
-    let value = values[place as usize];
-    if value < u.counter {
+    if values[place as usize] < u.counter {
         return false;
     }
     let threshold = u.threshold;
     if !not_smaller(compare(own as usize, threshold, stamp)) {
         return false;
     }
-    let paid = costs::cost_with(own, n, sizes, costs, values, place, value);
     if u.cost < paid {
         return false;
     }

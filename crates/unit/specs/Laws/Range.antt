@@ -13,7 +13,7 @@ use Rattle.costs.specs.Instance.{View}
 use Rattle.costs.specs.Bounds.{costWith}
 use Rattle.message.specs.Message.{totalLimit, prefixLimit, filledTo, noneOrBound}
 use Rattle.unit.specs.declared.Unit.{Unit}
-use Rattle.unit.specs.State.{ownValue, compareOn, notSmaller, cpaZero, cpaOutInRange, inRange}
+use Rattle.unit.specs.State.{ownValue, compareOn, notSmaller, cpaZero, cpaOutInRange, inRangePaid, inRange}
 use Rattle.unit.specs.Laws.Filled.{most-at, at-most}
 
 -- what the types of the code say of a state: arrays of 16 places
@@ -68,7 +68,7 @@ module _ (sizes : List ℕ) (w : View) (u : Unit) where
   unfolding cpaZero
   none-tests f = both _ _ (both _ _ (f .stamp) (f .values)) (eq-eqb (u .cost) 0 (f .cost))
 
-  out-facts : cpaOutInRange sizes w u ≡ true → CpaOut sizes w u
+  out-facts : cpaOutInRange sizes (w .place) (costWith w (u .values) (w .place) (ownValue w u)) u ≡ true → CpaOut sizes w u
   unfolding cpaOutInRange
   out-facts e =
       let b = split _ _ e in
@@ -89,7 +89,7 @@ module _ (sizes : List ℕ) (w : View) (u : Unit) where
         bare = leb-true _ _ (b .1);
       }
 
-  out-tests : CpaOut sizes w u → cpaOutInRange sizes w u ≡ true
+  out-tests : CpaOut sizes w u → cpaOutInRange sizes (w .place) (costWith w (u .values) (w .place) (ownValue w u)) u ≡ true
   unfolding cpaOutInRange
   out-tests f =
       both _ _
@@ -100,7 +100,7 @@ module _ (sizes : List ℕ) (w : View) (u : Unit) where
 
   -- the tests say what the facts say
   pub range-facts : inRange sizes w u ≡ true → InRange sizes w u
-  unfolding inRange
+  unfolding inRange inRangePaid
   range-facts e =
       let c = split _ _ e in
       let b = split _ _ (c .0) in
@@ -114,11 +114,11 @@ module _ (sizes : List ℕ) (w : View) (u : Unit) where
       }
 
   pub range-tests : InRange sizes w u → inRange sizes w u ≡ true
-  unfolding inRange
+  unfolding inRange inRangePaid
   range-tests f =
       both _ _ (both _ _ (both _ _ (at-most 17 (u .threshold) (f .threshold)) (at-most totalLimit (u .estimates) (f .estimates))) (f .bound)) (go (eqb (ownValue w u) 0) refl)
     where
-      go : (t : Bool) → eqb (ownValue w u) 0 ≡ t → cond t (cpaZero sizes u) (cpaOutInRange sizes w u) ≡ true
+      go : (t : Bool) → eqb (ownValue w u) 0 ≡ t → cond t (cpaZero sizes u) (cpaOutInRange sizes (w .place) (costWith w (u .values) (w .place) (ownValue w u)) u) ≡ true
       go true e = none-tests (f .none (eqb-true (ownValue w u) 0 e))
       go false e = out-tests (f .out (nonzero (ownValue w u) (eqb-false (ownValue w u) 0 e)))
         where
