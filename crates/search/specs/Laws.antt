@@ -2,7 +2,7 @@
 -- where it is. Each by taking the definition's tests apart; the rest is in Least.
 -- Assumes nothing.
 use Prim.Native.Nat.{ℕ, _≤_}
-use mathlib.Core.Path.{_≡_, refl, _∙_}
+use mathlib.Core.Path.{_≡_, refl, sym, _∙_}
 use mathlib.Core.Bool.{Bool, true, false, cond}
 use mathlib.Core.List.{List}
 use native.Mathlib.Omega.{arith}
@@ -30,7 +30,16 @@ module _ (s : List ℕ) where
   unfolding searchRefusal Accepted
   searched h = let q = not-refused (eqb (streamRefusal s) 0) (ltb 1048576 (countOf (instanceOf s))) (streamRefusal s) refl h in (q .0, ltb-false 1048576 (countOf (instanceOf s)) (q .1))
 
-  -- only the number
+  -- the number in the answer
+  pub search-refusal : searchOf s .refusal ≡ searchRefusal s
+  unfolding searchOf
+  search-refusal = go (eqb (searchRefusal s) 0) refl
+    where
+      go : (t : Bool) → eqb (searchRefusal s) 0 ≡ t → cond t (foundBest (bestOf (instanceOf s))) (refusedBy (searchRefusal s)) .refusal ≡ searchRefusal s
+      go true e = sym (eqb-true (searchRefusal s) 0 e)
+      go false e = refl
+
+  -- nothing beside it
   pub search-refused : (searchRefusal s ≡ 0 → ⊥) → searchOf s ≡ refusedBy (searchRefusal s)
   unfolding searchOf
   search-refused h = rw (ne-eqb (searchRefusal s) 0 h)

@@ -1,0 +1,2 @@
+-- What the bench prints of a stored table.
+pub mod Report

@@ -1,0 +1,60 @@
+-- The number that the bench prints of a file: that of reading it, then that of the search. What else is printed no contract can say.
+-- Assumes nothing.
+use Prim.Native.Nat.{ℕ, zero, suc, _≤_, _-_}
+use mathlib.Core.Path.{_≡_, refl, sym, ap, _∙_}
+use mathlib.Core.List.{List}
+use native.Mathlib.Omega.{arith}
+use lib.ListN.{length, take, drop}
+use lib.Seq.{take-at}
+use borrow.Author.Tests.{eq-eqb}
+use Rattle.table.specs.declared.ReadTable.{ReadTable}
+use Rattle.table.specs.File.{orElse, streamOf, readRefusal, readOf, readInto}
+use Rattle.table.specs.FileLaws.{read-most}
+use Rattle.search.specs.declared.Found.{Found}
+use Rattle.search.specs.Search.{searchRefusal, searchOf}
+use Rattle.search.specs.Laws.{search-refusal}
+
+unfoldable pub reportRefusal : List ℕ → ℕ
+reportRefusal f = orElse (readRefusal f 61457) (searchRefusal (streamOf f))
+
+-- ------------------------------------------------------------------------------------------------------------------
+-- Laws.
+
+module _ (f out : List ℕ) (r : ReadTable) (e : r ≡ readOf f (length out)) (room : length out ≡ 61457) where
+  refusal-of : r .refusal ≡ readRefusal f 61457
+  unfolding readOf
+  refusal-of = ap (λ (x : ReadTable). x .refusal) e ∙ rw room
+
+  -- a file that isn't read
+  pub unread : (r .refusal ≡ 0 → ⊥) → r .refusal ≡ reportRefusal f
+  unfolding reportRefusal
+  unread h = refusal-of ∙ first (readRefusal f 61457) (λ z. h (refusal-of ∙ z))
+    where
+      first : (k : ℕ) → (k ≡ 0 → ⊥) → k ≡ orElse k (searchRefusal (streamOf f))
+      first zero n = absurd (n refl)
+      first (suc k) n = refl
+
+-- a file that is read: the front of the buffer is its stream
+module _ (f out : List ℕ) (r : ReadTable) (e : r ≡ readOf f (length out)) (room : length out ≡ 61457) (h : r .refusal ≡ 0) where
+  read-of : readRefusal f (length out) ≡ 0
+  unfolding readOf
+  read-of = sym (ap (λ (x : ReadTable). x .refusal) e) ∙ h
+
+  length-of : r .length ≡ length (streamOf f)
+  unfolding readOf
+  length-of = ap (λ (x : ReadTable). x .length) e ∙ rw (eq-eqb (readRefusal f (length out)) 0 read-of)
+
+  pub read-fits : r .length ≤ 61457
+  read-fits = omega (arith, length-of, read-most f (length out) read-of)
+
+  pub read-front : (left : List ℕ) → left ≡ readInto f out → take (r .length) left ≡ streamOf f
+  unfolding readInto
+  read-front left q = rw (length-of, q, eq-eqb (readRefusal f (length out)) 0 read-of) (take-at (streamOf f) (drop (length (streamOf f)) out) (length (streamOf f)) refl)
+
+  pub read-report : (k : ℕ) (part : List ℕ) → part ≡ streamOf f → k ≡ searchRefusal part → k ≡ reportRefusal f
+  unfolding reportRefusal
+  read-report k part p q = let z : readRefusal f 61457 ≡ 0 = rw (← room) read-of in q ∙ rw (p, z)
+
+-- the search's own number
+pub found-refusal : (s : List ℕ) (r : Found) → r ≡ searchOf s → r .refusal ≡ searchRefusal s
+found-refusal s r e = ap (λ (x : Found). x .refusal) e ∙ search-refusal s
