@@ -5,14 +5,15 @@ use Prim.Native.Nat.{ℕ}
 use mathlib.Core.Path.{_≡_, refl}
 use mathlib.Core.Bool.{cond}
 use mathlib.Core.List.{List, [], _∷_, _++_, map}
-use lib.ListN.{length, getD}
+use lib.ListN.{length, getD, take}
 use Rattle.base.specs.Shape.{allInSixteen, shapeGood}
 use Rattle.checksum.specs.Sum.{sumOf}
 use Rattle.table.specs.Stream.{sumList, pairsIn, costsGood, streamRefusal}
 use Rattle.table.specs.Block.{allZero, blockRefusal, checkOf, blockOf}
 use Rattle.table.specs.File.{blocksRefusal, joined, streamOf, readRefusal, fileFrom, fileOf}
 use Rattle.costs.specs.Instance.{Instance, viewOf, instanceOf}
-use Rattle.costs.specs.Bounds.{costWith, h, estimate}
+use Rattle.costs.specs.Bounds.{costWith, h, estimate, total}
+use Rattle.search.specs.Search.{over, bestFrom, productTo, searchRefusal, searchOf}
 use Rattle.unit.specs.State.{compareOn, sameOn}
 use Rattle.unit.specs.Step.{backtrack, tryAfter, assign, resume, onCpa, onRequest, onEstimate, onSolution, onStop, respond}
 use Rattle.unit.specs.Send.{each, packets}
@@ -56,6 +57,8 @@ table =
     row 1 (length streamT ∷ checkOf (blockOf 0 streamT) ∷ reading streamT ∷ []) (11 ∷ 219 ∷ 0 ∷ []) ∷
     -- "h of unit 1: 3 and 2"
     row 2 (h (viewOf instanceT 0) 1 ∷ h (viewOf instanceT 0) 2 ∷ []) (3 ∷ 2 ∷ []) ∷
+    -- "Least total 2, by values 2, 1"
+    row 3 (searchOf streamT .refusal ∷ searchOf streamT .total ∷ take 2 (searchOf streamT .values)) (0 ∷ 2 ∷ 2 ∷ 1 ∷ []) ∷
     -- "n = 1, size 3: total 0, value 1, one record, no delivery"
     row 4 (reportOf (run instanceOne []) ++ countsOf (run instanceOne [])) (1 ∷ 0 ∷ 1 ∷ 0 ∷ 1 ∷ 0 ∷ 0 ∷ []) ∷
     -- "Copy of unit 1's value 1: estimate 3; of value 2: 2"
@@ -71,5 +74,5 @@ table =
     []
 
 pub cases-hold : map (λ (r : Row). r .found) table ≡ map (λ (r : Row). r .said) table
-unfolding table allInSixteen shapeGood sumOf sumList pairsIn costsGood streamRefusal allZero blockRefusal blockOf blocksRefusal joined streamOf readRefusal fileFrom fileOf instanceOf costWith h estimate compareOn sameOn backtrack tryAfter assign resume onCpa onRequest onEstimate onSolution onStop respond each packets begin handOver runFrom run
+unfolding table allInSixteen shapeGood sumOf sumList pairsIn costsGood streamRefusal allZero blockRefusal blockOf blocksRefusal joined streamOf readRefusal fileFrom fileOf instanceOf costWith h estimate total over bestFrom productTo searchRefusal searchOf compareOn sameOn backtrack tryAfter assign resume onCpa onRequest onEstimate onSolution onStop respond each packets begin handOver runFrom run
 cases-hold = refl
