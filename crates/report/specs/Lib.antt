@@ -1,2 +1,2 @@
--- What the bench prints of a stored table.
+-- What the bench and the shed print of a stored table.
 pub mod Report

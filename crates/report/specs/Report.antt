@@ -1,4 +1,4 @@
--- The number that the bench prints of a file: that of reading it, then that of the search. What else is printed no contract can say.
+-- The number that a program prints of a file: that of reading it, then that of what is done with its stream. What else is printed no contract can say.
 -- Assumes nothing.
 use Prim.Native.Nat.{ℕ, zero, suc, _≤_, _-_}
 use mathlib.Core.Path.{_≡_, refl, sym, ap, _∙_}
@@ -14,8 +14,9 @@ use Rattle.search.specs.declared.Found.{Found}
 use Rattle.search.specs.Search.{searchRefusal, searchOf}
 use Rattle.search.specs.Laws.{search-refusal}
 
-unfoldable pub reportRefusal : List ℕ → ℕ
-reportRefusal f = orElse (readRefusal f 61457) (searchRefusal (streamOf f))
+-- done is the number that a stream gives
+unfoldable pub fileRefusal : (List ℕ → ℕ) → List ℕ → ℕ
+fileRefusal done f = orElse (readRefusal f 61457) (done (streamOf f))
 
 -- ------------------------------------------------------------------------------------------------------------------
 -- Laws.
@@ -26,11 +27,11 @@ module _ (f out : List ℕ) (r : ReadTable) (e : r ≡ readOf f (length out)) (r
   refusal-of = ap (λ (x : ReadTable). x .refusal) e ∙ rw room
 
   -- a file that isn't read
-  pub unread : (r .refusal ≡ 0 → ⊥) → r .refusal ≡ reportRefusal f
-  unfolding reportRefusal
-  unread h = refusal-of ∙ first (readRefusal f 61457) (λ z. h (refusal-of ∙ z))
+  pub unread : (done : List ℕ → ℕ) → (r .refusal ≡ 0 → ⊥) → r .refusal ≡ fileRefusal done f
+  unfolding fileRefusal
+  unread done h = refusal-of ∙ first (readRefusal f 61457) (λ z. h (refusal-of ∙ z))
     where
-      first : (k : ℕ) → (k ≡ 0 → ⊥) → k ≡ orElse k (searchRefusal (streamOf f))
+      first : (k : ℕ) → (k ≡ 0 → ⊥) → k ≡ orElse k (done (streamOf f))
       first zero n = absurd (n refl)
       first (suc k) n = refl
 
@@ -51,9 +52,9 @@ module _ (f out : List ℕ) (r : ReadTable) (e : r ≡ readOf f (length out)) (r
   unfolding readInto
   read-front left q = rw (length-of, q, eq-eqb (readRefusal f (length out)) 0 read-of) (take-at (streamOf f) (drop (length (streamOf f)) out) (length (streamOf f)) refl)
 
-  pub read-report : (k : ℕ) (part : List ℕ) → part ≡ streamOf f → k ≡ searchRefusal part → k ≡ reportRefusal f
-  unfolding reportRefusal
-  read-report k part p q = let z : readRefusal f 61457 ≡ 0 = rw (← room) read-of in q ∙ rw (p, z)
+  pub read-report : (done : List ℕ → ℕ) (k : ℕ) (part : List ℕ) → part ≡ streamOf f → k ≡ done part → k ≡ fileRefusal done f
+  unfolding fileRefusal
+  read-report done k part p q = let z : readRefusal f 61457 ≡ 0 = rw (← room) read-of in q ∙ rw (p, z)
 
 -- the search's own number
 pub found-refusal : (s : List ℕ) (r : Found) → r ≡ searchOf s → r .refusal ≡ searchRefusal s

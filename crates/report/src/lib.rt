@@ -1,13 +1,13 @@
-// What the bench prints of a stored table.
+// What the bench and the shed print of a stored table.
 use libc::STDOUT_FILENO;
 ghost use mathlib.Core.Path.{_≡_};
 ghost use Rattle.search.specs.Search.{searchRefusal};
-ghost use Rattle.report.specs.Report.{reportRefusal};
+ghost use Rattle.report.specs.Report.{fileRefusal};
 
 // Prints the least total of a file's table, then each unit's value in the first assignment that has it, or `refused` and the number,
 // which it gives too.
 pub fn print_search(file: &[u8]) -> u8
-    ensures { λ r. ⌜ r ≡ reportRefusal (now (file .entry)) ⌝ }
+    ensures { λ r. ⌜ r ≡ fileRefusal searchRefusal (now (file .entry)) ⌝ }
 {
     let mut stream = [0u8; 61457];
     let r = table::read(file, &mut stream);

@@ -6,6 +6,7 @@ use native.Mathlib.Nat.{sub-zero}
 use mathlib.Core.List.{List}
 use lib.ListN.{length, take, replicate, length-replicate}
 use Rattle.table.specs.File.{streamOf}
+use Rattle.search.specs.Search.{searchRefusal}
 use Rattle.report.specs.Report.{unread, read-fits, read-front, read-report}
 use borrow.Author.Needs.{needs}
 use Rattle.report.proofs.print_search.Statement.{statement}
@@ -23,7 +24,7 @@ refuse-requires c κs = search needs
 returns : tie.Need-returns
 returns c =
     let x = c .before .before .before in
-    unread (x .before .before .before .args .file .now) (replicate 61457 0) (x .read .result) (x .read .ensures .0) (length-replicate {A = ℕ} 61457 0) (c .before .if1 .taken)
+    unread (x .before .before .before .args .file .now) (replicate 61457 0) (x .read .result) (x .read .ensures .0) (length-replicate {A = ℕ} 61457 0) searchRefusal (c .before .if1 .taken)
 
 sub-print-found : tie.Need-sub-print-found
 sub-print-found c = search needs
@@ -48,7 +49,7 @@ returns-2 c =
     let r = x .read .result in
     let none : List ℕ = replicate 61457 0 in
     let p : take (r .length - 0) (x .read .last .1 .0) ≡ streamOf f = rw sub-zero (read-front f none r (x .read .ensures .0) (length-replicate {A = ℕ} 61457 0) h (x .read .last .1 .0) (x .read .ensures .1)) in
-    read-report f none r (x .read .ensures .0) (length-replicate {A = ℕ} 61457 0) h (c .print-found .result) (take (r .length - 0) (x .read .last .1 .0)) p (c .print-found .ensures)
+    read-report f none r (x .read .ensures .0) (length-replicate {A = ℕ} 61457 0) h searchRefusal (c .print-found .result) (take (r .length - 0) (x .read .last .1 .0)) p (c .print-found .ensures)
 
 pub print-search-spec : {M : Type 1} → statement M
 print-search-spec =
