@@ -17,7 +17,7 @@ pub struct Found {
     pub values: [u8; 16],
 }
 
-// The best assignment so far.
+// The best assignment so far. The values stand first, so that they are copied in one piece.
 struct Best {
     values: [u8; 16],
     total: u32,
@@ -96,9 +96,10 @@ fn extend(
     let mut best = b;
     let mut v: usize = 1;
     while v <= d {
-        let more = added_cost(stream, starts, level, d, chosen, v);
+        // stored before the costs are added, as the call's copy would wait for a byte just stored
         let mut next = chosen;
         next[level] = v as u8;
+        let more = added_cost(stream, starts, level, d, chosen, v);
         best = extend(stream, starts, left - 1, level + 1, cost + more, next, best);
         v += 1;
     }

@@ -103,18 +103,6 @@ extend-loop-holds t c =
     let size = c .byte .ensures .0 in
     (omega arith, omega arith, omega arith, size, best-of-values (instanceOf (a .stream .now)) (a .left) (a .level) (c .byte .result) (a .chosen) (a .b) some (size-is-dom (z .pre .1) (c .byte .result) some size))
 
-extend-added-cost-requires : (t : ℕ) → extend-lts.Need-added-cost-requires (
-  better-reads.Asked,
-  better-reads.Learnt,
-  byte-reads.Asked,
-  byte-reads.Learnt,
-  added-cost-reads.Asked,
-  added-cost-reads.Learnt,
-  extend-below t,
-  extend.Post,
-) (extend-at t) extend.Post extend-Inv-loop extend-μ-loop
-extend-added-cost-requires t c κs = search needs
-
 extend-cast-next : (t : ℕ) → extend-lts.Need-cast-next (
   better-reads.Asked,
   better-reads.Learnt,
@@ -138,6 +126,18 @@ extend-array-write-next : (t : ℕ) → extend-lts.Need-array-write-next (
   extend.Post,
 ) (extend-at t) extend.Post extend-Inv-loop extend-μ-loop
 extend-array-write-next t c = search needs
+
+extend-added-cost-requires : (t : ℕ) → extend-lts.Need-added-cost-requires (
+  better-reads.Asked,
+  better-reads.Learnt,
+  byte-reads.Asked,
+  byte-reads.Learnt,
+  added-cost-reads.Asked,
+  added-cost-reads.Learnt,
+  extend-below t,
+  extend.Post,
+) (extend-at t) extend.Post extend-Inv-loop extend-μ-loop
+extend-added-cost-requires t c κs = search needs
 
 extend-sub-extend : (t : ℕ) → extend-lts.Need-sub-extend (
   better-reads.Asked,
@@ -268,9 +268,9 @@ pub +extend-spec : {M : Type 1} → statement M
     (extend-add-byte t)
     (extend-byte-requires t)
     (extend-loop-holds t)
-    (extend-added-cost-requires t)
     (extend-cast-next t)
     (extend-array-write-next t)
+    (extend-added-cost-requires t)
     (extend-sub-extend t)
     (extend-add-extend t)
     (extend-add-extend-2 t)
