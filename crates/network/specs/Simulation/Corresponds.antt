@@ -33,7 +33,7 @@ use Rattle.protocol.specs.Safety.Network.{before, SafeNetwork, StepSafe, Grows,
 use Rattle.protocol.specs.Liveness.Effect.{to<n}
 use Rattle.protocol.specs.Count.Tally.{sum-put, Stops}
 use Rattle.protocol.specs.Simulation.Stamps.{rank-zeros, zero-place, zeros-filled, zeros-digits}
-use Rattle.protocol.specs.Simulation.Relations.{Reads, ReadAll, read-append, AtRest, Agrees}
+use Rattle.protocol.specs.Simulation.Relations.{Reads, ReadAll, read-append, AtRest, no-cpa, Agrees}
 use Rattle.protocol.specs.Simulation.Resume.{assign-agrees}
 use Rattle.protocol.specs.Simulation.Step.{FreeWhenUnassigned, step-agrees}
 use Rattle.network.specs.Run as R
@@ -154,7 +154,7 @@ module _ (I : Instance) (snd : Sound I) (free : FreeWhenUnassigned I) where
   pub deliver-corresponds : (H : History) (S : Network) (c : ℕ) → Corresponds I H S → SafeNetwork (problemOf I) S → Stops (problemOf I) S
       → Followed H (stopped H) (R.handOver I H c) (M.deliver (problemOf I) capacity S c)
   unfolding R.handOver
-  deliver-corresponds H S c r safe stops = go (stopped H) (S .units 0 .stopped) refl (r .units 0 (snd .n1) .common .stopped) refl stops
+  deliver-corresponds H S c r safe stops = go (stopped H) (S .units 0 .stopped) refl (r .units 0 (snd .n1) .common .stopped-is) refl stops
     where
       fits : (t over : Bool) (K : History) (S′ : Network) → Corresponds I K S′ → Followed H over (R.ifFits t K) (M.fits t S′ S)
       fits true over K S′ h = h
@@ -180,7 +180,7 @@ module _ (I : Instance) (snd : Sound I) (free : FreeWhenUnassigned I) where
           subst (λ k. Followed H over (R.onOut I H k p (b ++ a) (R.stepAt I H k p)) (M.handOver (problemOf I) capacity S b′ (m ∷ a′))) (sym (read-to I p m (ha .0)))
           (finish over p (b ++ a) (b′ ++ a′) (read-append I b a b′ a′ hb (ha .1)) (to m) lt (R.stepAt I H (to m) p) (M.step (problemOf I) (S .units (to m)) m)
           (step-agrees I free laws (snd .n16) (to m) lt (Recorded (logs (S .units))) (peak (logs (S .units)) (to m)) (before (problemOf I) (S .units) (safe .safe) (to m) (omega (arith, lt)))
-          (unitAt (H .units) (to m)) (S .units (to m)) (r .units (to m) lt) (safe .safe (to m) lt) (λ x y q. q) p m refl (ha .0) ok (r .units (to m) lt .common .stopped ∙ off (to m)))
+          (unitAt (H .units) (to m)) (S .units (to m)) (r .units (to m) lt) (safe .safe (to m) lt) (λ x y q. q) p m refl (ha .0) ok (r .units (to m) lt .common .stopped-is ∙ off (to m)))
           (any-step (problemOf I) laws (S .units) (safe .safe) m ok))
         where
           ok : ValidMsg (problemOf I) (Recorded (logs (S .units))) m
@@ -204,17 +204,10 @@ module _ (I : Instance) (snd : Sound I) (free : FreeWhenUnassigned I) where
   fresh-at-rest : (k : ℕ) → AtRest I k fresh M.fresh
   fresh-at-rest k =
       record {
-        common = record { size = refl; digits = zeros-digits; threshold = omega (arith, rank-zeros k, zero-place k); bound = refl; best = inl refl; counter = refl; stopped = refl };
+        common = record { size = refl; digits = zeros-digits; threshold-is = omega (arith, rank-zeros k, zero-place k); bound-is = refl; best-is = inl refl; counter-is = refl; stopped-is = refl };
         estimates-size = refl;
         estimates = λ j lt. zero-place j;
-        own = zero-place k;
-        stamp-filled = zeros-filled (suc k);
-        stamp-digits = zeros-digits;
-        values-filled = zeros-filled (suc k);
-        prefixStamp = λ z. absurd (omega arith);
-        own-stamp = λ z. absurd (omega arith);
-        prefix = λ z. absurd (omega arith);
-        cost = λ z. absurd (omega arith);
+        cpa = no-cpa I k;
       }
 
   all-fresh : (i : ℕ) → i < I .n → unitAt (replicate 16 fresh) i ≡ fresh
@@ -227,13 +220,7 @@ module _ (I : Instance) (snd : Sound I) (free : FreeWhenUnassigned I) where
       (assign-agrees I 0 (omega arith) fresh M.fresh
       (record {
         common = fresh-at-rest 0 .common;
-        own = refl;
-        stamp-filled = zeros-filled 1;
-        stamp-digits = zeros-digits;
-        prefixStamp = refl;
-        values-filled = zeros-filled 1;
-        prefix = refl;
-        cost = omega arith;
+        hand = record { own = refl; stamp-filled = zeros-filled 1; stamp-digits = zeros-digits; prefixStamp = refl; values-filled = zeros-filled 1; prefix = refl; cost-is = omega arith };
       })
       (omega arith, omega (arith, snd .dom16 0)))
       (make-step-safe (problemOf I) laws (snd .n1))

@@ -191,10 +191,10 @@ module _ (I : Instance) (snd : Sound I) (free : FreeWhenUnassigned I) where
       d = kept-demand3 (problemOf I) laws (snd .n1) (M.run (problemOf I) capacity (M.make (problemOf I)) cs) k
 
       same : stopped (run I cs) ≡ M.run (problemOf I) capacity (M.make (problemOf I)) cs .units 0 .stopped
-      same = r .units 0 (snd .n1) .common .stopped
+      same = r .units 0 (snd .n1) .common .stopped-is
 
       bound : unitAt (run I cs .units) 0 .bound ≡ M.run (problemOf I) capacity (M.make (problemOf I)) cs .units 0 .bound
-      bound = r .units 0 (snd .n1) .common .bound
+      bound = r .units 0 (snd .n1) .common .bound-is
 
       closed : stopped (run I cs) ≡ true → Closed (problemOf I) [] (M.run (problemOf I) capacity (M.make (problemOf I)) cs .units 0 .bound)
       closed e = k .network .safe 0 (snd .n1) .stop refl (sym same ∙ e)
@@ -208,7 +208,7 @@ module _ (I : Instance) (snd : Sound I) (free : FreeWhenUnassigned I) where
       report : (e : stopped (run I cs) ≡ true)
           → ((S .units 0 .bound ≡ costOf I (S .units 0 .best)) × Full (problemOf I) (S .units 0 .best) × (S .units 0 .bound < NONE))
           × (pre (I .n) (unitAt (run I cs .units) 0 .best) ≡ S .units 0 .best)
-      report e = go (d .report (sym same ∙ e)) (r .units 0 (snd .n1) .common .best)
+      report e = go (d .report (sym same ∙ e)) (r .units 0 (snd .n1) .common .best-is)
         where
           go : ValidBound (problemOf I) (S .units 0 .bound) (S .units 0 .best) → BestIs I (unitAt (run I cs .units) 0 .best) (S .units 0 .best)
               → ((S .units 0 .bound ≡ costOf I (S .units 0 .best)) × Full (problemOf I) (S .units 0 .best) × (S .units 0 .bound < NONE))

@@ -26,7 +26,7 @@ use Rattle.unit.specs.Send.{packets, each, cpaTo, requestTo, boundTo, handBack,
 use Rattle.protocol.specs.Machine as M
 use Rattle.protocol.specs.Machine.{Msg, Agent, Record}
 use Rattle.protocol.specs.Simulation.Stamps.{rank, Digits, FilledTo, rank-set, zero-place, zeros-filled, zeros-digits, digits-set, filled-next, filled-off, take-is-prefix}
-use Rattle.protocol.specs.Simulation.Relations.{StampIs, ValuesAre, BestIs, Reads, ReadAll, read-each, read-append, Common, AtRest, InHand, OwnOff, RecordIs, Agrees, agrees-after}
+use Rattle.protocol.specs.Simulation.Relations.{StampIs, ValuesAre, BestIs, Reads, ReadAll, read-each, read-append, Common, AtRest, no-cpa, InHand, OwnOff, RecordIs, Agrees, agrees-after}
 
 pub less-test : {a a′ d d′ : ℕ} → a ≡ a′ → d ≡ d′ → ltb a d ≡ ltb a′ d′
 less-test p q = λ i. ltb (p i) (q i)
@@ -46,8 +46,8 @@ module _ (I : Instance) where
       → ReadAll I (solutions (I .n) k better (carried (viewOf I k) s)) (M.announce (problemOf I) k better u)
   solutions-read k true s u b =
       read-append I (each g 0 k) (each g (suc k) (I .n - suc k)) (M.toEach g′ 0 k) (M.toEach g′ (suc k) (I .n - suc k))
-      (read-each I g g′ 0 k (λ j lo hi. (refl, refl, b .bound, b .best)))
-      (read-each I g g′ (suc k) (I .n - suc k) (λ j lo hi. (refl, refl, b .bound, b .best)))
+      (read-each I g g′ 0 k (λ j lo hi. (refl, refl, b .bound-is, b .best-is)))
+      (read-each I g g′ (suc k) (I .n - suc k) (λ j lo hi. (refl, refl, b .bound-is, b .best-is)))
     where
       g : ℕ → Packet
       g = boundTo Solution (carried (viewOf I k) s)
@@ -61,8 +61,8 @@ module _ (I : Instance) where
   hand-back-read zero v s u b =
       let e : I .n - 1 ≡ pred (I .n) = omega arith in
       subst (λ m. ReadAll I (each (boundTo Stop (carried (viewOf I 0) s)) 1 m) (M.giveBack (problemOf I) 0 u)) (sym e)
-      (read-each I (boundTo Stop (carried (viewOf I 0) s)) (λ j. M.stop j (u .bound) (u .best)) 1 (pred (I .n)) (λ j lo hi. (refl, refl, b .common .bound, b .common .best)))
-  hand-back-read (suc k) v s u b = ((refl, refl, omega arith, b .stamp, b .values, b .cost, b .common .bound, b .common .best), tt)
+      (read-each I (boundTo Stop (carried (viewOf I 0) s)) (λ j. M.stop j (u .bound) (u .best)) 1 (pred (I .n)) (λ j lo hi. (refl, refl, b .common .bound-is, b .common .best-is)))
+  hand-back-read (suc k) v s u b = ((refl, refl, omega arith, b .stamp, b .values, b .cost, b .common .bound-is, b .common .best-is), tt)
 
   stopped-after : (k : ℕ) (s : UnitState) (u : Agent) → s .stopped ≡ u .stopped → (eqb k 0 || s .stopped) ≡ M.stoppedAfter k u
   stopped-after zero s u e = refl
@@ -76,28 +76,21 @@ module _ (I : Instance) where
       common = record {
         size = length-set (s .threshold) k _ ∙ b .common .size;
         digits = digits-set (s .threshold) k (suc (getD (s .threshold) k 0)) (b .common .size) k16 (b .common .digits) (omega arith);
-        threshold =
+        threshold-is =
             omega (
               arith,
               rank-set k k (s .threshold) (suc (getD (s .threshold) k 0)) (omega arith),
               getD-set-same (s .threshold) k (suc (getD (s .threshold) k 0)) 0 (omega (arith, b .common .size)),
-              b .common .threshold,
+              b .common .threshold-is,
             );
-        bound = b .common .bound;
-        best = b .common .best;
-        counter = b .common .counter;
-        stopped = stopped-after k s u (b .common .stopped);
+        bound-is = b .common .bound-is;
+        best-is = b .common .best-is;
+        counter-is = b .common .counter-is;
+        stopped-is = stopped-after k s u (b .common .stopped-is);
       };
       estimates-size = refl;
       estimates = λ j lt. zero-place j;
-      own = zero-place k;
-      stamp-filled = zeros-filled (suc k);
-      stamp-digits = zeros-digits;
-      values-filled = zeros-filled (suc k);
-      prefixStamp = λ z. absurd (omega arith);
-      own-stamp = λ z. absurd (omega arith);
-      prefix = λ z. absurd (omega arith);
-      cost = λ z. absurd (omega arith);
+      cpa = no-cpa I k;
     },
     read-append I (handBack (I .n) k (carried (viewOf I k) s)) (solutions (I .n) k better (carried (viewOf I k) s)) (M.giveBack (problemOf I) k u) (M.announce (problemOf I) k better u)
         (hand-back-read k v s u b) (solutions-read k better s u (b .common)),
@@ -135,14 +128,14 @@ module _ (I : Instance) where
     written-stamp v s u b hc =
         record {
           filled = filled-next (s .stamp) k (suc (s .counter)) (b .stamp .filled);
-          digits = digits-set (s .stamp) k (suc (s .counter)) (b .stamp .filled .size) k16 (b .stamp .digits) (omega (arith, b .common .counter));
+          digits = digits-set (s .stamp) k (suc (s .counter)) (b .stamp .filled .size) k16 (b .stamp .digits) (omega (arith, b .common .counter-is));
           is =
               omega (
                 arith,
                 rank-set k k (s .stamp) (suc (s .counter)) (omega arith),
                 getD-set-same (s .stamp) k (suc (s .counter)) 0 (omega (arith, b .stamp .filled .size)),
                 b .stamp .is,
-                b .common .counter,
+                b .common .counter-is,
               );
         }
 
@@ -153,22 +146,24 @@ module _ (I : Instance) where
           common = record {
             size = st .filled .size;
             digits = st .digits;
-            threshold = st .is;
-            bound = b .common .bound;
-            best = b .common .best;
-            counter = ap suc (b .common .counter);
-            stopped = b .common .stopped;
+            threshold-is = st .is;
+            bound-is = b .common .bound-is;
+            best-is = b .common .best-is;
+            counter-is = ap suc (b .common .counter-is);
+            stopped-is = b .common .stopped-is;
           };
           estimates-size = ap length z;
           estimates = λ j lt. ap (λ e. getD e j 0) z ∙ zero-place j;
-          own = getD-set-same (s .values) k (suc v) 0 (omega (arith, b .values .filled .size)) ∙ ap suc (b .tried);
-          stamp-filled = st .filled;
-          stamp-digits = st .digits;
-          values-filled = filled-next (s .values) k (suc v) (b .values .filled);
-          prefixStamp = λ o. rank-set k k (s .stamp) (suc (s .counter)) (omega arith) ∙ b .stamp .is;
-          own-stamp = λ o. getD-set-same (s .stamp) k (suc (s .counter)) 0 (omega (arith, b .stamp .filled .size)) ∙ ap suc (b .common .counter);
-          prefix = λ o. pre-set k k (s .values) (suc v) (omega arith) ∙ b .values .are;
-          cost = λ o. ec;
+          cpa = record {
+            own = getD-set-same (s .values) k (suc v) 0 (omega (arith, b .values .filled .size)) ∙ ap suc (b .tried);
+            stamp-filled = st .filled;
+            stamp-digits = st .digits;
+            values-filled = filled-next (s .values) k (suc v) (b .values .filled);
+            prefixStamp = λ o. rank-set k k (s .stamp) (suc (s .counter)) (omega arith) ∙ b .stamp .is;
+            own-stamp = λ o. getD-set-same (s .stamp) k (suc (s .counter)) 0 (omega (arith, b .stamp .filled .size)) ∙ ap suc (b .common .counter-is);
+            prefix = λ o. pre-set k k (s .values) (suc v) (omega arith) ∙ b .values .are;
+            cost-is = λ o. ec;
+          };
         }
       where
         st : StampIs (suc k) (set (s .stamp) k (suc (s .counter))) (u .prefixStamp * 32 + suc (u .counter))
@@ -179,7 +174,7 @@ module _ (I : Instance) where
         ∷ each (requestTo (carried (viewOf I k) (U.write (viewOf I k) (suc v) c s))) (suc k) (I .n - suc k))
         (M.sendDown (problemOf I) k (M.write u))
     forward-read v c s u b hc ec = (
-      (refl, refl, omega arith, st, vs, ec, b .common .bound, b .common .best),
+      (refl, refl, omega arith, st, vs, ec, b .common .bound-is, b .common .best-is),
       read-each I (requestTo (carried (viewOf I k) (U.write (viewOf I k) (suc v) c s))) (λ j. M.request j k (M.stamp (M.write u)) (M.values (M.write u))) (suc k) (I .n - suc k)
           (λ j lo hi. (refl, refl, refl, st, vs)),
     )
@@ -222,11 +217,11 @@ module _ (I : Instance) where
           common = record {
             size = st .filled .size;
             digits = st .digits;
-            threshold = st .is;
-            bound = next-cost v s u b;
-            best = inr (subst (λ x. pre x (set (s .values) k (suc v)) ≡ suc (u .own) ∷ u .prefix) last (written-values v s u b .are));
-            counter = ap suc (b .common .counter);
-            stopped = b .common .stopped;
+            threshold-is = st .is;
+            bound-is = next-cost v s u b;
+            best-is = inr (subst (λ x. pre x (set (s .values) k (suc v)) ≡ suc (u .own) ∷ u .prefix) last (written-values v s u b .are));
+            counter-is = ap suc (b .common .counter-is);
+            stopped-is = b .common .stopped-is;
           };
           tried = ap suc (b .tried);
           stamp = record {
@@ -250,11 +245,11 @@ module _ (I : Instance) where
         → u .threshold ≡ u .prefixStamp * 32 + u .counter → u .counter + m ≤ 30
         → Agrees I k (u .log) (U.tryAfter (viewOf I k) m v better s) (M.tryFrom (problemOf I) k m better u)
     unfolding U.tryAfter packets
-    try-agrees zero v better s u b z e hc = backtrack-agrees k k16 v better s u b (omega (arith, b .common .threshold, b .common .digits k))
+    try-agrees zero v better s u b z e hc = backtrack-agrees k k16 v better s u b (omega (arith, b .common .threshold-is, b .common .digits k))
     try-agrees (suc m) v better s u b z e hc =
         subst (λ t. Agrees I k (u .log) (U.tryValue (viewOf I k) t (suc v) c better s (λ (x : Bool) (t : UnitState). U.tryAfter (viewOf I k) m (suc v) x t))
         (M.tryNext (problemOf I) k (ltb (lookaheadOf I (suc (u .own) ∷ u .prefix)) (u .bound)) better u (λ x t. M.tryFrom (problemOf I) k m x t)))
-        (sym (less-test (next-lookahead v s u b) (b .common .bound)))
+        (sym (less-test (next-lookahead v s u b) (b .common .bound-is)))
         (next (ltb (lookaheadOf I (suc (u .own) ∷ u .prefix)) (u .bound)) (λ x t q y f. try-agrees m (suc v) x t q y f))
       where
         IH : Type 0
@@ -287,15 +282,7 @@ module _ (I : Instance) where
         next false ih =
             ih better s (M.skip u)
             (record {
-              common = record {
-                size = b .common .size;
-                digits = b .common .digits;
-                threshold = b .common .threshold;
-                bound = b .common .bound;
-                best = b .common .best;
-                counter = b .common .counter;
-                stopped = b .common .stopped;
-              };
+              common = b .common;
               tried = ap suc (b .tried);
               stamp = b .stamp;
               values = b .values;

@@ -15,12 +15,12 @@ use Rattle.costs.specs.Laws.Prefix.{pre}
 use Rattle.message.specs.declared.Kind.the-variants.{Cpa, Request, Estimate, Solution, Stop}
 use Rattle.message.specs.Message.{Packet}
 use Rattle.unit.specs.declared.Unit.{Unit as UnitState}
-use Rattle.unit.specs.State.{ownValue}
+use Rattle.unit.specs.State.{zeros}
 use Rattle.unit.specs.Step.{Out, refused, accepted, Written, after, bareCost}
 use Rattle.unit.specs.Send.{packets, each}
 use Rattle.protocol.specs.Machine as M
 use Rattle.protocol.specs.Machine.{Msg, Agent, Result, Record, valuesOf, stampOf, toEach}
-use Rattle.protocol.specs.Simulation.Stamps.{rank, Digits, FilledTo}
+use Rattle.protocol.specs.Simulation.Stamps.{rank, Digits, FilledTo, zero-place, zeros-filled, zeros-digits}
 
 -- ---- stamps and values, filled for the first f units
 
@@ -72,42 +72,65 @@ module _ (I : Instance) where
   read-append (x ∷ a) b [] d h g = absurd h
   read-append (x ∷ a) b (y ∷ c) d h g = (h .0, read-append a b c d (h .1) g)
 
--- ---- states of the unit at place k
+-- ---- states of the unit at place k. A part is stated of its fields alone, so that it stays when others change.
 
--- what holds whether the CPA has an own value or not
-pub record Common (I : Instance) (k : ℕ) (s : UnitState) (u : Agent) : Type 0 where
-  pub size : length (s .threshold) ≡ 16
-  pub digits : Digits (s .threshold)
-  pub threshold : rank (suc k) (s .threshold) ≡ u .threshold
-  pub bound : s .bound ≡ u .bound
-  pub best : BestIs I (s .best) (u .best)
-  pub counter : s .counter ≡ u .counter
-  pub stopped : s .stopped ≡ u .stopped
+-- what holds whether the CPA has an own value or not: threshold, bound, best, counter and stopped, of the unit and of the agent
+pub record CommonOf (I : Instance) (k : ℕ) (threshold : List ℕ) (bound : ℕ) (best : List ℕ) (counter : ℕ) (stopped : Bool) (t B : ℕ) (l : List ℕ) (c : ℕ) (z : Bool) : Type 0 where
+  pub size : length threshold ≡ 16
+  pub digits : Digits threshold
+  pub threshold-is : rank (suc k) threshold ≡ t
+  pub bound-is : bound ≡ B
+  pub best-is : BestIs I best l
+  pub counter-is : counter ≡ c
+  pub stopped-is : stopped ≡ z
+
+abbrev pub Common : Instance → ℕ → UnitState → Agent → Type 0
+Common I k s u = CommonOf I k (s .threshold) (s .bound) (s .best) (s .counter) (s .stopped) (u .threshold) (u .bound) (u .best) (u .counter) (u .stopped)
+
+-- the CPA out, or none where the own value is 0
+pub record CpaOf (I : Instance) (k : ℕ) (stamp values : List ℕ) (cost : ℕ) (v s : ℕ) (b : List ℕ) (c : ℕ) : Type 0 where
+  pub own : getD values k 0 ≡ v
+  pub stamp-filled : FilledTo (suc k) stamp
+  pub stamp-digits : Digits stamp
+  pub values-filled : FilledTo (suc k) values
+  pub prefixStamp : 1 ≤ v → rank k stamp ≡ s
+  pub own-stamp : 1 ≤ v → getD stamp k 0 ≡ c
+  pub prefix : 1 ≤ v → pre k values ≡ b
+  pub cost-is : 1 ≤ v → cost ≡ costOf I (v ∷ b)
+
+pub no-cpa : (I : Instance) (k : ℕ) {c s d : ℕ} {b : List ℕ} → CpaOf I k zeros zeros c 0 s b d
+no-cpa I k =
+    record {
+      own = zero-place k;
+      stamp-filled = zeros-filled (suc k);
+      stamp-digits = zeros-digits;
+      values-filled = zeros-filled (suc k);
+      prefixStamp = λ z. absurd (omega arith);
+      own-stamp = λ z. absurd (omega arith);
+      prefix = λ z. absurd (omega arith);
+      cost-is = λ z. absurd (omega arith);
+    }
 
 -- at rest: between two messages
 pub record AtRest (I : Instance) (k : ℕ) (s : UnitState) (u : Agent) : Type 0 where
   pub common : Common I k s u
   pub estimates-size : length (s .estimates) ≡ 16
   pub estimates : (j : ℕ) → j < 16 → getD (s .estimates) j 0 ≡ u .estimates j
-  pub own : ownValue (viewOf I k) s ≡ u .own
-  pub stamp-filled : FilledTo (suc k) (s .stamp)
-  pub stamp-digits : Digits (s .stamp)
-  pub values-filled : FilledTo (suc k) (s .values)
-  pub prefixStamp : 1 ≤ u .own → rank k (s .stamp) ≡ u .prefixStamp
-  pub own-stamp : 1 ≤ u .own → getD (s .stamp) k 0 ≡ u .counter
-  pub prefix : 1 ≤ u .own → pre k (s .values) ≡ u .prefix
-  pub cost : 1 ≤ u .own → s .cost ≡ costOf I (M.values u)
+  pub cpa : CpaOf I k (s .stamp) (s .values) (s .cost) (u .own) (u .prefixStamp) (u .prefix) (u .counter)
 
 -- a CPA in hand, with its own value or without
+pub record HandOf (I : Instance) (k : ℕ) (stamp values : List ℕ) (bare v s : ℕ) (b : List ℕ) : Type 0 where
+  pub own : getD values k 0 ≡ v
+  pub stamp-filled : FilledTo (suc k) stamp
+  pub stamp-digits : Digits stamp
+  pub prefixStamp : rank k stamp ≡ s
+  pub values-filled : FilledTo (suc k) values
+  pub prefix : pre k values ≡ b
+  pub cost-is : bare ≡ costOf I b
+
 pub record InHand (I : Instance) (k : ℕ) (s : UnitState) (u : Agent) : Type 0 where
   pub common : Common I k s u
-  pub own : ownValue (viewOf I k) s ≡ u .own
-  pub stamp-filled : FilledTo (suc k) (s .stamp)
-  pub stamp-digits : Digits (s .stamp)
-  pub prefixStamp : rank k (s .stamp) ≡ u .prefixStamp
-  pub values-filled : FilledTo (suc k) (s .values)
-  pub prefix : pre k (s .values) ≡ u .prefix
-  pub cost : bareCost (viewOf I k) s ≡ costOf I (u .prefix)
+  pub hand : HandOf I k (s .stamp) (s .values) (bareCost (viewOf I k) s) (u .own) (u .prefixStamp) (u .prefix)
 
 -- the own value off; v is the last value tried
 pub record OwnOff (I : Instance) (k v : ℕ) (s : UnitState) (u : Agent) : Type 0 where

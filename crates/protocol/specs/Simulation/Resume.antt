@@ -38,23 +38,15 @@ module _ (I : Instance) (k : ℕ) (k16 : k < 16) where
   own-off : (s : UnitState) (u : Agent) → InHand I k s u → OwnOff I k (u .own) (takeOff (viewOf I k) s) u
   own-off s u a =
       record {
-        common = record {
-          size = a .common .size;
-          digits = a .common .digits;
-          threshold = a .common .threshold;
-          bound = a .common .bound;
-          best = a .common .best;
-          counter = a .common .counter;
-          stopped = a .common .stopped;
-        };
+        common = a .common;
         tried = refl;
         stamp = record {
-          filled = filled-off (s .stamp) k k16 (a .stamp-filled);
-          digits = digits-set (s .stamp) k 0 (a .stamp-filled .size) k16 (a .stamp-digits) (omega arith);
-          is = rank-set k k (s .stamp) 0 (omega arith) ∙ a .prefixStamp;
+          filled = filled-off (s .stamp) k k16 (a .hand .stamp-filled);
+          digits = digits-set (s .stamp) k 0 (a .hand .stamp-filled .size) k16 (a .hand .stamp-digits) (omega arith);
+          is = rank-set k k (s .stamp) 0 (omega arith) ∙ a .hand .prefixStamp;
         };
-        values = record { filled = filled-off (s .values) k k16 (a .values-filled); are = pre-set k k (s .values) 0 (omega arith) ∙ a .prefix };
-        cost = a .cost;
+        values = record { filled = filled-off (s .values) k k16 (a .hand .values-filled); are = pre-set k k (s .values) 0 (omega arith) ∙ a .hand .prefix };
+        cost = a .hand .cost-is;
       }
 
   begun-off : (s : UnitState) (u : Agent) → InHand I k s u → OwnOff I k (u .own) (begun (viewOf I k) s) (M.counted u)
@@ -64,11 +56,11 @@ module _ (I : Instance) (k : ℕ) (k16 : k < 16) where
         common = record {
           size = a .common .size;
           digits = a .common .digits;
-          threshold = a .common .threshold;
-          bound = a .common .bound;
-          best = a .common .best;
-          counter = counter-begun (ownValue (viewOf I k) s) (u .own) (s .counter) (u .counter) (a .own) (a .common .counter);
-          stopped = a .common .stopped;
+          threshold-is = a .common .threshold-is;
+          bound-is = a .common .bound-is;
+          best-is = a .common .best-is;
+          counter-is = counter-begun (ownValue (viewOf I k) s) (u .own) (s .counter) (u .counter) (a .hand .own) (a .common .counter-is);
+          stopped-is = a .common .stopped-is;
         };
         tried = refl;
         stamp = b .stamp;
@@ -79,13 +71,13 @@ module _ (I : Instance) (k : ℕ) (k16 : k < 16) where
   pub assign-agrees : (s : UnitState) (u : Agent) → InHand I k s u → ReadyToAssign u → Agrees I k (u .log) (U.assign (viewOf I k) s) (M.assign (problemOf I) k u)
   unfolding U.assign
   assign-agrees s u a r =
-      subst (λ x. Agrees I k (u .log) (U.tryAfter (viewOf I k) (I .dom k - x) x false (begun (viewOf I k) s)) (M.assign (problemOf I) k u)) (sym (a .own))
+      subst (λ x. Agrees I k (u .log) (U.tryAfter (viewOf I k) (I .dom k - x) x false (begun (viewOf I k) s)) (M.assign (problemOf I) k u)) (sym (a .hand .own))
       (try-agrees I k k16 (I .dom k - u .own) (u .own) false (begun (viewOf I k) s) (M.counted u) (begun-off s u a) refl (r .0) (r .1))
 
   resume-agrees : (s : UnitState) (u : Agent) → InHand I k s u → ReadyToAssign u → Agrees I k (u .log) (U.resume (viewOf I k) s) (M.resume (problemOf I) k u)
   unfolding U.resume
   resume-agrees s u a r =
-      subst (λ x. Agrees I k (u .log) (U.reachedBound (viewOf I k) x s) (M.resume (problemOf I) k u)) (sym (most-test (a .common .bound) (a .cost)))
+      subst (λ x. Agrees I k (u .log) (U.reachedBound (viewOf I k) x s) (M.resume (problemOf I) k u)) (sym (most-test (a .common .bound-is) (a .hand .cost-is)))
       (go (leb (u .bound) (costOf I (u .prefix))))
     where
       room : M.recount (u .own) (u .counter) ≤ 30
@@ -94,14 +86,14 @@ module _ (I : Instance) (k : ℕ) (k16 : k < 16) where
       go : (t : Bool) → Agrees I k (u .log) (U.reachedBound (viewOf I k) t s) (M.backtrackIf (problemOf I) k t u)
       go true =
           backtrack-agrees I k k16 (u .own) false (takeOff (viewOf I k) s) u (own-off s u a)
-          (omega (arith, a .common .threshold, a .common .digits k, r .0, room))
+          (omega (arith, a .common .threshold-is, a .common .digits k, r .0, room))
       go false = assign-agrees s u a r
 
   -- ---- a bound taken if lower
 
   lower-in-hand : (s : UnitState) (u : Agent) (m : Message) (B : ℕ) (l : List ℕ) → m .bound ≡ B → BestIs I (m .best) l → InHand I k s u → InHand I k (takeBound m s) (M.takeBound B l u)
   lower-in-hand s u m B l e r a =
-      subst (λ x. InHand I k (takeLower x (m .bound) (m .best) s) (M.takeBound B l u)) (sym (less-test e (a .common .bound))) (go (ltb B (u .bound)))
+      subst (λ x. InHand I k (takeLower x (m .bound) (m .best) s) (M.takeBound B l u)) (sym (less-test e (a .common .bound-is))) (go (ltb B (u .bound)))
     where
       go : (t : Bool) → InHand I k (takeLower t (m .bound) (m .best) s) (M.lower t B l u)
       go true =
@@ -109,19 +101,13 @@ module _ (I : Instance) (k : ℕ) (k16 : k < 16) where
             common = record {
               size = a .common .size;
               digits = a .common .digits;
-              threshold = a .common .threshold;
-              bound = e;
-              best = r;
-              counter = a .common .counter;
-              stopped = a .common .stopped;
+              threshold-is = a .common .threshold-is;
+              bound-is = e;
+              best-is = r;
+              counter-is = a .common .counter-is;
+              stopped-is = a .common .stopped-is;
             };
-            own = a .own;
-            stamp-filled = a .stamp-filled;
-            stamp-digits = a .stamp-digits;
-            prefixStamp = a .prefixStamp;
-            values-filled = a .values-filled;
-            prefix = a .prefix;
-            cost = a .cost;
+            hand = a .hand;
           }
       go false = a
 

@@ -64,16 +64,18 @@ module _ (I : Instance) (free : FreeWhenUnassigned I) (laws : Laws (problemOf I)
   out-in-hand o =
       record {
         common = r .common;
-        own = r .own;
-        stamp-filled = r .stamp-filled;
-        stamp-digits = r .stamp-digits;
-        prefixStamp = r .prefixStamp o;
-        values-filled = r .values-filled;
-        prefix = r .prefix o;
-        cost =
-            let a : costOf I (ownValue (viewOf I k) s ∷ pre k (s .values)) ≡ s .cost = (λ i. costOf I (r .own i ∷ r .prefix o i)) ∙ sym (r .cost o) in
-            let b : costOf I (pre k (s .values)) ≡ costOf I (u .prefix) = ap (costOf I) (r .prefix o) in
-            omega (arith, a, b, cost-next I k (s .values) (ownValue (viewOf I k) s));
+        hand = record {
+          own = r .cpa .own;
+          stamp-filled = r .cpa .stamp-filled;
+          stamp-digits = r .cpa .stamp-digits;
+          prefixStamp = r .cpa .prefixStamp o;
+          values-filled = r .cpa .values-filled;
+          prefix = r .cpa .prefix o;
+          cost-is =
+              let a : costOf I (ownValue (viewOf I k) s ∷ pre k (s .values)) ≡ s .cost = (λ i. costOf I (r .cpa .own i ∷ r .cpa .prefix o i)) ∙ sym (r .cpa .cost-is o) in
+              let b : costOf I (pre k (s .values)) ≡ costOf I (u .prefix) = ap (costOf I) (r .cpa .prefix o) in
+              omega (arith, a, b, cost-next I k (s .values) (ownValue (viewOf I k) s));
+        };
       }
 
   recount-out : (v c : ℕ) → 1 ≤ v → M.recount v c ≡ c
@@ -90,7 +92,7 @@ module _ (I : Instance) (free : FreeWhenUnassigned I) (laws : Laws (problemOf I)
   against-threshold : (l : List ℕ) (x : ℕ) → Digits l → rank (suc k) l ≡ x → Compared (compareOn (suc k) l (s .threshold)) x (u .threshold)
   against-threshold l x d e =
       subst (λ z. Compared (compareOn (suc k) l (s .threshold)) z (u .threshold)) e
-      (subst (λ z. Compared (compareOn (suc k) l (s .threshold)) (rank (suc k) l) z) (r .common .threshold) (order-of-ranks (suc k) l (s .threshold) d (r .common .digits)))
+      (subst (λ z. Compared (compareOn (suc k) l (s .threshold)) (rank (suc k) l) z) (r .common .threshold-is) (order-of-ranks (suc k) l (s .threshold) d (r .common .digits)))
 
   -- ---- a CPA going down
 
@@ -98,16 +100,18 @@ module _ (I : Instance) (free : FreeWhenUnassigned I) (laws : Laws (problemOf I)
       → m .cost ≡ costOf I b → InHand I k (withCpa (m .stamp) (m .values) (m .cost) (withThreshold t s)) (M.received x b u)
   received-in-hand m t x b len d e st vs ec =
       record {
-        common = record { size = len; digits = d; threshold = e; bound = r .common .bound; best = r .common .best; counter = r .common .counter; stopped = r .common .stopped };
-        own = none;
-        stamp-filled = filled-more (m .stamp) k (suc k) (omega arith) (st .filled);
-        stamp-digits = st .digits;
-        prefixStamp = st .is;
-        values-filled = filled-more (m .values) k (suc k) (omega arith) (vs .filled);
-        prefix = vs .are;
-        cost =
-            subst (λ z. m .cost - costWith (viewOf I k) (m .values) k z ≡ costOf I b) (sym none)
-            (omega (arith, ec, cost-with-prefix I k (m .values) k 0 (omega arith), against-unassigned I free k (pre k (m .values))));
+        common = record { size = len; digits = d; threshold-is = e; bound-is = r .common .bound-is; best-is = r .common .best-is; counter-is = r .common .counter-is; stopped-is = r .common .stopped-is };
+        hand = record {
+          own = none;
+          stamp-filled = filled-more (m .stamp) k (suc k) (omega arith) (st .filled);
+          stamp-digits = st .digits;
+          prefixStamp = st .is;
+          values-filled = filled-more (m .values) k (suc k) (omega arith) (vs .filled);
+          prefix = vs .are;
+          cost-is =
+              subst (λ z. m .cost - costWith (viewOf I k) (m .values) k z ≡ costOf I b) (sym none)
+              (omega (arith, ec, cost-with-prefix I k (m .values) k 0 (omega arith), against-unassigned I free k (pre k (m .values))));
+        };
       }
     where
       none : getD (m .values) k 0 ≡ 0
@@ -140,7 +144,7 @@ module _ (I : Instance) (free : FreeWhenUnassigned I) (laws : Laws (problemOf I)
       go Bigger true c e = absurd (omega (arith, c, ltb-true (x * 32) (u .threshold) e))
       go Equal false c e =
           resume-lower I k k16 (withCpa (p .message .stamp) (p .message .values) (p .message .cost) s) (M.received x b u) (p .message) B l (h .6) (h .7)
-          (received-in-hand (p .message) (s .threshold) x b (r .common .size) (r .common .digits) (r .common .threshold ∙ sym c) (h .3) (h .4) (h .5)) ready
+          (received-in-hand (p .message) (s .threshold) x b (r .common .size) (r .common .digits) (r .common .threshold-is ∙ sym c) (h .3) (h .4) (h .5)) ready
       go Bigger false c e =
           resume-lower I k k16 (withCpa (p .message .stamp) (p .message .values) (p .message .cost) (withThreshold (p .message .stamp) s)) (M.received x b u) (p .message) B l (h .6) (h .7)
           (received-in-hand (p .message) (p .message .stamp) x b (h .3 .filled .size) (h .3 .digits) places (h .3) (h .4) (h .5)) ready
@@ -148,13 +152,13 @@ module _ (I : Instance) (free : FreeWhenUnassigned I) (laws : Laws (problemOf I)
   -- ---- a CPA going back: the machine's invariants say that it is the CPA out
 
   out-places : 1 ≤ u .own → rank (suc k) (s .stamp) ≡ M.stamp u
-  out-places o = omega (arith, r .prefixStamp o, r .own-stamp o)
+  out-places o = omega (arith, r .cpa .prefixStamp o, r .cpa .own-stamp o)
 
   out-values : 1 ≤ u .own → pre (suc k) (s .values) ≡ M.values u
-  out-values o = λ i. r .own i ∷ r .prefix o i
+  out-values o = λ i. r .cpa .own i ∷ r .cpa .prefix o i
 
   is-out : 1 ≤ u .own → U.isOut (viewOf I k) s ≡ true
-  is-out o = lt-ltb 0 (ownValue (viewOf I k) s) (omega (arith, r .own))
+  is-out o = lt-ltb 0 (ownValue (viewOf I k) s) (omega (arith, r .cpa .own))
 
   back-agrees : (p : Packet) (x : ℕ) (b : List ℕ) (B : ℕ) (l : List ℕ) → Reads I p (M.back k x b B l) → ValidMsg (problemOf I) Past (M.back k x b B l)
       → Agrees I k (u .log) (U.byKind (viewOf I k) (p .kind) s (p .message)) (M.step (problemOf I) u (M.back k x b B l))
@@ -181,9 +185,9 @@ module _ (I : Instance) (free : FreeWhenUnassigned I) (laws : Laws (problemOf I)
               and-true
               (and-true
               (and-true (is-out (sm .0))
-              (same-ranks (suc k) (p .message .stamp) (s .stamp) (h .3 .digits) (r .stamp-digits) (h .3 .is ∙ sm .1 ∙ sym (out-places (sm .0)))))
+              (same-ranks (suc k) (p .message .stamp) (s .stamp) (h .3 .digits) (r .cpa .stamp-digits) (h .3 .is ∙ sm .1 ∙ sym (out-places (sm .0)))))
               (same-prefixes (suc k) (p .message .values) (s .values) (h .4 .are ∙ sm .2 ∙ sym (out-values (sm .0)))))
-              (subst (λ z. eqb (p .message .cost) z ≡ true) (h .5 ∙ ap (costOf I) (sm .2) ∙ sym (r .cost (sm .0))) (eqb-same (p .message .cost)))
+              (subst (λ z. eqb (p .message .cost) z ≡ true) (h .5 ∙ ap (costOf I) (sm .2) ∙ sym (r .cpa .cost-is (sm .0))) (eqb-same (p .message .cost)))
 
           machines : M.isCpaOut u x b ≡ true
           machines =
@@ -231,7 +235,7 @@ module _ (I : Instance) (free : FreeWhenUnassigned I) (laws : Laws (problemOf I)
           ∙ ap (λ z. z * 32 ^ (k - suc j)) (h .3 .is)
 
       before : rank k (s .threshold) ≡ u .threshold / 32
-      before = omega (arith, r .common .threshold, r .common .digits k)
+      before = omega (arith, r .common .threshold-is, r .common .digits k)
 
       raised : AtRest I k (withThreshold (p .message .stamp) s) (M.raise true t u)
       raised =
@@ -239,22 +243,15 @@ module _ (I : Instance) (free : FreeWhenUnassigned I) (laws : Laws (problemOf I)
             common = record {
               size = h .3 .filled .size;
               digits = h .3 .digits;
-              threshold = omega (arith, places, h .3 .filled .rest k lt);
-              bound = r .common .bound;
-              best = r .common .best;
-              counter = r .common .counter;
-              stopped = r .common .stopped;
+              threshold-is = omega (arith, places, h .3 .filled .rest k lt);
+              bound-is = r .common .bound-is;
+              best-is = r .common .best-is;
+              counter-is = r .common .counter-is;
+              stopped-is = r .common .stopped-is;
             };
             estimates-size = r .estimates-size;
             estimates = r .estimates;
-            own = r .own;
-            stamp-filled = r .stamp-filled;
-            stamp-digits = r .stamp-digits;
-            values-filled = r .values-filled;
-            prefixStamp = r .prefixStamp;
-            own-stamp = r .own-stamp;
-            prefix = r .prefix;
-            cost = r .cost;
+            cpa = r .cpa;
           }
 
       go : (o : Order) (a c : Bool) → Compared o t (u .threshold / 32) → ltb t (u .threshold / 32) ≡ a → ltb (u .threshold / 32) t ≡ c
@@ -277,25 +274,10 @@ module _ (I : Instance) (free : FreeWhenUnassigned I) (laws : Laws (problemOf I)
   stored-at-rest : (j e : ℕ) → j < 16 → AtRest I k (withEstimates (set (s .estimates) j e) s) (M.store j e u)
   stored-at-rest j e lt =
       record {
-        common = record {
-          size = r .common .size;
-          digits = r .common .digits;
-          threshold = r .common .threshold;
-          bound = r .common .bound;
-          best = r .common .best;
-          counter = r .common .counter;
-          stopped = r .common .stopped;
-        };
+        common = r .common;
         estimates-size = length-set (s .estimates) j e ∙ r .estimates-size;
         estimates = λ i li. at-place i li (eqb i j) refl;
-        own = r .own;
-        stamp-filled = r .stamp-filled;
-        stamp-digits = r .stamp-digits;
-        values-filled = r .values-filled;
-        prefixStamp = r .prefixStamp;
-        own-stamp = r .own-stamp;
-        prefix = r .prefix;
-        cost = r .cost;
+        cpa = r .cpa;
       }
     where
       at-place : (i : ℕ) → i < 16 → (t : Bool) → eqb i j ≡ t → getD (set (s .estimates) j e) i 0 ≡ cond t e (u .estimates i)
@@ -330,13 +312,7 @@ module _ (I : Instance) (free : FreeWhenUnassigned I) (laws : Laws (problemOf I)
           assign-agrees I k k16 s′ (M.store j e u)
           (record {
             common = kept .common;
-            own = a .own;
-            stamp-filled = a .stamp-filled;
-            stamp-digits = a .stamp-digits;
-            prefixStamp = a .prefixStamp;
-            values-filled = a .values-filled;
-            prefix = a .prefix;
-            cost = a .cost;
+            hand = a .hand;
           }) (out-ready o et)
       reached o et false = (kept, tt, refl)
 
@@ -354,15 +330,15 @@ module _ (I : Instance) (free : FreeWhenUnassigned I) (laws : Laws (problemOf I)
           sm = the-cpa-out (problemOf I) laws k k<n Past X bf u x (ok .2 .0) g (own x (ok .2 .0) (ok .2 .1)) le
 
           units : U.isOut (viewOf I k) s && sameOn (suc k) (p .message .stamp) (s .stamp) ≡ true
-          units = and-true (is-out (sm .0)) (same-ranks (suc k) (p .message .stamp) (s .stamp) (h .3 .digits) (r .stamp-digits) (h .3 .is ∙ sm .1 ∙ sym (out-places (sm .0))))
+          units = and-true (is-out (sm .0)) (same-ranks (suc k) (p .message .stamp) (s .stamp) (h .3 .digits) (r .cpa .stamp-digits) (h .3 .is ∙ sm .1 ∙ sym (out-places (sm .0))))
 
           machines : M.isForCpaOut u x ≡ true
           machines = and-true (lt-ltb 0 (u .own) (sm .0)) (and-true (subst (λ z. eqb x z ≡ true) (sym (sm .3)) (eqb-same x)) (subst (λ z. eqb x z ≡ true) (sm .1) (eqb-same x)))
 
           test : leb (s .bound) (s .cost + sumLater (viewOf I k) (set (s .estimates) j e)) ≡ leb (u .bound) (costOf I (M.values u) + sumFrom (M.store j e u .estimates) (suc k) (I .n - suc k))
           test =
-              most-test (r .common .bound)
-              (omega (arith, r .cost (sm .0), sum-of-places (set (s .estimates) j e) (M.store j e u .estimates) (kept .estimates) (suc k) (I .n - suc k) (omega (arith, n16, k<n))))
+              most-test (r .common .bound-is)
+              (omega (arith, r .cpa .cost-is (sm .0), sum-of-places (set (s .estimates) j e) (M.store j e u .estimates) (kept .estimates) (suc k) (I .n - suc k) (omega (arith, n16, k<n))))
 
       go : (o : Order) (t : Bool) → Compared o x (u .threshold) → ltb x (u .threshold) ≡ t → Agrees I k (u .log) (U.onTimely (viewOf I k) o s (p .message)) (M.onEstimate (problemOf I) k t u x j e)
       go Smaller true c q = unchanged
@@ -377,7 +353,7 @@ module _ (I : Instance) (free : FreeWhenUnassigned I) (laws : Laws (problemOf I)
   -- ---- solutions and stops
 
   lower-at-rest : (m : Message) (B : ℕ) (l : List ℕ) → m .bound ≡ B → BestIs I (m .best) l → AtRest I k (takeBound m s) (M.takeBound B l u)
-  lower-at-rest m B l e q = subst (λ z. AtRest I k (takeLower z (m .bound) (m .best) s) (M.takeBound B l u)) (sym (less-test e (r .common .bound))) (go (ltb B (u .bound)))
+  lower-at-rest m B l e q = subst (λ z. AtRest I k (takeLower z (m .bound) (m .best) s) (M.takeBound B l u)) (sym (less-test e (r .common .bound-is))) (go (ltb B (u .bound)))
     where
       go : (t : Bool) → AtRest I k (takeLower t (m .bound) (m .best) s) (M.lower t B l u)
       go true =
@@ -385,22 +361,15 @@ module _ (I : Instance) (free : FreeWhenUnassigned I) (laws : Laws (problemOf I)
             common = record {
               size = r .common .size;
               digits = r .common .digits;
-              threshold = r .common .threshold;
-              bound = e;
-              best = q;
-              counter = r .common .counter;
-              stopped = r .common .stopped;
+              threshold-is = r .common .threshold-is;
+              bound-is = e;
+              best-is = q;
+              counter-is = r .common .counter-is;
+              stopped-is = r .common .stopped-is;
             };
             estimates-size = r .estimates-size;
             estimates = r .estimates;
-            own = r .own;
-            stamp-filled = r .stamp-filled;
-            stamp-digits = r .stamp-digits;
-            values-filled = r .values-filled;
-            prefixStamp = r .prefixStamp;
-            own-stamp = r .own-stamp;
-            prefix = r .prefix;
-            cost = r .cost;
+            cpa = r .cpa;
           }
       go false = r
 
@@ -410,22 +379,15 @@ module _ (I : Instance) (free : FreeWhenUnassigned I) (laws : Laws (problemOf I)
         common = record {
           size = z .common .size;
           digits = z .common .digits;
-          threshold = z .common .threshold;
-          bound = z .common .bound;
-          best = z .common .best;
-          counter = z .common .counter;
-          stopped = refl;
+          threshold-is = z .common .threshold-is;
+          bound-is = z .common .bound-is;
+          best-is = z .common .best-is;
+          counter-is = z .common .counter-is;
+          stopped-is = refl;
         };
         estimates-size = z .estimates-size;
         estimates = z .estimates;
-        own = z .own;
-        stamp-filled = z .stamp-filled;
-        stamp-digits = z .stamp-digits;
-        values-filled = z .values-filled;
-        prefixStamp = z .prefixStamp;
-        own-stamp = z .own-stamp;
-        prefix = z .prefix;
-        cost = z .cost;
+        cpa = z .cpa;
       }
 
   solution-agrees : (p : Packet) (B : ℕ) (l : List ℕ) → Reads I p (M.solution k B l)
