@@ -67,7 +67,7 @@ pub struct UnitOutcome {
 /// What the step in place hands back; the unit is where it was lent.
 #[repr(C)]
 #[derive(Clone, Copy)]
-pub struct Sent {
+pub struct Report {
     pub refusal: u8,
     pub sent: u8,
     pub records: u8,
@@ -75,13 +75,24 @@ pub struct Sent {
 
 #[repr(C)]
 #[derive(Clone, Copy)]
-pub struct Network {
+pub struct Count {
+    pub low: u64,
+    pub high: u64,
+}
+
+#[repr(C)]
+#[derive(Clone, Copy)]
+pub struct Core {
     pub units: [Unit; 16],
-    pub count: u64,
-    pub records_low: u64,
-    pub records_high: u64,
-    pub deliveries_low: u64,
-    pub deliveries_high: u64,
+    pub records: Count,
+    pub deliveries: Count,
+}
+
+#[repr(C)]
+#[derive(Clone, Copy)]
+pub struct Network {
+    pub core: Core,
+    pub used: u64,
 }
 
 #[repr(C)]
@@ -96,7 +107,7 @@ pub struct NetworkOutcome {
 pub struct Found {
     pub refusal: u8,
     pub total: u32,
-    pub assignment: Places,
+    pub values: Places,
 }
 
 extern "C" {
@@ -138,7 +149,7 @@ extern "C" {
         packet_length: usize,
         out: *mut u8,
         room: usize,
-    ) -> Sent;
+    ) -> Report;
     fn riksamoe_network_make(stream: *const u8, length: usize, pool: *mut u8, room: usize) -> NetworkOutcome;
     fn riksamoe_network_deliver(
         network: Network,
@@ -207,7 +218,7 @@ pub fn unit_step_in_place(
     costs: &[u8],
     packet: &[u8],
     out: &mut [u8],
-) -> Sent {
+) -> Report {
     let sizes = Sizes { places: *sizes };
     let (costs, costs_length) = (costs.as_ptr(), costs.len());
     let (packet, packet_length) = (packet.as_ptr(), packet.len());
@@ -296,14 +307,10 @@ impl From<&Message> for reference::message::Message {
 
 impl From<&PlainNetwork> for Network {
     fn from(network: &PlainNetwork) -> Network {
-        Network {
-            units: network.units.each_ref().map(Unit::from),
-            count: network.count,
-            records_low: network.records as u64,
-            records_high: (network.records >> 64) as u64,
-            deliveries_low: network.deliveries as u64,
-            deliveries_high: (network.deliveries >> 64) as u64,
-        }
+        let words = |count: u128| Count { low: count as u64, high: (count >> 64) as u64 };
+        let units = network.units.each_ref().map(Unit::from);
+        let core = Core { units, records: words(network.records), deliveries: words(network.deliveries) };
+        Network { core, used: network.count }
     }
 }
 
@@ -324,11 +331,12 @@ fn unit_outcome(answer: &UnitOutcome, lent: Vec<u8>) -> Outcome {
 }
 
 fn network_outcome(answer: &NetworkOutcome, lent: Vec<u8>) -> Outcome {
-    let n = &answer.network;
+    let Network { core, used } = &answer.network;
+    let (records, deliveries) = (core.records, core.deliveries);
     Outcome {
         refusal: answer.refusal,
-        numbers: vec![n.count, n.records_low, n.records_high, n.deliveries_low, n.deliveries_high],
-        units: n.units.iter().map(|unit| unit.into()).collect(),
+        numbers: vec![*used, records.low, records.high, deliveries.low, deliveries.high],
+        units: core.units.iter().map(|unit| unit.into()).collect(),
         lent,
         ..Outcome::default()
     }
@@ -368,7 +376,7 @@ pub fn linked(input: Input) -> Outcome {
         Input::Search { stream } => {
             let answer = search(&stream);
             let numbers = vec![answer.total.into()];
-            Outcome { refusal: answer.refusal, numbers, lent: answer.assignment.to_vec(), ..Outcome::default() }
+            Outcome { refusal: answer.refusal, numbers, lent: answer.values.to_vec(), ..Outcome::default() }
         }
     }
 }
@@ -406,6 +414,7 @@ const _: () = {
     assert!(offset_of!(Message, stamp) == 2 && offset_of!(Message, cost) == 36 && offset_of!(Message, best) == 44);
     assert!(size_of::<Unit>() == 140);
     assert!(offset_of!(Unit, estimates) == 36 && offset_of!(Unit, cost) == 132 && offset_of!(Unit, stopped) == 137);
-    assert!(size_of::<UnitOutcome>() == 148);
-    assert!(size_of::<Network>() == 2_280);
+    assert!(size_of::<UnitOutcome>() == 148 && size_of::<Report>() == 3);
+    assert!(size_of::<Found>() == 24 && size_of::<Parsed>() == 64);
+    assert!(size_of::<Network>() == 2_280 && offset_of!(Core, records) == 2_240 && offset_of!(Network, used) == 2_272);
 };

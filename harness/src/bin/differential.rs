@@ -1,6 +1,7 @@
 //! Every exported call of the Rattle library against the reference implementation, on the same generated inputs.
 //!
-//! differential [ROUNDS] [SEED]: rounds for each call (20,000 and 1 unless named; a fifth for the calls on a whole network).
+//! differential [ROUNDS] [SEED] [WORD]: rounds for each call (20,000 and 1 unless named; a fifth for the calls on a whole network),
+//! of the calls alone whose name has the word, if there is one.
 //! Prints for each call how often it was accepted and how often each refusal came; ends with 1 at a difference or a refusal never reached.
 
 use harness::calls::{Call, CALLS};
@@ -12,9 +13,10 @@ fn main() {
     let numbers: Vec<u64> = std::env::args().skip(1).filter_map(|text| text.parse().ok()).collect();
     let rounds = numbers.first().copied().unwrap_or(20_000);
     let seed = numbers.get(1).copied().unwrap_or(1);
+    let word = std::env::args().nth(3).unwrap_or_default();
     let mut compared = 0;
     let mut faults = 0;
-    for (call, name, refusals) in CALLS {
+    for (call, name, refusals) in CALLS.into_iter().filter(|(_, name, _)| name.contains(&word)) {
         let rounds = match call {
             Call::Deliver | Call::Settle | Call::Search => rounds.div_ceil(5),
             _ => rounds,

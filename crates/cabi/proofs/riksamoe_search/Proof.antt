@@ -1,0 +1,14 @@
+-- `riksamoe_search` meets its contract: it is `search::exhaustive`, its answer in the struct of C.
+-- Assumes nothing.
+use borrow.Author.Needs.{needs}
+use Rattle.cabi.proofs.riksamoe_search.Statement.{statement}
+use Rattle.cabi.proofs.riksamoe_search.Tie as tie
+
+exhaustive-requires : tie.Need-exhaustive-requires
+exhaustive-requires c κs = search needs
+
+returns : tie.Need-returns
+returns c = cc
+
+pub riksamoe-search-spec : {M : Type 1} → statement M
+riksamoe-search-spec = tie.close (tie.spec exhaustive-requires returns)

@@ -1,0 +1,74 @@
+-- The answers of the calls of document 01 in the structs that C is handed, and kinds by their numbers.
+-- Assumes nothing.
+use Prim.Native.Nat.{ℕ}
+use mathlib.Core.Path.{_≡_}
+use mathlib.Core.Bool.{cond, not}
+use mathlib.Core.List.{List}
+use Rattle.base.specs.Shape.{shapeGood}
+use Rattle.table.specs.declared.ReadTable.{ReadTable}
+use Rattle.table.specs.declared.Written.{Written}
+use Rattle.message.specs.declared.Kind.{Kind}
+use Rattle.message.specs.declared.Message.{Message}
+use Rattle.message.specs.declared.Parsed.{Parsed as Reading}
+use Rattle.message.specs.declared.Read.{Read}
+use Rattle.message.specs.declared.Read.the-variants.{Good, Refused}
+use Rattle.message.specs.Message.{kindCode, refusalOf, addressGood}
+use Rattle.message.specs.Decode.{kindOf, writeRefusal, writeOf}
+use Rattle.search.specs.declared.Found.{Found as Searched}
+use Rattle.cabi.specs.declared.Found.{Found}
+use Rattle.cabi.specs.declared.Length.{Length}
+use Rattle.cabi.specs.declared.Parsed.{Parsed}
+
+abbrev pub ofRead : ReadTable → Length
+ofRead r = record { refusal = r .refusal; length = r .length }
+
+abbrev pub ofWritten : Written → Length
+ofWritten r = record { refusal = r .refusal; length = r .length }
+
+abbrev pub ofFound : Searched → Found
+ofFound r = record { refusal = r .refusal; total = r .total; values = r .values }
+
+-- 01's number of the kind that was read, 0 beside a refusal
+abbrev pub codeOf : Read → ℕ
+codeOf (Good k) = kindCode k
+codeOf (Refused r) = 0
+
+abbrev pub parsedOf : Reading → Parsed
+parsedOf p = record { refusal = refusalOf (p .answer); kind = codeOf (p .answer); message = p .message }
+
+-- 01: "Writing one: 5, 10, 9, 13", where no kind has the number: what goes with no kind is against it
+unfoldable pub unknownKind : ℕ → List ℕ → Message → ℕ
+unknownKind n sizes m = cond (not (shapeGood n sizes)) 5 (cond (not (addressGood n m)) 10 9)
+
+-- writing a message whose kind is read from its number: the refusal, and what is left in the lent output
+abbrev pub writeAs : Read → ℕ → List ℕ → Message → ℕ → ℕ
+writeAs (Good k) n sizes m room = writeRefusal n sizes k m room
+writeAs (Refused r) n sizes m room = unknownKind n sizes m
+
+abbrev pub writtenAs : Read → ℕ → List ℕ → Message → List ℕ → List ℕ
+writtenAs (Good k) n sizes m out = writeOf n sizes k m out
+writtenAs (Refused r) n sizes m out = out
+
+unfoldable pub writeByCode : ℕ → List ℕ → ℕ → Message → ℕ → ℕ
+writeByCode n sizes code m room = writeAs (kindOf code) n sizes m room
+
+unfoldable pub writtenByCode : ℕ → List ℕ → ℕ → Message → List ℕ → List ℕ
+writtenByCode n sizes code m out = writtenAs (kindOf code) n sizes m out
+
+-- what writing by number comes to, where the number is a kind's and where it is none
+module _ (n : ℕ) (sizes : List ℕ) (code : ℕ) (m : Message) where
+  pub write-known : (k : Kind) (room : ℕ) → kindOf code ≡ Good k → writeByCode n sizes code m room ≡ writeRefusal n sizes k m room
+  unfolding writeByCode
+  write-known k room e = rw e
+
+  pub written-known : (k : Kind) (out : List ℕ) → kindOf code ≡ Good k → writtenByCode n sizes code m out ≡ writeOf n sizes k m out
+  unfolding writtenByCode
+  written-known k out e = rw e
+
+  pub write-unknown : (r room : ℕ) → kindOf code ≡ Refused r → writeByCode n sizes code m room ≡ unknownKind n sizes m
+  unfolding writeByCode
+  write-unknown r room e = rw e
+
+  pub written-unknown : (r : ℕ) (out : List ℕ) → kindOf code ≡ Refused r → writtenByCode n sizes code m out ≡ out
+  unfolding writtenByCode
+  written-unknown r out e = rw e

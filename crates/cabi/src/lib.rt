@@ -1,0 +1,249 @@
+// The calls of document 01 for C and Rust, as include/riksamoe.h declares them. Each hands on to the call that it names, and promises
+// what that one does.
+
+use message::Kind;
+use message::Message;
+use message::Read;
+use unit::Outcome;
+use unit::Report;
+use unit::Unit;
+ghost use mathlib.Core.Path.{_≡_};
+ghost use Prim.Native.Nat.{pred};
+ghost use lib.ListN.{length};
+ghost use Rattle.checksum.specs.Sum.{sumOf};
+ghost use Rattle.table.specs.Block.{blockRefusal};
+ghost use Rattle.table.specs.File.{readOf, readInto, writeOf, writeInto};
+ghost use Rattle.costs.specs.Gather.{sizesIn, gatherCount, gatherInto};
+ghost use Rattle.message.specs.Decode.{parseFor, kindOf};
+ghost use Rattle.unit.specs.State.{noUnit};
+ghost use Rattle.unit.specs.Calls.{outcomeOf, reportOf, unitOf, bytesOf, makeOut, stepOut};
+ghost use Rattle.search.specs.Search.{searchOf};
+ghost use Rattle.cabi.specs.Calls.{ofRead, ofWritten, codeOf, parsedOf, writeByCode, writtenByCode, unknownKind, ofFound};
+
+// A domain size for each of 16 units, zero past n.
+#[repr(C)]
+pub struct Sizes {
+    pub places: [u8; 16],
+}
+
+// A refusal, or 0 and how many bytes were written.
+#[repr(C)]
+pub struct Length {
+    pub refusal: u8,
+    pub length: usize,
+}
+
+// A refusal with all else zero, or 0 with the kind's number and the fields.
+#[repr(C)]
+pub struct Parsed {
+    pub refusal: u8,
+    pub kind: u8,
+    pub message: Message,
+}
+
+// A refusal with all else zero, or 0 with the least total and its first assignment.
+#[repr(C)]
+pub struct Found {
+    pub refusal: u8,
+    pub total: u32,
+    pub values: [u8; 16],
+}
+
+// ---- blocks and tables
+
+#[no_mangle]
+pub extern "C" fn riksamoe_checksum(bytes: &[u8]) -> u32
+    ensures { λ r. ⌜ r ≡ sumOf (now (bytes .entry)) ⌝ }
+{
+    checksum::sum(bytes)
+}
+
+#[no_mangle]
+pub extern "C" fn riksamoe_block_refusal(block: &[u8], number: u16, last: bool) -> u8
+    ensures { λ r. ⌜ r ≡ blockRefusal number last (now (block .entry)) ⌝ }
+{
+    table::block_refusal(block, number, last)
+}
+
+#[no_mangle]
+pub extern "C" fn riksamoe_table_read(file: &[u8], stream: &mut [u8]) -> Length
+    ensures { λ r. ⌜ (r ≡ ofRead (readOf (now (file .entry)) (length (now (stream .entry))))) × (now (stream .exit) ≡ readInto (now (file .entry)) (now (stream .entry))) ⌝ }
+{
+    let r = table::read(file, stream);
+    Length {
+        refusal: r.refusal,
+        length: r.length,
+    }
+}
+
+#[no_mangle]
+pub extern "C" fn riksamoe_table_write(stream: &[u8], file: &mut [u8]) -> Length
+    ensures { λ r. ⌜ (r ≡ ofWritten (writeOf (now (stream .entry)) (length (now (file .entry))))) × (now (file .exit) ≡ writeInto (now (stream .entry)) (now (file .entry))) ⌝ }
+{
+    let r = table::write(stream, file);
+    Length {
+        refusal: r.refusal,
+        length: r.length,
+    }
+}
+
+// ---- what a unit is lent, out of a stream
+
+#[no_mangle]
+pub extern "C" fn riksamoe_sizes(stream: &[u8]) -> Sizes
+    ensures { λ r. ⌜ r .places ≡ sizesIn (now (stream .entry)) ⌝ }
+{
+    let places = costs::sizes_of(stream);
+    Sizes { places }
+}
+
+#[no_mangle]
+pub extern "C" fn riksamoe_costs(stream: &[u8], own: u8, out: &mut [u8]) -> usize
+    ensures { λ r. ⌜ (r ≡ gatherCount (now (stream .entry)) own (length (now (out .entry)))) × (now (out .exit) ≡ gatherInto (now (stream .entry)) own (now (out .entry))) ⌝ }
+{
+    costs::gather(stream, own, out)
+}
+
+// ---- messages
+
+#[no_mangle]
+pub extern "C" fn riksamoe_message_parse(n: u8, sizes: Sizes, bytes: &[u8]) -> Parsed
+    ensures { λ r. ⌜ r ≡ parsedOf (parseFor n (sizes .places) 0 (now (bytes .entry))) ⌝ }
+{
+    let places = sizes.places;
+    let p = message::parse(n, places, bytes);
+    let answer = p.answer;
+    let message = p.message;
+    Parsed {
+        refusal: message::refusal_of(answer),
+        kind: code_of(answer),
+        message,
+    }
+}
+
+// A kind that is none of 01's is refused by 9, after 5 and 10.
+#[no_mangle]
+pub extern "C" fn riksamoe_message_write(
+    n: u8,
+    sizes: Sizes,
+    kind: u8,
+    m: Message,
+    out: &mut [u8],
+) -> u8
+    ensures { λ r. ⌜ (r ≡ writeByCode n (sizes .places) kind m (length (now (out .entry)))) × (now (out .exit) ≡ writtenByCode n (sizes .places) kind m (now (out .entry))) ⌝ }
+{
+    let places = sizes.places;
+    let answer = kind_of(kind);
+    let Read::Good(known) = answer else {
+        return unknown_kind(n, places, m);
+    };
+    message::write(n, places, known, m, out)
+}
+
+// ---- one unit
+
+#[no_mangle]
+pub extern "C" fn riksamoe_unit_make(
+    own: u8,
+    n: u8,
+    sizes: Sizes,
+    costs: &[u8],
+    out: &mut [u8],
+) -> Outcome
+    ensures { λ r. ⌜ (r ≡ outcomeOf n (pred own) noUnit (makeOut own n (sizes .places) (now (costs .entry)) (length (now (out .entry))))) × (now (out .exit) ≡ bytesOf n (pred own) (now (out .entry)) (makeOut own n (sizes .places) (now (costs .entry)) (length (now (out .entry))))) ⌝ }
+{
+    let places = sizes.places;
+    unit::make(own, n, places, costs, out)
+}
+
+#[no_mangle]
+pub extern "C" fn riksamoe_unit_step(
+    u: Unit,
+    own: u8,
+    n: u8,
+    sizes: Sizes,
+    costs: &[u8],
+    packet: &[u8],
+    out: &mut [u8],
+) -> Outcome
+    ensures { λ r. ⌜ (r ≡ outcomeOf n (pred own) u (stepOut u own n (sizes .places) (now (costs .entry)) (now (packet .entry)) (length (now (out .entry))))) × (now (out .exit) ≡ bytesOf n (pred own) (now (out .entry)) (stepOut u own n (sizes .places) (now (costs .entry)) (now (packet .entry)) (length (now (out .entry))))) ⌝ }
+{
+    let places = sizes.places;
+    unit::step(u, own, n, places, costs, packet, out)
+}
+
+#[no_mangle]
+pub extern "C" fn riksamoe_unit_step_in_place(
+    u: &mut Unit,
+    own: u8,
+    n: u8,
+    sizes: Sizes,
+    costs: &[u8],
+    packet: &[u8],
+    out: &mut [u8],
+) -> Report
+    ensures { λ r. ⌜ (r ≡ reportOf n (pred own) (stepOut (now (u .entry)) own n (sizes .places) (now (costs .entry)) (now (packet .entry)) (length (now (out .entry))))) × (now (u .exit) ≡ unitOf (now (u .entry)) (stepOut (now (u .entry)) own n (sizes .places) (now (costs .entry)) (now (packet .entry)) (length (now (out .entry))))) × (now (out .exit) ≡ bytesOf n (pred own) (now (out .entry)) (stepOut (now (u .entry)) own n (sizes .places) (now (costs .entry)) (now (packet .entry)) (length (now (out .entry))))) ⌝ }
+{
+    let places = sizes.places;
+    unit::step_in_place(u, own, n, places, costs, packet, out)
+}
+
+// ---- the bench
+
+#[no_mangle]
+pub extern "C" fn riksamoe_search(stream: &[u8]) -> Found
+    ensures { λ r. ⌜ r ≡ ofFound (searchOf (now (stream .entry))) ⌝ }
+{
+    let r = search::exhaustive(stream);
+    let values = r.values;
+    Found {
+        refusal: r.refusal,
+        total: r.total,
+        values,
+    }
+}
+
+// ---- kinds by their numbers
+
+// The number of the kind that was read, 0 for none.
+fn code_of(r: Read) -> u8
+    ensures { λ x. ⌜ x ≡ codeOf r ⌝ }
+{
+    match r {
+        Read::Good(kind) => match kind {
+            Kind::Cpa => 1,
+            Kind::Request => 2,
+            Kind::Estimate => 3,
+            Kind::Solution => 4,
+            Kind::Stop => 5,
+        },
+        Read::Refused(_) => 0,
+    }
+}
+
+// The kind of a number.
+fn kind_of(code: u8) -> Read
+    ensures { λ r. ⌜ r ≡ kindOf code ⌝ }
+{
+    match code {
+        1 => Read::Good(Kind::Cpa),
+        2 => Read::Good(Kind::Request),
+        3 => Read::Good(Kind::Estimate),
+        4 => Read::Good(Kind::Solution),
+        5 => Read::Good(Kind::Stop),
+        _ => Read::Refused(9),
+    }
+}
+
+// The refusal of a message that has no kind.
+fn unknown_kind(n: u8, sizes: [u8; 16], m: Message) -> u8
+    ensures { λ r. ⌜ r ≡ unknownKind n sizes m ⌝ }
+{
+    if !base::shape_good(n, sizes) {
+        return 5;
+    }
+    if !message::address_good(n, m) {
+        return 10;
+    }
+    9
+}

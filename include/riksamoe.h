@@ -1,0 +1,208 @@
+/* Riksamoe for firmware: units that agree by forward bounding on the cheapest lotting, from C.
+ *
+ * Link target/staticlib/libcabi.a, which `rt staticlib cabi` makes (x86-64, System V calls; of a C library it needs memcpy and
+ * memset alone). Each function below is a proved one of crates/cabi: what it promises stands there beside it, for all inputs. This
+ * header is kept by hand; its layouts are held by the assertions at the end, and scripts/differential compares every call with a second
+ * implementation. examples/ has a shed of such boxes in C and in Rust.
+ *
+ * What a box does
+ *
+ *   1. At start, from the stored table: riksamoe_table_read joins its blocks to the stream. The stream's first byte is n;
+ *      riksamoe_sizes gives the sizes, riksamoe_costs the costs that touch this unit. Keep n, sizes and costs; the stream can go.
+ *   2. riksamoe_unit_make gives the unit's first state and, for unit 1, its first packets. Send these.
+ *   3. When a packet arrives, call riksamoe_unit_step_in_place with the kept state, n, sizes, costs, the bytes as they came and an
+ *      output of RIKSAMOE_SENDING bytes. If the refusal is 0, send the first `sent` packets of 64 bytes from the output, in their
+ *      order; byte 2 of each says to which unit. If it is not 0, nothing has changed and there is nothing to send: drop the packet.
+ *   4. Once `stopped` is set the box is done: `bound` is the least total and `best` the value of each unit (unit k's at best[k - 1]).
+ *      Every later packet is refused by 12.
+ *
+ * A stale packet is accepted, changes nothing and sends nothing. Packets may come in any order; none may be lost.
+ *
+ * Buffers. A pointer and the length after it are lent for the call alone: nothing keeps them. Lend no buffer twice in one call. Each
+ * pointer must be valid for its length; with length 0 it may be any pointer but null. `const` bytes are read; of the others only
+ * those named are written, and none where the call is refused. No call allocates, blocks, or keeps anything between calls.
+ *
+ * Refusals: 0 accepted, else
+ *    1  table bytes: 0, no multiple of 512, or over 62,464; a block not of 512 bytes
+ *    2  block number wrong
+ *    3  payload count or unused bytes wrong
+ *    4  block check wrong
+ *    5  n or a size not 1 to 16; a state out of range, or a pool count over 1,024
+ *    6  stream, or a unit's costs, shorter or longer than n and the sizes need
+ *    7  a cost above 60,000
+ *    8  packet not 64 bytes, or its check wrong: it was damaged on the way
+ *    9  a message field against its kind
+ *   10  unit number, sender or receiver not 1 to n; packet for another unit
+ *   11  CPA or estimate not of the CPA this unit has out
+ *   12  the unit (in a network: unit 1) has stopped
+ *   13  output too short
+ *   14  what is sent doesn't fit the pool
+ *   15  no message at that cell
+ *   16  more than 1,048,576 assignments (search only)
+ * The order in which a call checks them stands with it; the first that applies is returned.
+ */
+#ifndef RIKSAMOE_H
+#define RIKSAMOE_H
+
+#include <stdbool.h>
+#include <stddef.h>
+#include <stdint.h>
+
+#ifdef __cplusplus
+extern "C" {
+#endif
+
+#define RIKSAMOE_UNITS 16          /* places in every array: unit k's is k - 1 */
+#define RIKSAMOE_NONE 4294967295u  /* the bound *none* */
+#define RIKSAMOE_PACKET 64         /* bytes of a packet */
+#define RIKSAMOE_SENDING 1024      /* bytes to lend for what a step sends: 16 packets */
+#define RIKSAMOE_COSTS 7680        /* most bytes of the costs that touch one unit */
+#define RIKSAMOE_STREAM 61457      /* bytes to lend for a stream */
+#define RIKSAMOE_FILE 62464        /* most bytes of a stored table */
+
+/* Kinds of message, with the words of the format's paper. */
+enum { RIKSAMOE_CPA = 1 /* paper */, RIKSAMOE_REQUEST = 2 /* copy */, RIKSAMOE_ESTIMATE = 3, RIKSAMOE_SOLUTION = 4 /* news */, RIKSAMOE_STOP = 5 };
+
+/* ---- Structs. All pass by value; offsets and sizes in bytes. */
+
+/* How many values each unit has, 1 to 16 for units 1 to n and 0 after. Size 16. */
+typedef struct {
+    uint8_t places[16];
+} riksamoe_sizes_t;
+
+/* A refusal and 0, or 0 and how many bytes were written. Size 16. */
+typedef struct {
+    uint8_t refusal; /*  0 */
+    size_t length;   /*  8 */
+} riksamoe_length_t;
+
+/* The fields of a message; those that its kind lacks are 0. Size 60. */
+typedef struct {
+    uint8_t sender;     /*  0 */
+    uint8_t receiver;   /*  1 */
+    uint8_t stamp[16];  /*  2 */
+    uint8_t values[16]; /* 18 */
+    uint32_t cost;      /* 36 */
+    uint32_t bound;     /* 40 */
+    uint8_t best[16];   /* 44 */
+} riksamoe_message_t;
+
+/* What reading a packet gives; all zero but the refusal where it is refused. Size 64. */
+typedef struct {
+    uint8_t refusal;            /*  0 */
+    uint8_t kind;               /*  1 */
+    riksamoe_message_t message; /*  4 */
+} riksamoe_parsed_t;
+
+/* A unit's whole state: keep it between packets, and change nothing in it. One that is out of range is refused by 5. Size 140, alignment
+ * 4. */
+typedef struct {
+    uint8_t threshold[16];  /*   0 the highest stamp seen */
+    uint32_t bound;         /*  16 the best total known, RIKSAMOE_NONE at first */
+    uint8_t best[16];       /*  20 the assignment of that total */
+    uint32_t estimates[16]; /*  36 of later units, for the CPA out */
+    uint8_t stamp[16];      /* 100 of the CPA out */
+    uint8_t values[16];     /* 116 of the CPA out; own value 0: none is out */
+    uint32_t cost;          /* 132 of the CPA out */
+    uint8_t counter;        /* 136 how many values were tried */
+    bool stopped;           /* 137 0 or 1, no other byte; two bytes of padding follow */
+} riksamoe_unit_t;
+
+/* What making and a step by value give. Refused: nothing sent, no record; a step's unit as lent, a making's all zero. Size 148. */
+typedef struct {
+    uint8_t refusal;      /*   0 */
+    riksamoe_unit_t unit; /*   4 */
+    uint8_t sent;         /* 144 packets written to the front of the output */
+    uint8_t records;      /* 145 values written down in this step */
+} riksamoe_outcome_t;
+
+/* What a step in place gives. Size 3. */
+typedef struct {
+    uint8_t refusal; /* 0 */
+    uint8_t sent;    /* 1 */
+    uint8_t records; /* 2 */
+} riksamoe_report_t;
+
+/* What the search gives: a refusal and zeros, or 0, the least total and its first assignment in ascending order. Size 24. */
+typedef struct {
+    uint8_t refusal;    /* 0 */
+    uint32_t total;     /* 4 */
+    uint8_t values[16]; /* 8 */
+} riksamoe_found_t;
+
+/* ---- The stored table */
+
+/* The check of blocks and packets: the sum of (k + 1) times byte k, modulo 65,521. */
+uint32_t riksamoe_checksum(const uint8_t *bytes, size_t length);
+
+/* A block read alone, which must have this number, and be the table's last or not: 1, 4, 2, 3. Where it gives 0, the payload is the
+ * part of the block from byte 4 on whose length the 16-bit number at byte 2 says. */
+uint8_t riksamoe_block_refusal(const uint8_t *block, size_t length, uint16_t number, bool last);
+
+/* A stored table's stream, to the front of `stream` (lend RIKSAMOE_STREAM bytes): 13, 1, then each block 4, 2, 3, then 5, 6, 7. */
+riksamoe_length_t riksamoe_table_read(const uint8_t *file, size_t length, uint8_t *stream, size_t room);
+
+/* The stored table of a stream, to the front of `file` (RIKSAMOE_FILE bytes are always enough): 5, 6, 7, 13. */
+riksamoe_length_t riksamoe_table_write(const uint8_t *stream, size_t length, uint8_t *file, size_t room);
+
+/* The sizes in a stream, 0 where there are none. */
+riksamoe_sizes_t riksamoe_sizes(const uint8_t *stream, size_t length);
+
+/* The costs that touch unit `own`, to the front of `out` (RIKSAMOE_COSTS bytes are always enough): gives how many bytes. It gives 0 and
+ * writes nothing where n, a size or `own` is out of range, or the stream or `out` too short. */
+size_t riksamoe_costs(const uint8_t *stream, size_t length, uint8_t own, uint8_t *out, size_t room);
+
+/* ---- Messages. A box needs neither: making and steps read and write packets themselves. They are for tools that watch the radio. */
+
+/* A packet's kind and fields: 5, 8, 10, 9. */
+riksamoe_parsed_t riksamoe_message_parse(uint8_t n, riksamoe_sizes_t sizes, const uint8_t *bytes, size_t length);
+
+/* A packet of 64 bytes to the front of `out`: 5, 10, 9 (no such kind, too), 13. */
+uint8_t riksamoe_message_write(uint8_t n, riksamoe_sizes_t sizes, uint8_t kind, riksamoe_message_t message, uint8_t *out, size_t room);
+
+/* ---- One unit. Lend RIKSAMOE_SENDING bytes as `out`; what is sent stands at its front, the bytes behind it stay. */
+
+/* Unit `own` of n, new: 5, 10, 6, 7, 13. Unit 1 sends; for n = 1 it has stopped. */
+riksamoe_outcome_t riksamoe_unit_make(uint8_t own, uint8_t n, riksamoe_sizes_t sizes, const uint8_t *costs, size_t costs_length,
+                                      uint8_t *out, size_t room);
+
+/* The unit after a packet: 13, 5 (n, sizes), 10 (own), 6, 7, 5 (state), 8, 10, 9, 12, 11. */
+riksamoe_outcome_t riksamoe_unit_step(riksamoe_unit_t unit, uint8_t own, uint8_t n, riksamoe_sizes_t sizes, const uint8_t *costs,
+                                      size_t costs_length, const uint8_t *packet, size_t packet_length, uint8_t *out, size_t room);
+
+/* The same step, the new state written where the old one was lent: the call for a box. */
+riksamoe_report_t riksamoe_unit_step_in_place(riksamoe_unit_t *unit, uint8_t own, uint8_t n, riksamoe_sizes_t sizes,
+                                              const uint8_t *costs, size_t costs_length, const uint8_t *packet,
+                                              size_t packet_length, uint8_t *out, size_t room);
+
+/* ---- The bench: every assignment of a stream's table is tried, so lend it 1,048,576 of them at most: 5, 6, 7, 16. */
+riksamoe_found_t riksamoe_search(const uint8_t *stream, size_t length);
+
+/* ---- The layouts above, held */
+
+#ifdef __cplusplus
+#define RIKSAMOE_HOLDS(test) static_assert(test, #test)
+#else
+#define RIKSAMOE_HOLDS(test) _Static_assert(test, #test)
+#endif
+RIKSAMOE_HOLDS(sizeof(riksamoe_sizes_t) == 16);
+RIKSAMOE_HOLDS(sizeof(riksamoe_length_t) == 16 && offsetof(riksamoe_length_t, length) == 8);
+RIKSAMOE_HOLDS(sizeof(riksamoe_message_t) == 60 && offsetof(riksamoe_message_t, stamp) == 2);
+RIKSAMOE_HOLDS(offsetof(riksamoe_message_t, values) == 18 && offsetof(riksamoe_message_t, cost) == 36);
+RIKSAMOE_HOLDS(offsetof(riksamoe_message_t, bound) == 40 && offsetof(riksamoe_message_t, best) == 44);
+RIKSAMOE_HOLDS(sizeof(riksamoe_parsed_t) == 64 && offsetof(riksamoe_parsed_t, message) == 4);
+RIKSAMOE_HOLDS(sizeof(riksamoe_unit_t) == 140 && offsetof(riksamoe_unit_t, threshold) == 0);
+RIKSAMOE_HOLDS(offsetof(riksamoe_unit_t, bound) == 16 && offsetof(riksamoe_unit_t, best) == 20);
+RIKSAMOE_HOLDS(offsetof(riksamoe_unit_t, estimates) == 36 && offsetof(riksamoe_unit_t, stamp) == 100);
+RIKSAMOE_HOLDS(offsetof(riksamoe_unit_t, values) == 116 && offsetof(riksamoe_unit_t, cost) == 132);
+RIKSAMOE_HOLDS(offsetof(riksamoe_unit_t, counter) == 136 && offsetof(riksamoe_unit_t, stopped) == 137);
+RIKSAMOE_HOLDS(sizeof(riksamoe_outcome_t) == 148 && offsetof(riksamoe_outcome_t, unit) == 4);
+RIKSAMOE_HOLDS(offsetof(riksamoe_outcome_t, sent) == 144 && offsetof(riksamoe_outcome_t, records) == 145);
+RIKSAMOE_HOLDS(sizeof(riksamoe_report_t) == 3);
+RIKSAMOE_HOLDS(sizeof(riksamoe_found_t) == 24 && offsetof(riksamoe_found_t, total) == 4 && offsetof(riksamoe_found_t, values) == 8);
+
+#ifdef __cplusplus
+}
+#endif
+
+#endif
