@@ -1,0 +1,245 @@
+// Makes units and feeds them the packets of data/steps, and says what comes of each: the numbers handed back, the state, and the
+// messages sent. A record of the file has 160 bytes: 31 of name; 0 for making, 1 for a step; own number; n; 16 sizes; how many
+// bytes of costs, and 32 for them; how many bytes of packet, and 65 for them; 1 where the output lent is a byte too short; what the
+// state's first threshold byte is set to before the step, if not 0.
+// Each step goes on from the state that the record before left. What is sent is printed, and goes to no unit.
+ghost use Prim.Native.Nat.{_+_, _<_};
+use libc::STDOUT_FILENO;
+use message::Kind;
+use message::Message;
+use message::Read;
+use unit::Outcome;
+use unit::Unit;
+
+fn main() {
+    let mut file = [0u8; 16384];
+    let fd = os::open_read(b"steps");
+    if fd < 0 {
+        os::fail(b"steps");
+        return;
+    }
+    let n = io::read_full(fd, &mut file);
+    libc::close(fd);
+    run(&file[..n]);
+}
+
+// Each record, from the state that the one before left.
+fn run(file: &[u8]) {
+    let mut u = blank();
+    let mut left = file.len() / 160;
+    let mut at = 0;
+    while 0 < left {
+        let e = at + 160;
+        u = record(u, &file[at..e]);
+        at += 160;
+        left -= 1;
+    }
+}
+
+// One record: its name, what comes of it, and the state then.
+fn record(u: Unit, r: &[u8]) -> Unit {
+    if r.len() < 160 {
+        return u;
+    }
+    io::write_all(STDOUT_FILENO, &r[0..31]);
+    if r[150] == 0 {
+        let mut out = [0u8; 1024];
+        let o = call(u, r, &mut out);
+        return told(r, o, &out);
+    }
+    let mut short = [0u8; 1023];
+    let o = call(u, r, &mut short);
+    told(r, o, &short)
+}
+
+// Making, or a step with the record's packet.
+fn call(u: Unit, r: &[u8], out: &mut [u8]) -> Outcome {
+    let own = base::byte_at(r, 32);
+    let n = base::byte_at(r, 33);
+    let sizes = sizes_in(r);
+    let costs = part(r, 50, 32);
+    if base::byte_at(r, 31) == 0 {
+        return unit::make(own, n, sizes, costs, out);
+    }
+    let packet = part(r, 83, 65);
+    let mut v = u;
+    let first = base::byte_at(r, 151);
+    if first != 0 {
+        v.threshold[0] = first;
+    }
+    unit::step(v, own, n, sizes, costs, packet, out)
+}
+
+// The bytes behind their number at `at`, at most `most` of them.
+fn part(r: &[u8], at: usize, most: usize) -> &[u8]
+    requires { ⌜ at + most < 160 ⌝ }
+{
+    let n = base::byte_at(r, at) as usize;
+    if most < n {
+        return &r[0..0];
+    }
+    if r.len() < 160 {
+        return &r[0..0];
+    }
+    let from = at + 1;
+    let to = from + n;
+    &r[from..to]
+}
+
+fn sizes_in(r: &[u8]) -> [u8; 16] {
+    let mut l = [0u8; 16];
+    let mut i = 0;
+    while i < 16 {
+        l[i] = base::byte_at(r, 34 + i);
+        i += 1;
+    }
+    l
+}
+
+// What a call gave: the refusal's number, or the records, the state and the messages sent.
+fn told(r: &[u8], o: Outcome, out: &[u8]) -> Unit {
+    let u = o.unit;
+    if o.refusal != 0 {
+        io::write_all(STDOUT_FILENO, b" refused ");
+        io::print_decimal(STDOUT_FILENO, o.refusal as u64);
+        io::write_all(STDOUT_FILENO, b"\n");
+        return u;
+    }
+    io::write_all(STDOUT_FILENO, b" records ");
+    io::print_decimal(STDOUT_FILENO, o.records as u64);
+    state(u);
+    let sizes = sizes_in(r);
+    sent(base::byte_at(r, 33), sizes, o.sent, out);
+    u
+}
+
+fn state(u: Unit) {
+    io::write_all(STDOUT_FILENO, b" threshold");
+    let threshold = u.threshold;
+    places(threshold);
+    io::write_all(STDOUT_FILENO, b" estimates");
+    let estimates = u.estimates;
+    wide_places(estimates);
+    io::write_all(STDOUT_FILENO, b" counter ");
+    io::print_decimal(STDOUT_FILENO, u.counter as u64);
+    if u.stopped {
+        io::write_all(STDOUT_FILENO, b" stopped");
+    }
+    let stamp = u.stamp;
+    let values = u.values;
+    let best = u.best;
+    cpa(stamp, values, u.cost, u.bound, best);
+}
+
+// The messages at the front of the output.
+fn sent(n: u8, sizes: [u8; 16], count: u8, out: &[u8]) {
+    let mut left = count;
+    let mut at = 0;
+    while 0 < left {
+        if out.len() < 64 {
+            return;
+        }
+        if out.len() - 64 < at {
+            return;
+        }
+        let e = at + 64;
+        packet(n, sizes, &out[at..e]);
+        at += 64;
+        left -= 1;
+    }
+}
+
+// A packet as it reads.
+fn packet(n: u8, sizes: [u8; 16], bytes: &[u8]) {
+    let p = message::parse(n, sizes, bytes);
+    let answer = p.answer;
+    let Read::Good(kind) = answer else {
+        io::write_all(STDOUT_FILENO, b"  not a message\n");
+        return;
+    };
+    name(kind);
+    let m = p.message;
+    fields(m);
+}
+
+// 01's word for a kind.
+fn name(kind: Kind) {
+    match kind {
+        Kind::Cpa => {
+            io::write_all(STDOUT_FILENO, b"  sends paper ");
+        }
+        Kind::Request => {
+            io::write_all(STDOUT_FILENO, b"  sends copy ");
+        }
+        Kind::Estimate => {
+            io::write_all(STDOUT_FILENO, b"  sends estimate ");
+        }
+        Kind::Solution => {
+            io::write_all(STDOUT_FILENO, b"  sends news ");
+        }
+        Kind::Stop => {
+            io::write_all(STDOUT_FILENO, b"  sends stop ");
+        }
+    }
+}
+
+fn fields(m: Message) {
+    io::print_decimal(STDOUT_FILENO, m.sender as u64);
+    io::write_all(STDOUT_FILENO, b" to ");
+    io::print_decimal(STDOUT_FILENO, m.receiver as u64);
+    let stamp = m.stamp;
+    let values = m.values;
+    let best = m.best;
+    cpa(stamp, values, m.cost, m.bound, best);
+}
+
+fn cpa(stamp: [u8; 16], values: [u8; 16], cost: u32, bound: u32, best: [u8; 16]) {
+    io::write_all(STDOUT_FILENO, b" stamp");
+    places(stamp);
+    io::write_all(STDOUT_FILENO, b" values");
+    places(values);
+    io::write_all(STDOUT_FILENO, b" cost ");
+    io::print_decimal(STDOUT_FILENO, cost as u64);
+    io::write_all(STDOUT_FILENO, b" bound ");
+    io::print_decimal(STDOUT_FILENO, bound as u64);
+    io::write_all(STDOUT_FILENO, b" best");
+    places(best);
+    io::write_all(STDOUT_FILENO, b"\n");
+}
+
+// The 16 places, each after a space.
+fn places(l: [u8; 16]) {
+    let mut i = 0;
+    while i < 16 {
+        place(l[i] as u64);
+        i += 1;
+    }
+}
+
+fn wide_places(l: [u32; 16]) {
+    let mut i = 0;
+    while i < 16 {
+        place(l[i] as u64);
+        i += 1;
+    }
+}
+
+fn place(x: u64) {
+    io::write_all(STDOUT_FILENO, b" ");
+    io::print_decimal(STDOUT_FILENO, x);
+}
+
+// No unit yet.
+fn blank() -> Unit {
+    Unit {
+        threshold: [0u8; 16],
+        bound: 0,
+        best: [0u8; 16],
+        estimates: [0u32; 16],
+        stamp: [0u8; 16],
+        values: [0u8; 16],
+        cost: 0,
+        counter: 0,
+        stopped: false,
+    }
+}
