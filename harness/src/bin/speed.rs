@@ -1,4 +1,5 @@
 //! How long the calls take: the reference implementation and, with the feature `linked`, the Rattle library, and their ratio.
+//! speed [WORD]: the rows alone whose name has the word, if there is one.
 //!
 //! Both are built for release and get the same inputs in the same buffers, which are not cleared between rounds. Each number is the
 //! best of five measurements of a tenth of a second or more.
@@ -124,6 +125,12 @@ fn libraries() -> Vec<(&'static str, Box<dyn Library>)> {
     all
 }
 
+/// What is measured, and how: printed above the numbers.
+const HEAD: &str = "\
+Both built for release, on the same inputs in the same buffers, which are not cleared between calls; the best of five measurements.
+Nanoseconds for each call, and the Rattle library's over the reference's:
+";
+
 /// Nanoseconds for each call: the best of five measurements. `work` gives how many calls it made.
 fn nanoseconds(mut work: impl FnMut() -> u64) -> f64 {
     let mut best = f64::INFINITY;
@@ -138,7 +145,10 @@ fn nanoseconds(mut work: impl FnMut() -> u64) -> f64 {
     best
 }
 
-fn print_row(name: &str, work: impl Fn(&dyn Library) -> f64) {
+fn print_row(name: &str, work: impl Fn(&dyn Library) -> f64) -> Vec<f64> {
+    if !name.contains(&std::env::args().nth(1).unwrap_or_default()) {
+        return Vec::new();
+    }
     let times: Vec<f64> = libraries().iter().map(|(_, library)| work(library.as_ref())).collect();
     print!("{name:32}");
     for time in &times {
@@ -148,6 +158,19 @@ fn print_row(name: &str, work: impl Fn(&dyn Library) -> f64) {
         [reference, rattle] => println!(" {:>8.2}", rattle / reference),
         _ => println!(),
     }
+    times
+}
+
+/// The same numbers the other way round.
+fn print_a_second(name: &str, times: &[f64]) {
+    if times.is_empty() {
+        return;
+    }
+    print!("{name:32}");
+    for time in times {
+        print!(" {:>14.0}", 1e9 / time);
+    }
+    println!();
 }
 
 /// A random table of n units of d values, costs 0 to 60,000.
@@ -226,10 +249,11 @@ fn step_rows() {
 fn delivery_rows() {
     for n in [4, 8, 16] {
         let stream = stream(n, 4);
-        print_row(&format!("delivery, {n} units of 4 values"), |library| {
+        let times = print_row(&format!("delivery, {n} units of 4 values"), |library| {
             let mut pool = vec![0; network::POOL];
             nanoseconds(|| black_box(library.run(black_box(&stream), &mut pool, 500)))
         });
+        print_a_second("  deliveries a second", &times);
     }
 }
 
@@ -241,7 +265,7 @@ fn search_row() {
 }
 
 fn main() {
-    print!("{:32}", "nanoseconds a call");
+    print!("{HEAD}{:32}", "");
     for (name, _) in libraries() {
         print!(" {name:>14}");
     }

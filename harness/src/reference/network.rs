@@ -11,7 +11,7 @@ pub const POOL: usize = CELLS * SIZE;
 
 #[derive(Clone, PartialEq, Eq, Debug, Default)]
 pub struct Network {
-    /// Those past n are neither looked at nor changed.
+    /// Those past n are new units after making; nothing looks at them or changes them.
     pub units: [Unit; 16],
     /// Cells in use.
     pub count: u64,
@@ -26,7 +26,7 @@ pub fn make(stream: &[u8], pool: &mut [u8]) -> Result<Network, Refusal> {
         return Err(13);
     }
     let (n, sizes) = table::head(stream);
-    let mut network = Network::default();
+    let mut network = Network { units: [unit::fresh(); 16], ..Network::default() };
     for own in 1..=n as usize {
         let costs = costs::of_unit(stream, own);
         let made = unit::start(&View::new(own, n as usize, &sizes, &costs));

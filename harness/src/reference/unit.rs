@@ -151,9 +151,14 @@ fn compare(left: &Places, right: &Places, count: usize) -> Ordering {
     left[..count].cmp(&right[..count])
 }
 
+/// 01: "It starts with bound *none*, all else zero".
+pub fn fresh() -> Unit {
+    Unit { bound: NONE, ..Unit::default() }
+}
+
 /// 01: "It starts with bound *none*, all else zero"; "Making unit 1 assigns".
 pub fn start(view: &View) -> Decision {
-    let mut work = Work::new(view, &Unit { bound: NONE, ..Unit::default() });
+    let mut work = Work::new(view, &fresh());
     if view.own == 1 {
         work.assign();
     }
