@@ -2,8 +2,8 @@
 -- By the definitions of the calls; what is sent is at most 16 packets, by the laws of a unit. Assumes nothing.
 use Prim.Native.Nat.{ℕ, zero, suc, pred, _-_, _≤_, _<_}
 use native.Mathlib.Omega.{arith}
-use mathlib.Core.Path.{_≡_, refl, sym, ap, subst, _∙_}
-use mathlib.Core.Bool.{Bool, true, false}
+use mathlib.Core.Path.{_≡_, refl, sym, ap, _∙_}
+use mathlib.Core.Bool.{true, false}
 use mathlib.Core.List.{List}
 use lib.Dec.{eqb}
 use lib.ListN.{length}
@@ -11,10 +11,8 @@ use borrow.Author.Tests.{lt-ltb, le-ltb, eq-eqb, ne-eqb, eqb-true}
 use Rattle.base.specs.Shape.{shapeGood, shape-n}
 use Rattle.costs.specs.Instance.{View, lentView}
 use Rattle.costs.specs.Lent.{lentRefusal}
-use Rattle.message.specs.declared.Message.{Message}
 use Rattle.message.specs.declared.Parsed.{Parsed}
 use Rattle.message.specs.declared.Kind.{Kind}
-use Rattle.message.specs.declared.Read.{Read}
 use Rattle.message.specs.declared.Read.the-variants.{Good, Refused}
 use Rattle.message.specs.Message.{Sized, isUnit, refusalOf}
 use Rattle.message.specs.Decode.{messageIn, forUnit, parseFor}
@@ -22,23 +20,19 @@ use Rattle.message.specs.RoundTrip as trip
 use Rattle.unit.specs.declared.Unit.{Unit}
 use Rattle.unit.specs.declared.Decided.{Decided}
 use Rattle.unit.specs.declared.Outcome.{Outcome}
-use Rattle.unit.specs.declared.Report.{Report}
 use Rattle.unit.specs.State.{fresh, inRange}
 use Rattle.unit.specs.Step.{Out, refused, accepted, stale, assign, respond, decidedOf}
 use Rattle.unit.specs.Send.{packets, laid}
 use Rattle.unit.specs.Laying.{Room, laid-none}
-use Rattle.unit.specs.Calls.{outcomeOf, reportOf, unitOf, bytesOf, makeRefusal, start, unlessRefused, makeOut, stepRefusal, onRead, stepOut}
+use Rattle.unit.specs.Calls.{outcomeOf, reportOf, unitOf, bytesOf, makeRefusal, start, unlessRefused, makeOut, stepRefusal, stepOut}
 use Rattle.unit.specs.Ready.{Shaped, Ready, Heard}
 use Rattle.unit.specs.Laws.Views.{unit-range, lent-good}
 use Rattle.unit.specs.Laws.Range.{SizedUnit}
 use Rattle.unit.specs.Laws.Assign.{Whenever, Kept}
 use Rattle.unit.specs.Laws.Steps.{respond-kept, start-kept}
 use Rattle.unit.specs.Laws.Calls.{Makes, Passed}
+use Rattle.unit.proofs.Lent.{pred-sub}
 use Rattle.unit.specs.Laws.Readiness.{own-of, shaped-of, ready-of, heard-of}
-
-pred-sub : (k : ℕ) → pred k ≡ k - 1
-pred-sub zero = refl
-pred-sub (suc k) = omega arith
 
 -- ---- what the caller gets
 
@@ -67,10 +61,6 @@ few-decided n sizes w was (accepted u s ws) d e h = rw e (h .few)
 
 room-of : (own n : ℕ) (sizes out : List ℕ) → shapeGood n sizes ≡ true → isUnit n own ≡ true → 1024 ≤ length out → Room own n out
 room-of own n sizes out s i f = let u = unit-range n own i in record { first = u .0; last = u .1; units = shape-n n sizes s .1; bytes = f }
-
-place-of : (own n : ℕ) (sizes costs : List ℕ) → lentView own n sizes costs .place ≡ own - 1
-unfolding lentView
-place-of own n sizes costs = pred-sub own
 
 -- ---- making
 

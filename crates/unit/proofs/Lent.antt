@@ -10,7 +10,7 @@ use Rattle.costs.specs.Instance.{lentView}
 use Rattle.unit.specs.declared.Unit.{Unit}
 use Rattle.unit.specs.State.{ownValue}
 
-pred-sub : (k : ℕ) → pred k ≡ k - 1
+pub pred-sub : (k : ℕ) → pred k ≡ k - 1
 pred-sub zero = refl
 pred-sub (suc k) = omega arith
 

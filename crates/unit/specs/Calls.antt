@@ -1,16 +1,15 @@
 -- The calls: making a unit and a step, refusals in 01's order.
 -- 01: "Making a unit ..: 5, 10 (unit only), 6, 7, 13." "Step: 13, 5 (n, sizes), 10 (own number), 6, 7, 5 (state), 8, 10, 9, 12, 11."
 -- Assumes nothing.
-use Prim.Native.Nat.{ℕ, zero, suc, _+_, _*_, _-_, pred}
-use mathlib.Core.Bool.{Bool, true, false, cond, not, _&&_}
-use mathlib.Core.List.{List, [], _∷_, _++_}
-use lib.Dec.{ltb, leb, eqb}
+use Prim.Native.Nat.{ℕ, zero, suc, pred}
+use mathlib.Core.Bool.{cond, not}
+use mathlib.Core.List.{List, []}
+use lib.Dec.{ltb, eqb}
 use lib.ListN.{length}
 use Rattle.base.specs.Shape.{shapeGood}
 use Rattle.costs.specs.Instance.{View, lentView}
 use Rattle.costs.specs.Lent.{lentRefusal}
 use Rattle.message.specs.declared.Message.{Message}
-use Rattle.message.specs.declared.Parsed.{Parsed}
 use Rattle.message.specs.declared.Read.{Read}
 use Rattle.message.specs.declared.Read.the-variants.{Good, Refused}
 use Rattle.message.specs.Message.{isUnit}
@@ -18,8 +17,8 @@ use Rattle.message.specs.Decode.{parseFor}
 use Rattle.unit.specs.declared.Unit.{Unit}
 use Rattle.unit.specs.declared.Outcome.{Outcome}
 use Rattle.unit.specs.declared.Report.{Report}
-use Rattle.unit.specs.State.{noUnit, fresh, inRange}
-use Rattle.unit.specs.Step.{Out, refused, accepted, Written, silent, assign, respond}
+use Rattle.unit.specs.State.{fresh, inRange}
+use Rattle.unit.specs.Step.{Out, refused, accepted, silent, assign, respond}
 use Rattle.unit.specs.Send.{packets, laid}
 
 -- ---- what the caller gets

@@ -3,7 +3,7 @@
 --     addressed                            one message to the unit at a place; the messages of Send are all of this form
 --     Room, Wide                           the buffer holds 16 messages; each message of a list is 64 bytes
 -- Assumes nothing.
-use Prim.Native.Nat.{ℕ, zero, suc, _+_, _*_, _-_, _≤_, _<_}
+use Prim.Native.Nat.{ℕ, zero, suc, _+_, _*_, _-_, _≤_}
 use mathlib.Core.Path.{_≡_, refl, sym, ap, _∙_}
 use mathlib.Core.Bool.{Bool, true, false}
 use mathlib.Core.List.{List, [], _∷_, _++_, append-assoc, append-nil}
@@ -21,6 +21,7 @@ use Rattle.unit.specs.State.{zeros}
 use Rattle.unit.specs.declared.Sending.{Sending}
 use Rattle.unit.specs.declared.Plan.{Plan}
 use Rattle.unit.specs.declared.Plan.the-variants.{Forward, Back}
+use Rattle.unit.specs.Laws.Packets.{each-length}
 use Rattle.unit.specs.Send.{packet, requestTo, boundTo, each, handBack, byPlan, packets, encodeAll, laid}
 
 abbrev pub withReceiver : ℕ → Message → Message
@@ -62,11 +63,6 @@ pub wide-append : (ps qs : List Packet) → Wide ps → Wide qs → Wide (ps ++ 
 wide-append ps qs p q = rw (encode-append ps qs, length-append (encodeAll ps) (encodeAll qs), length-append ps qs) (omega (arith, p, q))
 
 -- ---- to several units
-
-pub each-length : (g : ℕ → Packet) (lo c : ℕ) → length (each g lo c) ≡ c
-unfolding each
-each-length g lo zero = refl
-each-length g lo (suc c) = ap suc (each-length g (suc lo) c)
 
 pub each-more : (g : ℕ → Packet) (lo i : ℕ) → each g lo (suc i) ≡ each g lo i ++ g (lo + i) ∷ []
 unfolding each

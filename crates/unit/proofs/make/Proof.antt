@@ -1,7 +1,7 @@
 -- `make` meets its contract: the first refusal that applies with a unit all zero, or what a new unit decides.
 -- Assumes nothing.
-use Prim.Native.Nat.{pred, _≤_}
-use mathlib.Core.Path.{_≡_, refl, sym, _∙_}
+use Prim.Native.Nat.{pred}
+use mathlib.Core.Path.{_≡_, sym, _∙_}
 use native.Mathlib.Omega.{arith}
 use lib.ListN.{length}
 use Rattle.base.specs.Shape.{shape-n}

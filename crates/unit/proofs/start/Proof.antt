@@ -1,8 +1,6 @@
 -- `start` meets its contract: unit 1 assigns, another is quiet.
 -- Assumes nothing.
-use Prim.Native.Nat.{pred}
-use mathlib.Core.Path.{_≡_, refl, sym, _∙_}
-use native.Mathlib.Omega.{arith}
+use mathlib.Core.Path.{_∙_}
 use Rattle.costs.specs.Instance.{lentView}
 use Rattle.unit.specs.Laws.Readiness.{ready-fresh}
 use Rattle.unit.proofs.Calls.{start-first, start-later}

@@ -1,7 +1,7 @@
 -- `step` meets its contract: the first refusal that applies, reading's refusal, or what the unit decides on the message read.
 -- Assumes nothing.
 use Prim.Native.Nat.{pred, _≤_}
-use mathlib.Core.Path.{_≡_, refl, sym, _∙_}
+use mathlib.Core.Path.{_≡_, sym, _∙_}
 use native.Mathlib.Omega.{arith}
 use lib.ListN.{length}
 use Rattle.base.specs.Shape.{shape-n}

@@ -1,6 +1,6 @@
 -- `step_refusal` meets its contract: each refusal is the first test of 01's order that fails.
 -- Assumes nothing.
-use mathlib.Core.Path.{_≡_, refl, sym, _∙_}
+use mathlib.Core.Path.{_≡_, sym, _∙_}
 use mathlib.Core.Bool.{true}
 use borrow.Author.Tests.{not-true, not-false}
 use Rattle.base.specs.Shape.{shapeGood}

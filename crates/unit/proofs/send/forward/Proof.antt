@@ -1,6 +1,6 @@
 -- `forward` meets its contract: the requests are laid behind the cpa.
 -- Assumes nothing.
-use mathlib.Core.Path.{_≡_, _∙_}
+use mathlib.Core.Path.{_∙_}
 use native.Mathlib.Omega.{arith}
 use Rattle.message.specs.Message.{Sized}
 use Rattle.unit.specs.Laying.{forward-laid, forward-count}

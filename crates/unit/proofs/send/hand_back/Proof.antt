@@ -1,6 +1,6 @@
 -- `hand_back` meets its contract: unit 1 spreads stops, another sends the cpa to the unit before.
 -- Assumes nothing.
-use mathlib.Core.Path.{_≡_, _∙_}
+use mathlib.Core.Path.{_∙_}
 use native.Mathlib.Omega.{arith}
 use Rattle.message.specs.Message.{Sized}
 use Rattle.unit.specs.Laying.{stops-laid, stops-count, back-one-laid, back-one-count}
