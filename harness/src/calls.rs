@@ -3,7 +3,7 @@
 use crate::reference::message::{self, Message};
 use crate::reference::network::{self, Network};
 use crate::reference::unit::{self, Unit};
-use crate::reference::{checksum, search, table, Places};
+use crate::reference::{checksum, costs, search, table, Places};
 
 #[derive(Clone, Copy, PartialEq, Eq, Debug)]
 pub enum Call {
@@ -11,6 +11,7 @@ pub enum Call {
     Block,
     Read,
     Write,
+    Lent,
     Parse,
     Encode,
     Make,
@@ -22,11 +23,12 @@ pub enum Call {
 }
 
 /// Each call, its name in the Rattle code, and the refusals it can give.
-pub const CALLS: [(Call, &str, &[u8]); 12] = [
+pub const CALLS: [(Call, &str, &[u8]); 13] = [
     (Call::Sum, "checksum::sum", &[]),
     (Call::Block, "table::read_block", &[1, 4, 2, 3]),
     (Call::Read, "table::read", &[13, 1, 4, 2, 3, 5, 6, 7]),
     (Call::Write, "table::write", &[5, 6, 7, 13]),
+    (Call::Lent, "costs::sizes_of and costs::gather", &[]),
     (Call::Parse, "message::parse", &[5, 8, 10, 9]),
     (Call::Encode, "message::write", &[5, 10, 9, 13]),
     (Call::Make, "unit::make", &[5, 10, 6, 7, 13]),
@@ -44,6 +46,7 @@ pub enum Input {
     Block { block: Vec<u8>, expected: u16, last: bool },
     Read { file: Vec<u8>, stream: Vec<u8> },
     Write { stream: Vec<u8>, file: Vec<u8> },
+    Lent { stream: Vec<u8>, own: u8, out: Vec<u8> },
     Parse { n: u8, sizes: Places, packet: Vec<u8> },
     Encode { n: u8, sizes: Places, kind: u8, message: Message, out: Vec<u8> },
     Make { own: u8, n: u8, sizes: Places, costs: Vec<u8>, out: Vec<u8> },
@@ -84,6 +87,13 @@ fn length_outcome(answer: Result<usize, u8>, lent: Vec<u8>) -> Outcome {
     Outcome { refusal, numbers: vec![length as u64], lent, ..Outcome::default() }
 }
 
+/// The sizes of a stream, and how many bytes of costs were written.
+pub fn lent_outcome(sizes: &Places, count: usize, lent: Vec<u8>) -> Outcome {
+    let mut numbers = vec![count as u64];
+    numbers.extend(sizes.map(u64::from));
+    Outcome { numbers, lent, ..Outcome::default() }
+}
+
 /// The reference implementation's outcome.
 pub fn reference(input: Input) -> Outcome {
     match input {
@@ -94,6 +104,10 @@ pub fn reference(input: Input) -> Outcome {
         },
         Input::Read { file, mut stream } => length_outcome(table::read(&file, &mut stream), stream),
         Input::Write { stream, mut file } => length_outcome(table::write(&stream, &mut file), file),
+        Input::Lent { stream, own, mut out } => {
+            let count = costs::gather(&stream, own, &mut out);
+            lent_outcome(&costs::sizes_in(&stream), count, out)
+        }
         Input::Parse { n, sizes, packet } => match message::parse(n, &sizes, &packet) {
             Ok((kind, message)) => Outcome { numbers: vec![kind.into()], message, ..Outcome::default() },
             Err(refusal) => Outcome { refusal, numbers: vec![0], ..Outcome::default() },

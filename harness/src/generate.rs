@@ -592,6 +592,13 @@ pub fn input(random: &mut Random, call: Call) -> Input {
             let asked = 512 * stream.len().div_ceil(table::PAYLOAD).max(1);
             Input::Write { file: buffer(random, asked), stream }
         }
+        Call::Lent => {
+            let stream = some_stream(random, 2);
+            let n = stream.first().copied().unwrap_or(0);
+            let own = own_number(random, n);
+            let room = *random.pick(&[2, 64, 1_024, 7_680]);
+            Input::Lent { stream, own, out: buffer(random, room) }
+        }
         Call::Parse => {
             let stream = stream(random);
             let (mut n, mut sizes) = head(random, &stream);

@@ -3,7 +3,7 @@
 //! Nothing checks these declarations against the library: the sizes at the end are all that the compiler can hold, the differential test does the rest.
 //! A slice passes as a pointer and a length; structs pass by value and are `repr(C)`.
 
-use crate::calls::{Input, Outcome};
+use crate::calls::{lent_outcome, Input, Outcome};
 use crate::reference;
 use crate::reference::network::Network as PlainNetwork;
 use crate::reference::Places;
@@ -115,6 +115,8 @@ extern "C" {
     fn riksamoe_block_refusal(block: *const u8, length: usize, expected: u16, last: bool) -> u8;
     fn riksamoe_table_read(file: *const u8, length: usize, stream: *mut u8, room: usize) -> Length;
     fn riksamoe_table_write(stream: *const u8, length: usize, file: *mut u8, room: usize) -> Length;
+    fn riksamoe_sizes(stream: *const u8, length: usize) -> Sizes;
+    fn riksamoe_costs(stream: *const u8, length: usize, own: u8, out: *mut u8, room: usize) -> usize;
     fn riksamoe_message_parse(n: u8, sizes: Sizes, bytes: *const u8, length: usize) -> Parsed;
     fn riksamoe_message_write(n: u8, sizes: Sizes, kind: u8, message: Message, out: *mut u8, room: usize) -> u8;
     fn riksamoe_unit_make(
@@ -179,6 +181,14 @@ pub fn table_read(file: &[u8], stream: &mut [u8]) -> Length {
 
 pub fn table_write(stream: &[u8], file: &mut [u8]) -> Length {
     unsafe { riksamoe_table_write(stream.as_ptr(), stream.len(), file.as_mut_ptr(), file.len()) }
+}
+
+pub fn sizes(stream: &[u8]) -> Places {
+    unsafe { riksamoe_sizes(stream.as_ptr(), stream.len()) }.places
+}
+
+pub fn costs(stream: &[u8], own: u8, out: &mut [u8]) -> usize {
+    unsafe { riksamoe_costs(stream.as_ptr(), stream.len(), own, out.as_mut_ptr(), out.len()) }
 }
 
 pub fn message_parse(n: u8, sizes: &Places, bytes: &[u8]) -> Parsed {
@@ -353,6 +363,10 @@ pub fn linked(input: Input) -> Outcome {
         }
         Input::Read { file, mut stream } => length_outcome(table_read(&file, &mut stream), stream),
         Input::Write { stream, mut file } => length_outcome(table_write(&stream, &mut file), file),
+        Input::Lent { stream, own, mut out } => {
+            let count = costs(&stream, own, &mut out);
+            lent_outcome(&sizes(&stream), count, out)
+        }
         Input::Parse { n, sizes, packet } => {
             let answer = message_parse(n, &sizes, &packet);
             let numbers = vec![answer.kind.into()];

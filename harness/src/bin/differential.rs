@@ -14,6 +14,7 @@ fn main() {
     let rounds = numbers.first().copied().unwrap_or(20_000);
     let seed = numbers.get(1).copied().unwrap_or(1);
     let word = std::env::args().nth(3).unwrap_or_default();
+    println!("seed {seed}, {rounds} inputs for each call, a fifth for deliver, settle and search");
     let mut compared = 0;
     let mut faults = 0;
     for (call, name, refusals) in CALLS.into_iter().filter(|(_, name, _)| name.contains(&word)) {

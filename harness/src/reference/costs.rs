@@ -34,6 +34,28 @@ pub fn of_unit(stream: &[u8], own: usize) -> Vec<u8> {
     costs
 }
 
+/// The sizes in any bytes taken as a stream: of the first 16 units of n, 0 where there is none.
+pub fn sizes_in(stream: &[u8]) -> Places {
+    let n = stream.first().copied().unwrap_or(0) as usize;
+    std::array::from_fn(|k| if k < n { stream.get(1 + k).copied().unwrap_or(0) } else { 0 })
+}
+
+/// The costs that touch a unit, out of any bytes taken as a stream; nothing where n, a size or the unit is out of range, or the bytes or
+/// the buffer too short. Bytes behind the table are not looked at.
+pub fn gather(stream: &[u8], own: u8, out: &mut [u8]) -> usize {
+    let sizes = sizes_in(stream);
+    let Some(n) = stream.first().filter(|n| super::check_sizes(**n, &sizes).is_ok() && (1..=**n).contains(&own)) else {
+        return 0;
+    };
+    let (n, own) = (*n as usize, own as usize);
+    if stream.len() < 1 + n + 2 * pairs_in_table(n, &sizes) || out.len() < 2 * pairs_of_unit(own, n, &sizes) {
+        return 0;
+    }
+    let costs = of_unit(stream, own);
+    out[..costs.len()].copy_from_slice(&costs);
+    costs.len()
+}
+
 /// The cost of a full assignment: the sum over all pairs.
 pub fn total(stream: &[u8], assignment: &[u8]) -> u32 {
     let n = stream[0] as usize;
