@@ -594,7 +594,7 @@ pub fn input(random: &mut Random, call: Call) -> Input {
         }
         Call::Lent => {
             let stream = some_stream(random, 2);
-            let own = own_number(random, stream.first().copied().unwrap_or(0).max(1));
+            let own = own_number(random, stream.first().copied().unwrap_or(0).clamp(1, 16));
             let room = *random.pick(&[2, 64, 1_024, 7_680]);
             Input::Lent { stream, own, out: buffer(random, room) }
         }
