@@ -9,3 +9,4 @@ pub mod Simulation
 pub mod Follow
 pub mod Theorem
 pub mod Settle
+pub mod Delivery

@@ -2,9 +2,11 @@
 
 mod counting; // a count in two words
 mod decimal; // a count in decimal digits
+mod making; // a network made of a stream
 mod pool; // cells moved and written
 
 pub use decimal::digits;
+pub use making::make;
 use unit::Unit;
 
 // A count in two words, the low one first.

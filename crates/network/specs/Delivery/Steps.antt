@@ -1,0 +1,284 @@
+-- A delivery in the order of its code: the checks, the step with the gathered costs, and what is stored; and making likewise.
+--     unitInRange, range-of-paid, check-..     the checks, one at a time; `opened` says what they have passed
+--     step-is, step-keeps                      the step of `unit` with the gathered costs is the definition's, and keeps its limits
+--     storedAnswer, storedPool                 what is stored, in terms of the step's outcome
+--     deliver-refuses, deliver-stores          a delivery after its step
+--     make-checks, first-step, begins          making
+-- Each by the definitions' tests, and by the laws of `costs` and `unit` about gathered costs and steps. Assumes nothing.
+use Prim.Native.Nat.{ℕ, zero, suc, pred, _+_, _*_, _-_, _≤_, _<_}
+use mathlib.Core.Path.{_≡_, refl, sym, ap, _∙_, subst}
+use mathlib.Core.Bool.{Bool, true, false, cond, not, _&&_}
+use mathlib.Core.List.{List, [], _∷_}
+use native.Mathlib.Omega.{arith}
+use native.Mathlib.Nat.{sub-zero}
+use lib.Dec.{ltb, leb, eqb}
+use lib.ListN.{length, getD, set, take, drop, replicate}
+use lib.Seq.{paste}
+use borrow.Author.Tests.{lt-ltb, le-ltb, ltb-false, le-leb, lt-leb, leb-true, leb-false, eq-eqb, ne-eqb, eqb-true, eqb-false}
+use Rattle.table.specs.Stream.{unitsOf, streamRefusal, Accepted}
+use Rattle.table.specs.StreamLaws.{accepted-units}
+use Rattle.costs.specs.Instance.{viewOf, instanceOf, lentView}
+use Rattle.costs.specs.Bounds.{costWith}
+use Rattle.costs.specs.Gather.{sizesIn, gathered, gatherCount, gatherInto}
+use Rattle.costs.specs.Gather.Sizes.{length-sizes, accepted-sizes-first, accepted-sizes-good}
+use Rattle.costs.specs.Gather.Laws.{gathered-view, gathered-good, gathered-most, accepted-gatherable, gather-front}
+use Rattle.message.specs.Message.{Packet, isUnit, every}
+use Rattle.message.specs.Laws.{every-at}
+use Rattle.message.specs.RoundTrip.{AllBytes}
+use Rattle.unit.specs.declared.Unit.{Unit as State}
+use Rattle.unit.specs.declared.Sending.{Sending}
+use Rattle.unit.specs.declared.Outcome.{Outcome}
+use Rattle.unit.specs.State.{noUnit, fresh, inRangePaid, inRange}
+use Rattle.unit.specs.Step as U
+use Rattle.unit.specs.Step.{Out, Written, assign}
+use Rattle.unit.specs.Send.{packets, encodeAll, laid}
+use Rattle.unit.specs.Calls as UC
+use Rattle.unit.specs.Calls.{outcomeOf, bytesOf, stepOut, makeOut}
+use Rattle.unit.specs.Laws.Views.{unit-range}
+use Rattle.unit.specs.Laws.Range.{SizedUnit}
+use Rattle.unit.specs.Laws.Assign.{Whenever, Kept}
+use Rattle.unit.specs.Laws.Calls as UL
+use Rattle.unit.specs.Laws.Calls.{Passed}
+use Rattle.network.specs.declared.Network.{Network}
+use Rattle.network.specs.declared.Answer.{Answer}
+use Rattle.network.specs.Count.{zeroCount, plus}
+use Rattle.network.specs.Pool.{cellOf, closeGap, poolAfter}
+use Rattle.network.specs.Pool.Laws.{sent-front, pool-stored}
+use Rattle.network.specs.Run.{capacity, unitAt}
+use Rattle.network.specs.Calls.{Result, noNetwork, made, makeRefusal, unlessRefused, makeOf, networkInRange, deliverRefusal, receiverOf, stepFrom8, refusedDelivery, stepped, ifFits, onOut, deliverBy}
+use Rattle.network.specs.Follow.Cells.{encode-all-length}
+use Rattle.network.specs.Follow.Holds.{every-of-all}
+use Rattle.network.specs.Delivery.Refusals.{Numbered, Accepts, step-numbered, assign-accepts}
+
+-- ---- the checks
+
+abbrev pub unitInRange : List ℕ → List State → ℕ → Bool
+unitInRange s us k = inRange (sizesIn s) (viewOf (instanceOf s) k) (unitAt us k)
+
+-- by what its own value pays
+pub range-of-paid : (s : List ℕ) (us : List State) (k : ℕ) (u : State) (v paid : ℕ) → u ≡ unitAt us k → v ≡ getD (u .values) k 0
+    → paid ≡ costWith (viewOf (instanceOf s) k) (u .values) k v → inRangePaid (unitsOf s) (sizesIn s) k paid u ≡ unitInRange s us k
+unfolding inRange instanceOf
+range-of-paid s us k u v paid unit own pays = rw (pays, own, unit)
+
+-- what they say together
+pub record Open (net : Network) (s pool : List ℕ) (cell : ℕ) : Type 0 where
+  pub room : 65536 ≤ length pool
+  pub table : Accepted s
+  pub states : (k : ℕ) → k < unitsOf s → unitInRange s (net .core .units) k ≡ true
+  pub few : net .used ≤ 1024
+  pub here : cell < net .used
+
+module _ (net : Network) (s pool : List ℕ) (cell : ℕ) where
+  pub check-room : length pool < 65536 → 13 ≡ deliverRefusal net s pool cell
+  unfolding deliverRefusal
+  check-room l = rw (lt-ltb (length pool) 65536 l)
+
+  module _ (room : 65536 ≤ length pool) where
+    pub check-table : (r : ℕ) → r ≡ streamRefusal s → (r ≡ 0 → ⊥) → r ≡ deliverRefusal net s pool cell
+    unfolding deliverRefusal
+    check-table r e z = rw (le-ltb (length pool) 65536 room, ← e, ne-eqb r 0 z)
+
+    module _ (table : streamRefusal s ≡ 0) where
+      pub check-states : every (unitInRange s (net .core .units)) (unitsOf s) ≡ false → 5 ≡ deliverRefusal net s pool cell
+      unfolding deliverRefusal networkInRange
+      check-states e = rw (le-ltb (length pool) 65536 room, eq-eqb (streamRefusal s) 0 table, e)
+
+      module _ (states : every (unitInRange s (net .core .units)) (unitsOf s) ≡ true) where
+        pub check-count : 1024 < net .used → 5 ≡ deliverRefusal net s pool cell
+        unfolding deliverRefusal networkInRange
+        check-count l = rw (le-ltb (length pool) 65536 room, eq-eqb (streamRefusal s) 0 table, states, lt-leb (net .used) 1024 l)
+
+        module _ (few : net .used ≤ 1024) where
+          pub check-stopped : unitAt (net .core .units) 0 .stopped ≡ true → 12 ≡ deliverRefusal net s pool cell
+          unfolding deliverRefusal networkInRange
+          check-stopped e = rw (le-ltb (length pool) 65536 room, eq-eqb (streamRefusal s) 0 table, states, le-leb (net .used) 1024 few, e)
+
+          pub check-cell : unitAt (net .core .units) 0 .stopped ≡ false → net .used ≤ cell → 15 ≡ deliverRefusal net s pool cell
+          unfolding deliverRefusal networkInRange
+          check-cell e l = rw (le-ltb (length pool) 65536 room, eq-eqb (streamRefusal s) 0 table, states, le-leb (net .used) 1024 few, e, le-leb (net .used) cell l)
+
+          pub check-none : unitAt (net .core .units) 0 .stopped ≡ false → cell < net .used → 0 ≡ deliverRefusal net s pool cell
+          unfolding deliverRefusal networkInRange
+          check-none e l = rw (le-ltb (length pool) 65536 room, eq-eqb (streamRefusal s) 0 table, states, le-leb (net .used) 1024 few, e, lt-leb (net .used) cell l)
+
+  pub opened : deliverRefusal net s pool cell ≡ 0 → Open net s pool cell
+  unfolding deliverRefusal networkInRange Accepted
+  opened z =
+      go (ltb (length pool) 65536) refl (eqb (streamRefusal s) 0) refl (every (unitInRange s (net .core .units)) (unitsOf s)) refl (leb (net .used) 1024) refl (unitAt (net .core .units) 0 .stopped)
+      (leb (net .used) cell) refl z
+    where
+      never : {A : Type 0} → _≡_ {A = ℕ} 1 0 → A
+      never e = absurd (omega arith)
+
+      go : (a : Bool) → ltb (length pool) 65536 ≡ a → (b : Bool) → eqb (streamRefusal s) 0 ≡ b → (c : Bool) → every (unitInRange s (net .core .units)) (unitsOf s) ≡ c
+          → (d : Bool) → leb (net .used) 1024 ≡ d → (e : Bool) → (f : Bool) → leb (net .used) cell ≡ f
+          → cond a 13 (cond (not b) (streamRefusal s) (cond (not (c && d)) 5 (cond e 12 (cond f 15 0)))) ≡ 0 → Open net s pool cell
+      go true a b p c q d r e f t z = absurd (omega arith)
+      go false a false p c q d r e f t z = absurd (eqb-false (streamRefusal s) 0 p z)
+      go false a true p false q d r e f t z = absurd (omega arith)
+      go false a true p true q false r e f t z = absurd (omega arith)
+      go false a true p true q true r true f t z = absurd (omega arith)
+      go false a true p true q true r false true t z = absurd (omega arith)
+      go false a true p true q true r false false t z = record {
+        room = ltb-false (length pool) 65536 a;
+        table = eqb-true (streamRefusal s) 0 p;
+        states = every-at (unitInRange s (net .core .units)) (unitsOf s) q;
+        few = leb-true (net .used) 1024 r;
+        here = leb-false (net .used) cell t;
+      }
+
+-- the unit that steps is one of the n
+pub receiver-range : (n : ℕ) (bytes : List ℕ) → 1 ≤ n → (1 ≤ receiverOf n bytes) × (receiverOf n bytes ≤ n)
+receiver-range n bytes l = go (isUnit n (getD bytes 2 0)) refl
+  where
+    go : (t : Bool) → isUnit n (getD bytes 2 0) ≡ t → (1 ≤ cond t (getD bytes 2 0) 1) × (cond t (getD bytes 2 0) 1 ≤ n)
+    go true e = unit-range n (getD bytes 2 0) e
+    go false e = (omega arith, l)
+
+-- ---- the gathered costs, in front of a buffer of 7,680 bytes or more
+
+module _ (s : List ℕ) (ok : Accepted s) (own : ℕ) (first : 1 ≤ own) (last : own ≤ unitsOf s) where
+  pub lent-count : (room count : ℕ) → 7680 ≤ room → count ≡ gatherCount s own room → count ≤ 7680
+  lent-count room count h e = rw (e, accepted-gatherable s ok own first last room h) (gathered-most s ok own first last)
+
+  pub lent-front : (l out : List ℕ) (count : ℕ) → 7680 ≤ length l → count ≡ gatherCount s own (length l) → out ≡ gatherInto s own l → take (count - 0) (drop 0 out) ≡ gathered s own
+  lent-front l out count h e f = rw (sub-zero, e, f) (gather-front s ok own first last l h)
+
+-- ---- the step
+
+module _ (s : List ℕ) (ok : Accepted s) (us : List State) (own : ℕ) (first : 1 ≤ own) (last : own ≤ unitsOf s) (state : unitInRange s us (pred own) ≡ true) (bytes : List ℕ) (room : ℕ) (fits : 1024 ≤ room) where
+  passes : Passed (unitAt us (pred own)) own (unitsOf s) (sizesIn s) (gathered s own) room
+  passes = record {
+    shape = accepted-sizes-good s ok;
+    unit = rw (le-leb 1 own first, le-leb own (unitsOf s) last);
+    lent = gathered-good s ok own first last (sizesIn s) (accepted-sizes-first s ok);
+    state = rw (gathered-view s ok own first last (sizesIn s) (accepted-sizes-first s ok)) state;
+    fits = fits;
+  }
+
+  pub step-is : stepOut (unitAt us (pred own)) own (unitsOf s) (sizesIn s) (gathered s own) bytes room ≡ stepFrom8 s us own bytes
+  unfolding stepOut stepFrom8
+  step-is =
+      rw (UL.not-refused own (unitsOf s) (sizesIn s) (gathered s own) room (unitAt us (pred own)) passes, gathered-view s ok own first last (sizesIn s) (accepted-sizes-first s ok))
+
+  pub step-keeps : SizedUnit (unitAt us (pred own)) → AllBytes bytes → Whenever (Kept (unitsOf s) (sizesIn s) (viewOf (instanceOf s) (pred own)) 16) (stepFrom8 s us own bytes)
+  step-keeps arrays all =
+      let most : unitsOf s ≤ length (sizesIn s) = omega (arith, length-sizes s, accepted-units s ok .1) in
+      subst (λ (o : Out). Whenever (Kept (unitsOf s) (sizesIn s) (viewOf (instanceOf s) (pred own)) 16) o) step-is
+      (rw (gathered-view s ok own first last (sizesIn s) (accepted-sizes-first s ok)) at
+      (UL.step-kept own (unitsOf s) (sizesIn s) (gathered s own) room most (unitAt us (pred own)) arrays bytes all))
+
+-- ---- what is stored
+
+-- the answer and the pool's bytes, by the outcome r of the step and the bytes it sent
+abbrev pub storedAnswer : Network → ℕ → Outcome → Answer
+storedAnswer net own r =
+    cond (leb (net .used - 1 + r .sent) 1024) (record { refusal = 0; network = stepped net own (r .unit) (r .sent) (r .records) }) (record { refusal = 14; network = net })
+
+abbrev pub storedPool : Network → ℕ → Outcome → List ℕ → List ℕ → List ℕ
+storedPool net cell r out pool =
+    cond (leb (net .used - 1 + r .sent) 1024) (paste (closeGap pool (64 * cell) (64 * net .used)) (64 * (net .used - 1)) out (64 * r .sent)) pool
+
+module _ (net : Network) (s pool : List ℕ) (cell own : ℕ) (was : State) (o : Out) (r : Outcome) (told : r ≡ outcomeOf (unitsOf s) (pred own) was o) where
+  -- a step never sends more than 16 packets
+  pub few-sent : Whenever (Kept (unitsOf s) (sizesIn s) (viewOf (instanceOf s) (pred own)) 16) o → r .sent ≤ 16
+  few-sent k = go o told k
+    where
+      go : (o : Out) → r ≡ outcomeOf (unitsOf s) (pred own) was o → Whenever (Kept (unitsOf s) (sizesIn s) (viewOf (instanceOf s) (pred own)) 16) o → r .sent ≤ 16
+      go (U.refused x) e k = rw e (omega arith)
+      go (U.accepted u m ws) e k = rw e (k .few)
+
+  pub deliver-refuses : (r .refusal ≡ 0 → ⊥)
+      → (record { refusal = r .refusal; network = net } ≡ onOut net pool cell (unitsOf s) own o .answer) × (pool ≡ onOut net pool cell (unitsOf s) own o .pool)
+  deliver-refuses z = go o told
+    where
+      go : (o : Out) → r ≡ outcomeOf (unitsOf s) (pred own) was o
+          → (record { refusal = r .refusal; network = net } ≡ onOut net pool cell (unitsOf s) own o .answer) × (pool ≡ onOut net pool cell (unitsOf s) own o .pool)
+      go (U.refused x) e = (rw e, refl)
+      go (U.accepted u m ws) e = absurd (z (rw e))
+
+  pub deliver-stores : r .refusal ≡ 0 → Numbered o → Whenever (Kept (unitsOf s) (sizesIn s) (viewOf (instanceOf s) (pred own)) 16) o → cell < net .used → 64 * net .used ≤ length pool
+      → (out was-out : List ℕ) → out ≡ bytesOf (unitsOf s) (pred own) was-out o
+      → (storedAnswer net own r ≡ onOut net pool cell (unitsOf s) own o .answer) × (storedPool net cell r out pool ≡ onOut net pool cell (unitsOf s) own o .pool)
+  deliver-stores z number k inside fits out was-out sent = go o told number k sent
+    where
+      go : (o : Out) → r ≡ outcomeOf (unitsOf s) (pred own) was o → Numbered o → Whenever (Kept (unitsOf s) (sizesIn s) (viewOf (instanceOf s) (pred own)) 16) o → out ≡ bytesOf (unitsOf s) (pred own) was-out o
+          → (storedAnswer net own r ≡ onOut net pool cell (unitsOf s) own o .answer) × (storedPool net cell r out pool ≡ onOut net pool cell (unitsOf s) own o .pool)
+      go (U.refused x) e number k sent = let q : x ≡ 0 = sym (ap (λ (y : Outcome). y .refusal) e) ∙ z in absurd (omega arith)
+      go (U.accepted u m ws) e number k sent = rw e (by-room (leb (net .used - 1 + length (packets (unitsOf s) (pred own) m)) 1024))
+        where
+          ps : List Packet
+          ps = packets (unitsOf s) (pred own) m
+
+          bytes : take (64 * length (packets (unitsOf s) (pred own) m)) out ≡ encodeAll (packets (unitsOf s) (pred own) m)
+          bytes =
+              ap (take (64 * length (packets (unitsOf s) (pred own) m))) sent
+              ∙ sent-front (packets (unitsOf s) (pred own) m) was-out (encode-all-length (packets (unitsOf s) (pred own) m) (λ p i. every-of-all _ (packets (unitsOf s) (pred own) m) (k .sent) p i .arrays))
+
+          next : Result
+          next = record {
+            answer = record { refusal = 0; network = stepped net own u (length (packets (unitsOf s) (pred own) m)) (length ws) };
+            pool = poolAfter (net .used) cell (packets (unitsOf s) (pred own) m) pool;
+          }
+
+          by-room : (t : Bool)
+              → (cond t (record { refusal = 0; network = stepped net own u (length (packets (unitsOf s) (pred own) m)) (length ws) }) (record { refusal = 14; network = net }) ≡ ifFits t net pool next .answer)
+              × (cond t (paste (closeGap pool (64 * cell) (64 * net .used)) (64 * (net .used - 1)) out (64 * length (packets (unitsOf s) (pred own) m))) pool ≡ ifFits t net pool next .pool)
+          by-room true = (refl, pool-stored pool (net .used) cell inside fits (packets (unitsOf s) (pred own) m) out bytes)
+          by-room false = (refl, refl)
+
+-- ---- making
+
+module _ (s pool : List ℕ) where
+  pub make-table : (r : ℕ) → r ≡ streamRefusal s → (r ≡ 0 → ⊥) → r ≡ makeRefusal s pool
+  unfolding makeRefusal
+  make-table r e z = rw (← e, ne-eqb r 0 z)
+
+  pub make-room : streamRefusal s ≡ 0 → length pool < 65536 → 13 ≡ makeRefusal s pool
+  unfolding makeRefusal
+  make-room e l = rw (eq-eqb (streamRefusal s) 0 e, lt-ltb (length pool) 65536 l)
+
+  pub make-none : streamRefusal s ≡ 0 → 65536 ≤ length pool → 0 ≡ makeRefusal s pool
+  unfolding makeRefusal
+  make-none e l = rw (eq-eqb (streamRefusal s) 0 e, le-ltb (length pool) 65536 l)
+
+  pub makeable : makeRefusal s pool ≡ 0 → Accepted s × (65536 ≤ length pool)
+  unfolding makeRefusal Accepted
+  makeable z = go (eqb (streamRefusal s) 0) refl (ltb (length pool) 65536) refl z
+    where
+      go : (a : Bool) → eqb (streamRefusal s) 0 ≡ a → (b : Bool) → ltb (length pool) 65536 ≡ b → cond (not a) (streamRefusal s) (cond b 13 0) ≡ 0 → (streamRefusal s ≡ 0) × (65536 ≤ length pool)
+      go false p b q z = absurd (eqb-false (streamRefusal s) 0 p z)
+      go true p true q z = absurd (omega arith)
+      go true p false q z = (eqb-true (streamRefusal s) 0 p, ltb-false (length pool) 65536 q)
+
+  pub make-refuses : (r : ℕ) → r ≡ makeRefusal s pool → (r ≡ 0 → ⊥) → (record { refusal = r; network = noNetwork } ≡ makeOf s pool .answer) × (pool ≡ makeOf s pool .pool)
+  unfolding makeOf
+  make-refuses zero e z = absurd (z refl)
+  make-refuses (suc r) e z = rw (← e) (refl, refl)
+
+  -- unit 1 assigns
+  pub first-step : Accepted s → (room : ℕ) → 1024 ≤ room → makeOut 1 (unitsOf s) (sizesIn s) (gathered s 1) room ≡ assign (viewOf (instanceOf s) 0) fresh
+  unfolding makeOut UC.makeRefusal
+  first-step ok room fits =
+      let last : 1 ≤ unitsOf s = accepted-units s ok .0 in
+      let lent = gathered-good s ok 1 (omega arith) last (sizesIn s) (accepted-sizes-first s ok) in
+      rw (accepted-sizes-good s ok, le-leb 1 (unitsOf s) last, eq-eqb _ 0 lent, le-ltb room 1024 fits, gathered-view s ok 1 (omega arith) last (sizesIn s) (accepted-sizes-first s ok))
+
+-- the network as making leaves it, by the outcome of unit 1's making
+abbrev pub begunAnswer : Outcome → Answer
+begunAnswer r = record {
+  refusal = 0;
+  network = record { core = record { units = set (replicate 16 fresh) 0 (r .unit); records = plus (r .records) zeroCount; deliveries = zeroCount }; used = r .sent };
+}
+
+module _ (s pool : List ℕ) (r : Outcome) (out : List ℕ) (told : r ≡ outcomeOf (unitsOf s) 0 noUnit (assign (viewOf (instanceOf s) 0) fresh))
+    (sent : out ≡ bytesOf (unitsOf s) 0 pool (assign (viewOf (instanceOf s) 0) fresh)) where
+  pub make-begins : makeRefusal s pool ≡ 0 → (begunAnswer r ≡ makeOf s pool .answer) × (out ≡ makeOf s pool .pool)
+  unfolding makeOf
+  make-begins z = rw z (go (assign (viewOf (instanceOf s) 0) fresh) (assign-accepts (viewOf (instanceOf s) 0) fresh) told sent)
+    where
+      go : (o : Out) → Accepts o → r ≡ outcomeOf (unitsOf s) 0 noUnit o → out ≡ bytesOf (unitsOf s) 0 pool o
+          → (begunAnswer r ≡ made (unitsOf s) pool o .answer) × (out ≡ made (unitsOf s) pool o .pool)
+      go (U.refused x) a e f = absurd a
+      go (U.accepted u m ws) a e f = (rw e, f)
