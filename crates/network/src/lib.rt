@@ -2,10 +2,12 @@
 
 mod counting; // a count in two words
 mod decimal; // a count in decimal digits
+mod delivery; // the message at a cell delivered
 mod making; // a network made of a stream
 mod pool; // cells moved and written
 
 pub use decimal::digits;
+pub use delivery::deliver;
 pub use making::make;
 use unit::Unit;
 

@@ -1,7 +1,7 @@
 -- A refusal has a number: reading and responding never give 0 for one, so a 0 means that the message was accepted. And assigning refuses nothing.
 -- By going through the tests of each definition. Assumes nothing.
 use Prim.Native.Nat.{ℕ, zero, suc, pred, _+_, _≤_}
-use mathlib.Core.Bool.{Bool, true, false, cond, not, _&&_, _||_}
+use mathlib.Core.Bool.{Bool, true, false, cond, not, _&&_}
 use mathlib.Core.List.{List}
 use native.Mathlib.Omega.{arith}
 use lib.Dec.{ltb, leb, eqb}
@@ -17,7 +17,6 @@ use Rattle.message.specs.declared.Read.{Read}
 use Rattle.message.specs.declared.Read.the-variants.{Good, Refused}
 use Rattle.message.specs.Message.{addressGood, wellFormed}
 use Rattle.message.specs.Decode.{messageIn, kindOf, checkGood, restZero, forUnit, parseKind, parseFor}
-use Rattle.message.specs.Decode as D
 use Rattle.unit.specs.declared.Unit.{Unit as State}
 use Rattle.unit.specs.declared.Order.{Order}
 use Rattle.unit.specs.declared.Order.the-variants.{Smaller, Equal, Bigger}

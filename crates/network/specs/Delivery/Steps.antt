@@ -2,13 +2,13 @@
 --     unitInRange, range-of-paid, check-..     the checks, one at a time; `opened` says what they have passed
 --     step-is, step-keeps                      the step of `unit` with the gathered costs is the definition's, and keeps its limits
 --     storedAnswer, storedPool                 what is stored, in terms of the step's outcome
---     deliver-refuses, deliver-stores          a delivery after its step
+--     deliver-refuses, deliver-stores          a delivery after its step; hand-refuses, hand-stores: by what its code has in hand
 --     make-checks, first-step, begins          making
 -- Each by the definitions' tests, and by the laws of `costs` and `unit` about gathered costs and steps. Assumes nothing.
 use Prim.Native.Nat.{ℕ, zero, suc, pred, _+_, _*_, _-_, _≤_, _<_}
 use mathlib.Core.Path.{_≡_, refl, sym, ap, _∙_, subst}
 use mathlib.Core.Bool.{Bool, true, false, cond, not, _&&_}
-use mathlib.Core.List.{List, [], _∷_}
+use mathlib.Core.List.{List}
 use native.Mathlib.Omega.{arith}
 use native.Mathlib.Nat.{sub-zero}
 use lib.Dec.{ltb, leb, eqb}
@@ -17,7 +17,7 @@ use lib.Seq.{paste}
 use borrow.Author.Tests.{lt-ltb, le-ltb, ltb-false, le-leb, lt-leb, leb-true, leb-false, eq-eqb, ne-eqb, eqb-true, eqb-false}
 use Rattle.table.specs.Stream.{unitsOf, streamRefusal, Accepted}
 use Rattle.table.specs.StreamLaws.{accepted-units}
-use Rattle.costs.specs.Instance.{viewOf, instanceOf, lentView}
+use Rattle.costs.specs.Instance.{viewOf, instanceOf}
 use Rattle.costs.specs.Bounds.{costWith}
 use Rattle.costs.specs.Gather.{sizesIn, gathered, gatherCount, gatherInto}
 use Rattle.costs.specs.Gather.Sizes.{length-sizes, accepted-sizes-first, accepted-sizes-good}
@@ -26,12 +26,11 @@ use Rattle.message.specs.Message.{Packet, isUnit, every}
 use Rattle.message.specs.Laws.{every-at}
 use Rattle.message.specs.RoundTrip.{AllBytes}
 use Rattle.unit.specs.declared.Unit.{Unit as State}
-use Rattle.unit.specs.declared.Sending.{Sending}
 use Rattle.unit.specs.declared.Outcome.{Outcome}
 use Rattle.unit.specs.State.{noUnit, fresh, inRangePaid, inRange}
 use Rattle.unit.specs.Step as U
-use Rattle.unit.specs.Step.{Out, Written, assign}
-use Rattle.unit.specs.Send.{packets, encodeAll, laid}
+use Rattle.unit.specs.Step.{Out, assign}
+use Rattle.unit.specs.Send.{packets, encodeAll}
 use Rattle.unit.specs.Calls as UC
 use Rattle.unit.specs.Calls.{outcomeOf, bytesOf, stepOut, makeOut}
 use Rattle.unit.specs.Laws.Views.{unit-range}
@@ -44,8 +43,8 @@ use Rattle.network.specs.declared.Answer.{Answer}
 use Rattle.network.specs.Count.{zeroCount, plus}
 use Rattle.network.specs.Pool.{cellOf, closeGap, poolAfter}
 use Rattle.network.specs.Pool.Laws.{sent-front, pool-stored}
-use Rattle.network.specs.Run.{capacity, unitAt}
-use Rattle.network.specs.Calls.{Result, noNetwork, made, makeRefusal, unlessRefused, makeOf, networkInRange, deliverRefusal, receiverOf, stepFrom8, refusedDelivery, stepped, ifFits, onOut, deliverBy}
+use Rattle.network.specs.Run.{unitAt}
+use Rattle.network.specs.Calls.{Result, noNetwork, made, makeRefusal, makeOf, networkInRange, deliverRefusal, receiverOf, stepFrom8, stepped, ifFits, onOut, deliverBy, deliverOf}
 use Rattle.network.specs.Follow.Cells.{encode-all-length}
 use Rattle.network.specs.Follow.Holds.{every-of-all}
 use Rattle.network.specs.Delivery.Refusals.{Numbered, Accepts, step-numbered, assign-accepts}
@@ -128,6 +127,20 @@ module _ (net : Network) (s pool : List ℕ) (cell : ℕ) where
         here = leb-false (net .used) cell t;
       }
 
+  -- a refusal ends a delivery, and without one it goes on
+  pub deliver-stops : (r : ℕ) → r ≡ deliverRefusal net s pool cell → (r ≡ 0 → ⊥) → (record { refusal = r; network = net } ≡ deliverOf net s pool cell .answer) × (pool ≡ deliverOf net s pool cell .pool)
+  unfolding deliverOf
+  deliver-stops zero e z = absurd (z refl)
+  deliver-stops (suc r) e z = rw (← e) (refl, refl)
+
+  pub deliver-goes : deliverRefusal net s pool cell ≡ 0 → deliverBy 0 net s pool cell ≡ deliverOf net s pool cell
+  unfolding deliverOf
+  deliver-goes e = rw e
+
+pub pred-sub : (k : ℕ) → pred k ≡ k - 1
+pred-sub zero = refl
+pred-sub (suc k) = omega arith
+
 -- the unit that steps is one of the n
 pub receiver-range : (n : ℕ) (bytes : List ℕ) → 1 ≤ n → (1 ≤ receiverOf n bytes) × (receiverOf n bytes ≤ n)
 receiver-range n bytes l = go (isUnit n (getD bytes 2 0)) refl
@@ -146,6 +159,18 @@ module _ (s : List ℕ) (ok : Accepted s) (own : ℕ) (first : 1 ≤ own) (last 
   lent-front l out count h e f = rw (sub-zero, e, f) (gather-front s ok own first last l h)
 
 -- ---- the step
+
+-- a unit that can step: one of the n, in range
+pub record Stepping (s : List ℕ) (own : ℕ) (u : State) : Type 0 where
+  pub table : Accepted s
+  pub first : 1 ≤ own
+  pub last : own ≤ unitsOf s
+  pub state : inRange (sizesIn s) (viewOf (instanceOf s) (pred own)) u ≡ true
+
+-- what a step gives and leaves in its buffer
+pub record Stepped (s : List ℕ) (own : ℕ) (u : State) (bytes before : List ℕ) (r : Outcome) (after : List ℕ) : Type 0 where
+  pub outcome : (us : List State) → unitAt us (pred own) ≡ u → r ≡ outcomeOf (unitsOf s) (pred own) u (stepFrom8 s us own bytes)
+  pub buffer : (us : List State) → unitAt us (pred own) ≡ u → after ≡ bytesOf (unitsOf s) (pred own) before (stepFrom8 s us own bytes)
 
 module _ (s : List ℕ) (ok : Accepted s) (us : List State) (own : ℕ) (first : 1 ≤ own) (last : own ≤ unitsOf s) (state : unitInRange s us (pred own) ≡ true) (bytes : List ℕ) (room : ℕ) (fits : 1024 ≤ room) where
   passes : Passed (unitAt us (pred own)) own (unitsOf s) (sizesIn s) (gathered s own) room
@@ -169,7 +194,31 @@ module _ (s : List ℕ) (ok : Accepted s) (us : List State) (own : ℕ) (first :
       (rw (gathered-view s ok own first last (sizesIn s) (accepted-sizes-first s ok)) at
       (UL.step-kept own (unitsOf s) (sizesIn s) (gathered s own) room most (unitAt us (pred own)) arrays bytes all))
 
+-- the step of `unit`, lent what the stream says
+pub step-told : (s : List ℕ) (own : ℕ) (u : State) → Stepping s own u → (n : ℕ) (sizes costs bytes before after : List ℕ) (r : Outcome) → n ≡ unitsOf s → sizes ≡ sizesIn s → costs ≡ gathered s own
+    → 1024 ≤ length before → r ≡ outcomeOf n (pred own) u (stepOut u own n sizes costs bytes (length before)) → after ≡ bytesOf n (pred own) before (stepOut u own n sizes costs bytes (length before))
+    → Stepped s own u bytes before r after
+step-told s own u g n sizes costs bytes before after r units array lent fits e f = record {
+  outcome = λ us at. e ∙ rw (units, array, lent) (ap (λ (o : Out). outcomeOf (unitsOf s) (pred own) u o) (same us at));
+  buffer = λ us at. f ∙ rw (units, array, lent) (ap (λ (o : Out). bytesOf (unitsOf s) (pred own) before o) (same us at));
+}
+  where
+    same : (us : List State) → unitAt us (pred own) ≡ u → stepOut u own (unitsOf s) (sizesIn s) (gathered s own) bytes (length before) ≡ stepFrom8 s us own bytes
+    same us at =
+        ap (λ (x : State). stepOut x own (unitsOf s) (sizesIn s) (gathered s own) bytes (length before)) (sym at)
+        ∙ step-is s (g .table) us own (g .first) (g .last) (rw at (g .state)) bytes (length before) fits
+
 -- ---- what is stored
+
+-- what storing asks: the message is there, and what was sent stands in front of the buffer
+pub record Storing (net : Network) (cell own : ℕ) (r : Outcome) (pool out : List ℕ) : Type 0 where
+  pub here : cell < net .used
+  pub few : net .used ≤ 1024
+  pub room : 65536 ≤ length pool
+  pub first : 1 ≤ own
+  pub last : own ≤ 16
+  pub sent : r .sent ≤ 16
+  pub buffer : 1024 ≤ length out
 
 -- the answer and the pool's bytes, by the outcome r of the step and the bytes it sent
 abbrev pub storedAnswer : Network → ℕ → Outcome → Answer
@@ -227,6 +276,57 @@ module _ (net : Network) (s pool : List ℕ) (cell own : ℕ) (was : State) (o :
               × (cond t (paste (closeGap pool (64 * cell) (64 * net .used)) (64 * (net .used - 1)) out (64 * length (packets (unitsOf s) (pred own) m))) pool ≡ ifFits t net pool next .pool)
           by-room true = (refl, pool-stored pool (net .used) cell inside fits (packets (unitsOf s) (pred own) m) out bytes)
           by-room false = (refl, refl)
+
+-- ---- a delivery whose checks have passed: n and own as its code has them, and the cell's m bytes
+
+module _ (net : Network) (s pool : List ℕ) (cell : ℕ) (checks : Open net s pool cell) (n own m : ℕ) (units : n ≡ unitsOf s) (size : m ≡ 64) (named : own ≡ receiverOf n (take m (drop (64 * cell) pool))) where
+  own-is : own ≡ receiverOf (unitsOf s) (cellOf pool cell)
+  own-is = named ∙ rw (units, size)
+
+  pub own-first : 1 ≤ own
+  own-first = rw own-is (receiver-range (unitsOf s) (cellOf pool cell) (accepted-units s (checks .table) .0) .0)
+
+  pub own-last : own ≤ unitsOf s
+  own-last = rw own-is (receiver-range (unitsOf s) (cellOf pool cell) (accepted-units s (checks .table) .0) .1)
+
+  pub own-most : own ≤ 16
+  own-most = omega (arith, own-last, accepted-units s (checks .table) .1)
+
+  module _ (u : State) (at : u ≡ unitAt (net .core .units) (own - 1)) where
+    at-place : unitAt (net .core .units) (pred own) ≡ u
+    at-place = sym (at ∙ ap (λ (k : ℕ). unitAt (net .core .units) k) (sym (pred-sub own)))
+
+    in-range : unitInRange s (net .core .units) (pred own) ≡ true
+    in-range = checks .states (pred own) (omega (arith, own-first, own-last, pred-sub own))
+
+    pub stepping : Stepping s own u
+    stepping = record { table = checks .table; first = own-first; last = own-last; state = rw at-place at in-range }
+
+    module _ (before out : List ℕ) (r : Outcome) (told : Stepped s own u (take m (drop (64 * cell) pool)) before r out) (arrays : SizedUnit u) (all : AllBytes (take m (drop (64 * cell) pool))) where
+      abbrev o : Out
+      o = stepFrom8 s (net .core .units) own (cellOf pool cell)
+
+      gives : r ≡ outcomeOf (unitsOf s) (pred own) u (stepFrom8 s (net .core .units) own (cellOf pool cell))
+      gives = rw size at (told .outcome (net .core .units) at-place)
+
+      leaves : out ≡ bytesOf (unitsOf s) (pred own) before (stepFrom8 s (net .core .units) own (cellOf pool cell))
+      leaves = rw size at (told .buffer (net .core .units) at-place)
+
+      keeps : Whenever (Kept (unitsOf s) (sizesIn s) (viewOf (instanceOf s) (pred own)) 16) (stepFrom8 s (net .core .units) own (cellOf pool cell))
+      keeps =
+          step-keeps s (checks .table) (net .core .units) own own-first own-last in-range (cellOf pool cell) 1024 (omega arith) (subst (λ (x : State). SizedUnit x) (sym at-place) arrays)
+          (rw size at all)
+
+      pub hand-sent : r .sent ≤ 16
+      hand-sent = few-sent net s pool cell own u o r gives keeps
+
+      pub hand-refuses : (r .refusal ≡ 0 → ⊥) → (record { refusal = r .refusal; network = net } ≡ deliverBy 0 net s pool cell .answer) × (pool ≡ deliverBy 0 net s pool cell .pool)
+      hand-refuses z = rw (← own-is) (deliver-refuses net s pool cell own u o r gives z)
+
+      pub hand-stores : r .refusal ≡ 0 → (storedAnswer net own r ≡ deliverBy 0 net s pool cell .answer) × (storedPool net cell r out pool ≡ deliverBy 0 net s pool cell .pool)
+      hand-stores z =
+          rw (← own-is)
+          (deliver-stores net s pool cell own u o r gives z (step-numbered s (net .core .units) own (cellOf pool cell)) keeps (checks .here) (omega (arith, checks .room, checks .few)) out before leaves)
 
 -- ---- making
 

@@ -1,51 +1,34 @@
 -- `network::making::first_step` meets its contract: unit 1, made with the costs gathered from the stream, assigns.
 -- Assumes nothing.
 use Prim.Native.Nat.{ℕ, _-_, _≤_}
-use mathlib.Core.Path.{_≡_, ap, _∙_}
-use mathlib.Core.List.{List}
+use mathlib.Core.Path.{_≡_, _∙_}
 use native.Mathlib.Omega.{arith}
 use lib.ListN.{length, take, drop, replicate, length-replicate}
-use Rattle.table.specs.Stream.{unitsOf}
 use Rattle.table.specs.StreamLaws.{accepted-units}
-use Rattle.costs.specs.Gather.{sizesIn, gathered}
-use Rattle.unit.specs.State.{noUnit}
-use Rattle.unit.specs.Calls.{outcomeOf, bytesOf, makeOut}
+use Rattle.costs.specs.Gather.{gathered}
 use Rattle.network.specs.Delivery.Steps.{lent-count, lent-front, first-step}
 use borrow.Author.Needs.{needs}
 use Rattle.network.proofs.making.first_step.Statement.{statement}
 use Rattle.network.proofs.making.first_step.Tie as tie
-use Rattle.network.proofs.making.first_step.Reads as reads
-use Rattle.network.proofs.making.first_step.Lts as lts
-use Rattle.base.proofs.byte_at.Reads as byte-at-reads
-use Rattle.costs.proofs.gather.Reads as gather-reads
-use Rattle.costs.proofs.sizes_of.Reads as sizes-of-reads
-use Rattle.unit.proofs.make.Reads as make-reads
 
--- src/making.rt:53:9
 byte-at-requires : tie.Need-byte-at-requires
 byte-at-requires c κs = search needs
 
--- src/making.rt:54:9
 sizes-of-requires : tie.Need-sizes-of-requires
 sizes-of-requires c κs = search needs
 
--- src/making.rt:56:42
 slice-aggregate-gather : tie.Need-slice-aggregate-gather
 slice-aggregate-gather c = search needs
 
--- src/making.rt:56:9
 gather-requires : tie.Need-gather-requires
 gather-requires c κs = search needs
 
--- src/making.rt:57:29
 sub-make : tie.Need-sub-make
 sub-make c = search needs
 
--- src/making.rt:57:29
 part-make-start : tie.Need-part-make-start
 part-make-start c = search needs
 
--- src/making.rt:57:29
 part-make-end : tie.Need-part-make-end
 part-make-end c =
     let z = c .before .before .before .before .before .before .before .before in
@@ -54,15 +37,12 @@ part-make-end c =
     let h : g .result ≤ 7680 = lent-count s (z .pre .0) 1 (omega arith) (accepted-units s (z .pre .0) .0) 7680 (g .result) (omega arith) (g .ensures .0) in
     search needs
 
--- src/making.rt:57:5
 make-requires : tie.Need-make-requires
 make-requires c κs = search needs
 
--- src/making.rt:49:1
 same-length : tie.Need-same-length
 same-length c = search needs
 
--- src/making.rt:49:1
 returns : tie.Need-returns
 returns c =
     let z = c .before .before .before .before .before .before .before .before .before .before .before .before .before in

@@ -1,26 +1,16 @@
 -- `network::making::make` meets its contract: a refusal with all zero, or unit 1's making stored. Assumes nothing.
-use mathlib.Core.Path.{_≡_, refl, sym, _∙_}
-use Rattle.network.specs.Calls.{makeRefusal}
+use mathlib.Core.Path.{refl, sym, _∙_}
 use Rattle.network.specs.Delivery.Steps.{makeable, make-refuses, make-begins}
 use borrow.Author.Needs.{needs}
 use Rattle.network.proofs.making.make.Statement.{statement}
 use Rattle.network.proofs.making.make.Tie as tie
-use Rattle.network.proofs.making.make.Reads as reads
-use Rattle.network.proofs.making.make.Lts as lts
-use Rattle.network.proofs.making.begun.Reads as begun-reads
-use Rattle.network.proofs.making.first_step.Reads as first-step-reads
-use Rattle.network.proofs.making.make_refusal.Reads as make-refusal-reads
-use Rattle.network.proofs.making.refused.Reads as refused-reads
 
--- src/making.rt:26:9
 make-refusal-requires : tie.Need-make-refusal-requires
 make-refusal-requires c κs = search needs
 
--- src/making.rt:28:9
 refused-requires : tie.Need-refused-requires
 refused-requires c κs = search needs
 
--- src/making.rt:28:9
 returns : tie.Need-returns
 returns c =
     let a = c .before .before .before .before .before .args in
@@ -28,22 +18,18 @@ returns c =
     let e = make-refuses (a .stream .now) (a .pool .now) (r .result) (r .ensures (a .pool .now) refl) (c .before .if1 .taken) in
     (c .refused .ensures ∙ e .0, e .1)
 
--- src/making.rt:30:9
 first-step-requires : tie.Need-first-step-requires
 first-step-requires c κs =
     let a = c .before .before .before .before .before .args in
     let r = c .before .before .make-refusal in
     makeable (a .stream .now) (a .pool .now) (sym (r .ensures (a .pool .now) refl) ∙ c .before .if1 .left)
 
--- src/making.rt:31:5
 begun-requires : tie.Need-begun-requires
 begun-requires c κs = search needs
 
--- src/making.rt:23:1
 same-length : tie.Need-same-length
 same-length c = search needs
 
--- src/making.rt:23:1
 returns-2 : tie.Need-returns-2
 returns-2 c =
     let a = c .before .before .before .before .before .before .before .before .before .args in

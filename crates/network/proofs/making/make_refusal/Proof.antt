@@ -5,23 +5,16 @@ use Rattle.network.specs.Delivery.Steps.{make-table, make-room, make-non
 use borrow.Author.Needs.{needs}
 use Rattle.network.proofs.making.make_refusal.Statement.{statement}
 use Rattle.network.proofs.making.make_refusal.Tie as tie
-use Rattle.network.proofs.making.make_refusal.Reads as reads
-use Rattle.network.proofs.making.make_refusal.Lts as lts
-use Rattle.table.proofs.stream_refusal.Reads as stream-refusal-reads
 
--- src/making.rt:38:9
 stream-refusal-requires : tie.Need-stream-refusal-requires
 stream-refusal-requires c κs = search needs
 
--- src/making.rt:40:9
 returns : tie.Need-returns
 returns c = λ pool e. make-table (c .before .before .before .args .stream .now) pool (c .before .stream-refusal .result) (c .before .stream-refusal .ensures) (c .if1 .taken)
 
--- src/making.rt:43:9
 returns-2 : tie.Need-returns-2
 returns-2 c = λ pool e. make-room (c .before .before .before .before .args .stream .now) pool (sym (c .before .before .stream-refusal .ensures) ∙ c .before .if1 .left) (omega arith)
 
--- src/making.rt:35:1
 returns-3 : tie.Need-returns-3
 returns-3 c = λ pool e. make-none (c .before .before .before .before .args .stream .now) pool (sym (c .before .before .stream-refusal .ensures) ∙ c .before .if1 .left) (omega arith)
 

@@ -1,0 +1,37 @@
+-- `network::delivery::deliver` meets its contract: a refusal, or the message handed over. Assumes nothing.
+use mathlib.Core.Path.{refl, sym, ap, _∙_}
+use Rattle.network.specs.Calls.{Result}
+use Rattle.network.specs.Delivery.Steps.{opened, deliver-stops, deliver-goes}
+use borrow.Author.Needs.{needs}
+use Rattle.network.proofs.delivery.deliver.Statement.{statement}
+use Rattle.network.proofs.delivery.deliver.Tie as tie
+
+deliver-refusal-requires : tie.Need-deliver-refusal-requires
+deliver-refusal-requires c κs = search needs
+
+returns : tie.Need-returns
+returns c =
+    let a = c .before .before .before .before .args in
+    let r = c .before .deliver-refusal in
+    deliver-stops (a .net) (a .stream .now) (a .pool .now) (a .cell) (r .result) (r .ensures (a .pool .now) refl) (c .if1 .taken)
+
+hand-over-requires : tie.Need-hand-over-requires
+hand-over-requires c κs =
+    let a = c .before .before .before .before .before .args in
+    let r = c .before .before .deliver-refusal in
+    opened (a .net) (a .stream .now) (a .pool .now) (a .cell) (sym (r .ensures (a .pool .now) refl) ∙ c .before .if1 .left)
+
+same-length : tie.Need-same-length
+same-length c = search needs
+
+returns-2 : tie.Need-returns-2
+returns-2 c =
+    let a = c .before .before .before .before .before .before .before .before .args in
+    let r = c .before .before .before .before .before .deliver-refusal in
+    let h = c .before .before .hand-over in
+    let e = deliver-goes (a .net) (a .stream .now) (a .pool .now) (a .cell) (sym (r .ensures (a .pool .now) refl) ∙ c .before .before .before .before .if1 .left) in
+    (h .ensures .0 ∙ ap (λ (x : Result). x .answer) e, h .ensures .1 ∙ ap (λ (x : Result). x .pool) e)
+
+pub deliver-spec : {M : Type 1} → statement M
+deliver-spec =
+    tie.close (tie.spec deliver-refusal-requires returns hand-over-requires same-length returns-2)

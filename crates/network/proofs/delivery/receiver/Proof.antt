@@ -1,0 +1,32 @@
+-- `network::delivery::receiver` meets its contract: the byte named, where it is a unit. Assumes nothing.
+use mathlib.Core.Path.{_≡_, sym, _∙_}
+use mathlib.Core.Bool.{true, false}
+use native.Mathlib.Omega.{arith}
+use lib.ListN.{getD}
+use Rattle.message.specs.Message.{isUnit}
+use borrow.Author.Needs.{needs}
+use Rattle.network.proofs.delivery.receiver.Statement.{statement}
+use Rattle.network.proofs.delivery.receiver.Tie as tie
+
+byte-at-requires : tie.Need-byte-at-requires
+byte-at-requires c κs = search needs
+
+is-unit-requires : tie.Need-is-unit-requires
+is-unit-requires c κs = search needs
+
+returns : tie.Need-returns
+returns c =
+    let a = c .before .before .before .before .args in
+    let b = c .before .before .byte-at .ensures in
+    let t : isUnit (a .n) (getD (a .packet .now) 2 0) ≡ true = rw b at (sym (c .before .is-unit .ensures) ∙ c .if1 .taken) in
+    (rw t b, λ j. omega (arith, c .before .before .before .shared-slice-known .given j))
+
+returns-2 : tie.Need-returns-2
+returns-2 c =
+    let a = c .before .before .before .before .args in
+    let b = c .before .before .byte-at .ensures in
+    let t : isUnit (a .n) (getD (a .packet .now) 2 0) ≡ false = rw b at (sym (c .before .is-unit .ensures) ∙ c .if1 .left) in
+    (rw t, λ j. omega (arith, c .before .before .before .shared-slice-known .given j))
+
+pub receiver-spec : {M : Type 1} → statement M
+receiver-spec = tie.close (tie.spec byte-at-requires is-unit-requires returns returns-2)

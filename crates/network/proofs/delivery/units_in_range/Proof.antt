@@ -1,0 +1,98 @@
+-- `network::delivery::units_in_range` meets its contract. Invariant: the first k units are in range. Assumes nothing.
+use Prim.Native.Nat.{ℕ, _-_, _≤_}
+use mathlib.Core.Path.{_≡_, refl, sym, ap, _∙_}
+use mathlib.Core.Bool.{true}
+use native.Mathlib.Omega.{arith}
+use borrow.Author.Needs.{needs}
+use borrow.Author.Tests.{not-true, not-false}
+use Rattle.table.specs.Stream.{unitsOf}
+use Rattle.table.specs.StreamLaws.{accepted-units}
+use Rattle.costs.specs.Gather.{sizesIn}
+use Rattle.message.specs.Message.{every}
+use Rattle.message.specs.Laws.{every-more, every-not}
+use Rattle.network.specs.Run.{unitAt}
+use Rattle.network.specs.Delivery.Steps.{unitInRange, range-of-paid}
+use Rattle.network.proofs.delivery.units_in_range.Statement.{statement}
+use Rattle.network.proofs.delivery.units_in_range.Tie as tie
+
+abbrev Inv-loop : tie.InvT-loop
+Inv-loop stream units n sizes k₀ k = (k ≤ n) × (n ≡ unitsOf stream) × (n ≤ 16) × (sizes ≡ sizesIn stream) × (every (unitInRange stream units) k ≡ true)
+
+abbrev μ-loop : tie.MeasureT-loop
+μ-loop stream units n sizes k₀ k = n - k
+
+byte-at-requires : tie.Need-byte-at-requires Inv-loop μ-loop
+byte-at-requires c κs = search needs
+
+sizes-of-requires : tie.Need-sizes-of-requires Inv-loop μ-loop
+sizes-of-requires c κs = search needs
+
+loop-holds : tie.Need-loop-holds Inv-loop μ-loop
+loop-holds c =
+    let s = c .before .before .before .args .stream .now in
+    let n : c .before .byte-at .result ≡ unitsOf s = c .before .byte-at .ensures in
+    (omega arith, n, omega (arith, accepted-units s (c .before .before .before .pre) .1), c .sizes-of .ensures, refl)
+
+cast-unit : tie.Need-cast-unit Inv-loop μ-loop
+cast-unit c = search needs
+
+mul-unit : tie.Need-mul-unit Inv-loop μ-loop
+mul-unit c = search needs
+
+array-copy-out-unit : tie.Need-array-copy-out-unit Inv-loop μ-loop
+array-copy-out-unit c = search needs
+
+unit-in-range-requires : tie.Need-unit-in-range-requires Inv-loop μ-loop
+unit-in-range-requires c κs = search needs
+
+-- what the unit's own function said
+found : (c : tie.After-unit-in-range Inv-loop μ-loop) → let a = c .before .before .before .before .before .before .before .args in c .unit-in-range .result ≡ unitInRange (a .stream .now) (a .t1) (c .before .before .before .loop .k)
+found c =
+    let a = c .before .before .before .before .before .before .before .args in
+    let l = c .before .before .before .loop in
+    c .unit-in-range .ensures
+    ∙ rw (l .inv .1, l .inv .3) (range-of-paid (a .stream .now) (a .t1) (l .k) (unitAt (a .t1) (l .k)) _ _ refl refl refl)
+
+returns : tie.Need-returns Inv-loop μ-loop
+returns c =
+    let a = c .before .before .before .before .before .before .before .before .args in
+    let l = c .before .before .before .before .loop in
+    sym (every-not (unitInRange (a .stream .now) (a .t1)) (unitsOf (a .stream .now)) (l .k) (omega arith) (sym (found (c .before)) ∙ not-true _ (c .if1 .taken)))
+
+add-k : tie.Need-add-k Inv-loop μ-loop
+add-k c = search needs
+
+loop-less : tie.Need-loop-less Inv-loop μ-loop
+loop-less c = search needs
+
+loop-again : tie.Need-loop-again Inv-loop μ-loop
+loop-again c =
+    let a = c .before .before .before .before .before .before .before .before .args in
+    let l = c .before .before .before .before .loop in
+    (omega arith, l .inv .1, l .inv .2, l .inv .3, every-more (unitInRange (a .stream .now) (a .t1)) (l .k) (l .inv .4) (sym (found (c .before)) ∙ not-false _ (c .if1 .left)))
+
+returns-2 : tie.Need-returns-2 Inv-loop μ-loop
+returns-2 c =
+    let a = c .before .before .before .before .before .args in
+    let l = c .before .loop in
+    let e : l .k ≡ unitsOf (a .stream .now) = omega arith in
+    sym (ap (λ (m : ℕ). every (unitInRange (a .stream .now) (a .t1)) m) (sym e) ∙ l .inv .4)
+
+pub units-in-range-spec : {M : Type 1} → statement M
+units-in-range-spec =
+    tie.close
+    (tie.spec
+    Inv-loop
+    μ-loop
+    byte-at-requires
+    sizes-of-requires
+    loop-holds
+    cast-unit
+    mul-unit
+    array-copy-out-unit
+    unit-in-range-requires
+    returns
+    add-k
+    loop-less
+    loop-again
+    returns-2)

@@ -1,0 +1,179 @@
+// A delivery: the checks, the step of the unit that the message is for, and what it leaves in the network and the pool.
+
+use crate::counting::plus;
+use crate::pool::close;
+use crate::pool::copy_in;
+use crate::Answer;
+use crate::Network;
+use unit::Outcome;
+use unit::Unit;
+ghost use mathlib.Core.Path.{_≡_};
+ghost use mathlib.Core.List.{List};
+ghost use Prim.Native.Nat.{ℕ, pred, _*_, _≤_, _<_};
+ghost use lib.ListN.{length, getD};
+ghost use Rattle.table.specs.Stream.{unitsOf, Accepted};
+ghost use Rattle.message.specs.Message.{every};
+ghost use Rattle.message.specs.RoundTrip.{AllBytes};
+ghost use Rattle.costs.specs.Instance.{viewOf, instanceOf};
+ghost use Rattle.costs.specs.Bounds.{costWith};
+ghost use Rattle.unit.specs.State.{inRangePaid};
+ghost use Rattle.unit.specs.Laws.Range.{SizedUnit};
+ghost use Rattle.network.specs.Calls.{deliverRefusal, receiverOf, stepped, deliverBy, deliverOf};
+ghost use Rattle.network.specs.Delivery.Steps.{unitInRange, Open, Stepping, Stepped, Storing, storedAnswer, storedPool};
+
+// The message at a cell is delivered: the network and pool after it, or a refusal with both as lent. Refusals 13, 5, 6, 7, 5, 12, 15, then
+// the step's from 8 on, then 14.
+pub fn deliver(net: Network, stream: &[u8], pool: &mut [u8], cell: u64) -> Answer
+    ensures { λ r. ⌜ (r ≡ deliverOf net (now (stream .entry)) (now (pool .entry)) cell .answer) × (now (pool .exit) ≡ deliverOf net (now (stream .entry)) (now (pool .entry)) cell .pool) ⌝ }
+{
+    let refusal = deliver_refusal(net, stream, pool.len(), cell);
+    if refusal != 0 {
+        return Answer {
+            refusal,
+            network: net,
+        };
+    }
+    hand_over(net, stream, pool, cell as usize)
+}
+
+// The first refusal of a delivery that applies before its message is read, or 0.
+fn deliver_refusal(net: Network, stream: &[u8], room: usize, cell: u64) -> u8
+    ensures { λ r. ⌜ ((pool : List ℕ) → length pool ≡ room → r ≡ deliverRefusal net (now (stream .entry)) pool cell) ⌝ }
+{
+    if room < 65536 {
+        return 13;
+    }
+    let refusal = table::stream_refusal(stream);
+    if refusal != 0 {
+        return refusal;
+    }
+    let core = net.core;
+    let units = core.units;
+    if !units_in_range(units, stream) {
+        return 5;
+    }
+    if 1024 < net.used {
+        return 5;
+    }
+    let first = units[0];
+    if first.stopped {
+        return 12;
+    }
+    if net.used <= cell {
+        return 15;
+    }
+    0
+}
+
+// Whether the states of units 1 to n are in range.
+fn units_in_range(units: [Unit; 16], stream: &[u8]) -> bool
+    requires { ⌜ Accepted (now stream) ⌝ }
+    ensures { λ r. ⌜ r ≡ every (unitInRange (now (stream .entry)) units) (unitsOf (now (stream .entry))) ⌝ }
+{
+    let n = base::byte_at(stream, 0);
+    let sizes = costs::sizes_of(stream);
+    let mut k: u8 = 0;
+    while k < n {
+        let unit = units[k as usize];
+        if !unit_in_range(k, n, sizes, stream, unit) {
+            return false;
+        }
+        k += 1;
+    }
+    true
+}
+
+// Whether the state of the unit at place k is in range, by what its own value costs in the stream.
+fn unit_in_range(k: u8, n: u8, sizes: [u8; 16], stream: &[u8], u: Unit) -> bool
+    requires { ⌜ k < 16 ⌝ }
+    ensures { λ r. ⌜ r ≡ inRangePaid n sizes k (costWith (viewOf (instanceOf (now (stream .entry))) k) (u .values) k (getD (u .values) k 0)) u ⌝ }
+{
+    let values = u.values;
+    let paid = costs::stream_cost_with(stream, values, k, values[k as usize]);
+    unit::in_range_paid(k, n, sizes, paid, u)
+}
+
+// The message at the cell goes to its receiver, and what that unit sends is added at the end.
+fn hand_over(net: Network, stream: &[u8], pool: &mut [u8], cell: usize) -> Answer
+    requires { ⌜ Open net (now stream) (now pool) cell ⌝ }
+    ensures { λ r. ⌜ (r ≡ deliverBy 0 net (now (stream .entry)) (now (pool .entry)) cell .answer) × (now (pool .exit) ≡ deliverBy 0 net (now (stream .entry)) (now (pool .entry)) cell .pool) ⌝ }
+{
+    let at = 64 * cell;
+    let end = at + 64;
+    let own = receiver(base::byte_at(stream, 0), &pool[at..end]);
+    let core = net.core;
+    let units = core.units;
+    let u = units[(own - 1) as usize];
+    let mut out = [0u8; 1024];
+    let r = step(u, stream, own, &pool[at..end], &mut out);
+    let refusal = r.refusal;
+    if refusal != 0 {
+        return Answer {
+            refusal,
+            network: net,
+        };
+    }
+    store(net, pool, cell, own, r, &out)
+}
+
+// The unit that a packet names as its receiver, or 1.
+fn receiver(n: u8, packet: &[u8]) -> u8
+    ensures { λ r. ⌜ (r ≡ receiverOf n (now (packet .entry))) × AllBytes (now (packet .entry)) ⌝ }
+{
+    let named = base::byte_at(packet, 2);
+    if message::is_unit(n, named) {
+        return named;
+    }
+    1
+}
+
+// The step of unit `own` on a packet, with the costs gathered from the stream.
+fn step(u: Unit, stream: &[u8], own: u8, packet: &[u8], out: &mut [u8]) -> Outcome
+    requires { ⌜ Stepping (now stream) own u × (1024 ≤ length (now out)) ⌝ }
+    ensures { λ r. ⌜ Stepped (now (stream .entry)) own u (now (packet .entry)) (now (out .entry)) r (now (out .exit)) × SizedUnit u ⌝ }
+{
+    let n = base::byte_at(stream, 0);
+    let sizes = costs::sizes_of(stream);
+    let mut costs = [0u8; 7680];
+    let count = costs::gather(stream, own, &mut costs);
+    unit::step(u, own, n, sizes, &costs[0..count], packet, out)
+}
+
+// The gap is closed, what was sent is added at the end, and the unit and the counts are put in place; or 14, and all stays.
+fn store(net: Network, pool: &mut [u8], cell: usize, own: u8, r: Outcome, out: &[u8]) -> Answer
+    requires { ⌜ Storing net cell own r (now pool) (now out) ⌝ }
+    ensures { λ x. ⌜ (x ≡ storedAnswer net own r) × (now (pool .exit) ≡ storedPool net cell r (now (out .entry)) (now (pool .entry))) ⌝ }
+{
+    let used = net.used as usize;
+    let sent = r.sent as usize;
+    if 1024 < used - 1 + sent {
+        return Answer {
+            refusal: 14,
+            network: net,
+        };
+    }
+    close(pool, 64 * cell, 64 * used);
+    copy_in(pool, 64 * (used - 1), out, 64 * sent);
+    Answer {
+        refusal: 0,
+        network: advance(net, own, r),
+    }
+}
+
+// The network once unit `own` has stepped.
+fn advance(net: Network, own: u8, r: Outcome) -> Network
+    requires { ⌜ (1 ≤ own) × (own ≤ 16) × (1 ≤ net .used) × (net .used ≤ 1024) ⌝ }
+    ensures { λ x. ⌜ x ≡ stepped net own (r .unit) (r .sent) (r .records) ⌝ }
+{
+    let mut core = net.core;
+    let u = r.unit;
+    core.units[(own - 1) as usize] = u;
+    let records = core.records;
+    core.records = plus(records, r.records as u64);
+    let deliveries = core.deliveries;
+    core.deliveries = plus(deliveries, 1);
+    Network {
+        core,
+        used: net.used - 1 + r.sent as u64,
+    }
+}
