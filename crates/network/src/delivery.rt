@@ -1,10 +1,10 @@
 // A delivery: the checks, the step of the unit that the message is for, and what it leaves in the network and the pool.
 
+use crate::Answer;
+use crate::Network;
 use crate::counting::plus;
 use crate::pool::close;
 use crate::pool::copy_in;
-use crate::Answer;
-use crate::Network;
 use unit::Outcome;
 use unit::Unit;
 ghost use mathlib.Core.Path.{_≡_};

@@ -18,7 +18,6 @@ mod send; // what is sent, laid into the lent buffer
 mod state; // whether a state is in range, the order of stamps, and the parts of a state set
 
 pub use state::in_range_paid;
-pub use state::known;
 
 // 01: "A unit's state keeps its threshold stamp, its best bound and lotting, its estimates, its paper, its own counter and
 // whether it has stopped." The paper out is the cpa in stamp, values and cost; the own value 0 means that none is out.

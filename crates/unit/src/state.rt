@@ -21,7 +21,6 @@ ghost use Rattle.unit.specs.State.{
   inRangePaid,
   inRange,
 };
-ghost use Rattle.unit.specs.Laws.Range.{SizedUnit};
 ghost use Rattle.unit.specs.Ready.{Own};
 
 // The most that an estimate may be.
@@ -62,13 +61,6 @@ pub fn in_range_paid(place: u8, n: u8, sizes: [u8; 16], paid: u32, u: Unit) -> b
         return cpa_zero(sizes, u);
     }
     cpa_out_in_range(place, sizes, paid, u)
-}
-
-// The same state. What its type says is known of a parameter, and by this of an element of an array of states too.
-pub fn known(u: Unit) -> Unit
-    ensures { λ r. ⌜ (r ≡ u) × SizedUnit u ⌝ }
-{
-    u
 }
 
 // Whether each of the 16 places is at most m.

@@ -55,10 +55,11 @@ returns c =
     let g = c .before .before .before .before .before .before .before .gather in
     let front : take (g .result - 0) (drop 0 (g .last .1 .1 .0)) ≡ gathered (a .stream .now) (a .own) =
     lent-front (a .stream .now) (p .table) (a .own) (p .first) (p .last) (replicate 7680 0) (g .last .1 .1 .0) (g .result) (omega (arith, length-replicate {A = ℕ} 7680 0)) (g .ensures .0) (g .ensures .1) in
-    let r = c .before .before .step in
-    (step-told (a .stream .now) (a .own) (a .u) p (c .before .before .before .before .before .before .before .before .before .before .byte-at .result) (c .before .before .before .before .before .before .before .before .before .sizes-of .result) (take (g .result - 0) (drop 0 (g .last .1 .1 .0))) (a .packet .now) (a .out .now) (r .last .1 .1 .1 .1 .1 .1 .0) (r .result)
-    (c .before .before .before .before .before .before .before .before .before .before .byte-at .ensures) (c .before .before .before .before .before .before .before .before .before .sizes-of .ensures) front (z .pre .1) (r .ensures .0) (r .ensures .1),
-    arrays z)
+    let r = c .before .before .step in (
+      step-told (a .stream .now) (a .own) (a .u) p (c .before .before .before .before .before .before .before .before .before .before .byte-at .result) (c .before .before .before .before .before .before .before .before .before .sizes-of .result) (take (g .result - 0) (drop 0 (g .last .1 .1 .0))) (a .packet .now) (a .out .now) (r .last .1 .1 .1 .1 .1 .1 .0) (r .result)
+          (c .before .before .before .before .before .before .before .before .before .before .byte-at .ensures) (c .before .before .before .before .before .before .before .before .before .sizes-of .ensures) front (z .pre .1) (r .ensures .0) (r .ensures .1),
+      arrays z,
+    )
 
 pub step-spec : {M : Type 1} → statement M
 step-spec =
