@@ -5,10 +5,12 @@ mod decimal; // a count in decimal digits
 mod delivery; // the message at a cell delivered
 mod making; // a network made of a stream
 mod pool; // cells moved and written
+mod settling; // a network run to its end
 
 pub use decimal::digits;
 pub use delivery::deliver;
 pub use making::make;
+pub use settling::settle;
 use unit::Unit;
 
 // A count in two words, the low one first.

@@ -4,7 +4,7 @@ use Prim.Native.Nat.{ℕ, zero, suc, _≤_, _-_}
 use mathlib.Core.Path.{_≡_, refl, sym, ap, _∙_}
 use mathlib.Core.List.{List}
 use native.Mathlib.Omega.{arith}
-use lib.ListN.{length, take, drop}
+use lib.ListN.{length, take, drop, replicate}
 use lib.Seq.{take-at}
 use borrow.Author.Tests.{eq-eqb}
 use Rattle.table.specs.declared.ReadTable.{ReadTable}
@@ -13,10 +13,16 @@ use Rattle.table.specs.FileLaws.{read-most}
 use Rattle.search.specs.declared.Found.{Found}
 use Rattle.search.specs.Search.{searchRefusal, searchOf}
 use Rattle.search.specs.Laws.{search-refusal}
+use Rattle.network.specs.declared.Answer.{Answer}
+use Rattle.network.specs.Settle.{settleOf}
 
 -- done is the number that a stream gives
 unfoldable pub fileRefusal : (List ℕ → ℕ) → List ℕ → ℕ
 fileRefusal done f = orElse (readRefusal f 61457) (done (streamOf f))
+
+-- the number of a run to its end, in a pool of zeros
+unfoldable pub settleRefusal : List ℕ → ℕ
+settleRefusal s = settleOf s (replicate 65536 0) .answer .refusal
 
 -- ------------------------------------------------------------------------------------------------------------------
 -- Laws.
@@ -59,3 +65,8 @@ module _ (f out : List ℕ) (r : ReadTable) (e : r ≡ readOf f (length out)) (r
 -- the search's own number
 pub found-refusal : (s : List ℕ) (r : Found) → r ≡ searchOf s → r .refusal ≡ searchRefusal s
 found-refusal s r e = ap (λ (x : Found). x .refusal) e ∙ search-refusal s
+
+-- the run's own number
+pub settled-refusal : (s : List ℕ) (a : Answer) → a ≡ settleOf s (replicate 65536 0) .answer → a .refusal ≡ settleRefusal s
+unfolding settleRefusal
+settled-refusal s a e = ap (λ (x : Answer). x .refusal) e

@@ -1,8 +1,11 @@
 // What the bench and the shed print of a stored table.
 use libc::STDOUT_FILENO;
+use network::Count;
+use network::Network;
 ghost use mathlib.Core.Path.{_≡_};
 ghost use Rattle.search.specs.Search.{searchRefusal};
-ghost use Rattle.report.specs.Report.{fileRefusal};
+ghost use Rattle.network.specs.Run.{unitAt};
+ghost use Rattle.report.specs.Report.{fileRefusal, settleRefusal};
 
 // Prints the least total of a file's table, then each unit's value in the first assignment that has it, or `refused` and the number,
 // which it gives too.
@@ -36,6 +39,68 @@ fn print_found(stream: &[u8]) -> u8
     let values = found.values;
     list(values);
     refusal
+}
+
+// Runs the network of a file's table, cell 0 delivered each time, and prints what unit 1 reports, then records and accepted
+// deliveries, or `refused` and the number, which it gives too.
+pub fn print_settled(file: &[u8]) -> u8
+    ensures { λ r. ⌜ r ≡ fileRefusal settleRefusal (now (file .entry)) ⌝ }
+{
+    let mut stream = [0u8; 61457];
+    let r = table::read(file, &mut stream);
+    let refusal = r.refusal;
+    if refusal != 0 {
+        refuse(refusal);
+        return refusal;
+    }
+    let length = r.length;
+    print_run(&stream[0..length])
+}
+
+// The same of a stream.
+fn print_run(stream: &[u8]) -> u8
+    ensures { λ r. ⌜ r ≡ settleRefusal (now (stream .entry)) ⌝ }
+{
+    let mut pool = [0u8; 65536];
+    let answer = network::settle(stream, &mut pool);
+    let refusal = answer.refusal;
+    if refusal != 0 {
+        refuse(refusal);
+        return refusal;
+    }
+    let net = answer.network;
+    print_network(net);
+    refusal
+}
+
+// Prints what unit 1 reports, then records and accepted deliveries; gives the total.
+pub fn print_network(net: Network) -> u32
+    ensures { λ r. ⌜ r ≡ unitAt (net .core .units) 0 .bound ⌝ }
+{
+    let core = net.core;
+    let first = core.units[0];
+    let total = first.bound;
+    io::write_all(STDOUT_FILENO, b"total ");
+    io::print_decimal(STDOUT_FILENO, total as u64);
+    io::write_all(STDOUT_FILENO, b"\n");
+    let best = first.best;
+    list(best);
+    io::write_all(STDOUT_FILENO, b"records ");
+    let records = core.records;
+    print_count(records);
+    io::write_all(STDOUT_FILENO, b" deliveries ");
+    let deliveries = core.deliveries;
+    print_count(deliveries);
+    io::write_all(STDOUT_FILENO, b"\n");
+    total
+}
+
+// A count, whole.
+fn print_count(c: Count) {
+    let d = network::digits(c);
+    let text = d.text;
+    let start = d.start;
+    io::write_all(STDOUT_FILENO, &text[start..40]);
 }
 
 // A line for each unit; places past the last unit are 0.
