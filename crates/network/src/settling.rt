@@ -1,9 +1,9 @@
 // Running a network to its end.
 
-use crate::deliver;
-use crate::make;
 use crate::Answer;
 use crate::Network;
+use crate::deliver;
+use crate::make;
 ghost use mathlib.Core.Path.{_≡_};
 ghost use Rattle.network.specs.Run.{unitAt};
 ghost use Rattle.network.specs.Settle.{settleOf};

@@ -81,7 +81,7 @@ pub fn print_network(net: Network) -> u32
     let first = core.units[0];
     let total = first.bound;
     io::write_all(STDOUT_FILENO, b"total ");
-    io::print_decimal(STDOUT_FILENO, total as u64);
+    io::print_decimal(STDOUT_FILENO, wide(total));
     io::write_all(STDOUT_FILENO, b"\n");
     let best = first.best;
     list(best);
@@ -95,12 +95,16 @@ pub fn print_network(net: Network) -> u32
     total
 }
 
+fn wide(x: u32) -> u64 {
+    x as u64
+}
+
 // A count, whole.
 fn print_count(c: Count) {
     let d = network::digits(c);
     let text = d.text;
     let start = d.start;
-    io::write_all(STDOUT_FILENO, &text[start..40]);
+    io::write_all(STDOUT_FILENO, &text[start..]);
 }
 
 // A line for each unit; places past the last unit are 0.

@@ -1,0 +1,66 @@
+-- `print_settled` meets its contract: a file that isn't read, or what the run of its stream gives, which is the front of the buffer.
+-- Assumes nothing.
+use Prim.Native.Nat.{ℕ, _-_}
+use mathlib.Core.Path.{_≡_}
+use native.Mathlib.Nat.{sub-zero}
+use mathlib.Core.List.{List}
+use lib.ListN.{length, take, replicate, length-replicate}
+use Rattle.table.specs.File.{streamOf}
+use Rattle.report.specs.Report.{settleRefusal}
+use Rattle.report.specs.Report.{unread, read-fits, read-front, read-report}
+use borrow.Author.Needs.{needs}
+use Rattle.report.proofs.print_settled.Statement.{statement}
+use Rattle.report.proofs.print_settled.Tie as tie
+
+slice-aggregate-read : tie.Need-slice-aggregate-read
+slice-aggregate-read c = search needs
+
+read-requires : tie.Need-read-requires
+read-requires c κs = search needs
+
+refuse-requires : tie.Need-refuse-requires
+refuse-requires c κs = search needs
+
+returns : tie.Need-returns
+returns c =
+    let x = c .before .before .before in
+    unread (x .before .before .before .args .file .now) (replicate 61457 0) (x .read .result) (x .read .ensures .0) (length-replicate {A = ℕ} 61457 0) settleRefusal (c .before .if1 .taken)
+
+sub-print-run : tie.Need-sub-print-run
+sub-print-run c = search needs
+
+part-print-run-start : tie.Need-part-print-run-start
+part-print-run-start c = search needs
+
+part-print-run-end : tie.Need-part-print-run-end
+part-print-run-end c =
+    let x = c .before .before .before in
+    let p = read-fits (x .before .before .before .args .file .now) (replicate 61457 0) (x .read .result) (x .read .ensures .0) (length-replicate {A = ℕ} 61457 0) (c .before .if1 .left) in
+    search needs
+
+print-run-requires : tie.Need-print-run-requires
+print-run-requires c κs = search needs
+
+returns-2 : tie.Need-returns-2
+returns-2 c =
+    let x = c .before .before .before .before .before in
+    let f = x .before .before .before .args .file .now in
+    let h = c .before .before .before .if1 .left in
+    let r = x .read .result in
+    let none : List ℕ = replicate 61457 0 in
+    let p : take (r .length - 0) (x .read .last .1 .0) ≡ streamOf f = rw sub-zero (read-front f none r (x .read .ensures .0) (length-replicate {A = ℕ} 61457 0) h (x .read .last .1 .0) (x .read .ensures .1)) in
+    read-report f none r (x .read .ensures .0) (length-replicate {A = ℕ} 61457 0) h settleRefusal (c .print-run .result) (take (r .length - 0) (x .read .last .1 .0)) p (c .print-run .ensures)
+
+pub print-settled-spec : {M : Type 1} → statement M
+print-settled-spec =
+    tie.close
+    (tie.spec
+    slice-aggregate-read
+    read-requires
+    refuse-requires
+    returns
+    sub-print-run
+    part-print-run-start
+    part-print-run-end
+    print-run-requires
+    returns-2)
