@@ -14,7 +14,7 @@
  *      output of RIKSAMOE_SENDING bytes. If the refusal is 0, send the first `sent` packets of 64 bytes from the output, in their
  *      order; byte 2 of each says to which unit. If it is not 0, nothing has changed and there is nothing to send: drop the packet.
  *   4. Once `stopped` is set the box is done: `bound` is the least total and `best` the value of each unit (unit k's at best[k - 1]).
- *      Every later packet is refused by 12.
+ *      Every later packet that reads well is refused by 12.
  *
  * A stale packet is accepted, changes nothing and sends nothing. Packets may come in any order; none may be lost.
  *
@@ -59,6 +59,7 @@ extern "C" {
 #define RIKSAMOE_COSTS 7680        /* most bytes of the costs that touch one unit */
 #define RIKSAMOE_STREAM 61457      /* bytes to lend for a stream */
 #define RIKSAMOE_FILE 62464        /* most bytes of a stored table */
+#define RIKSAMOE_POOL 65536        /* bytes to lend for a network's pool: 1,024 cells of a packet */
 
 /* Kinds of message, with the words of the format's paper. */
 enum { RIKSAMOE_CPA = 1 /* paper */, RIKSAMOE_REQUEST = 2 /* copy */, RIKSAMOE_ESTIMATE = 3, RIKSAMOE_SOLUTION = 4 /* news */, RIKSAMOE_STOP = 5 };
@@ -130,6 +131,31 @@ typedef struct {
     uint8_t values[16]; /* 8 */
 } riksamoe_found_t;
 
+/* A number of two words: low + 2^64 times high. Size 16. */
+typedef struct {
+    uint64_t low;  /* 0 */
+    uint64_t high; /* 8 */
+} riksamoe_count_t;
+
+/* All units of a table, with the counts: values written down, and deliveries accepted. Size 2,272. */
+typedef struct {
+    riksamoe_unit_t units[16];   /*    0 */
+    riksamoe_count_t records;    /* 2240 */
+    riksamoe_count_t deliveries; /* 2256 */
+} riksamoe_core_t;
+
+/* A network; its waiting packets stand in the pool, which is lent beside it. Size 2,280. */
+typedef struct {
+    riksamoe_core_t core; /*    0 */
+    uint64_t used;        /* 2272 cells of the pool in use, from cell 0 on */
+} riksamoe_network_t;
+
+/* What a network's calls give. Refused: the network as lent, a making's all zero. Size 2,288. */
+typedef struct {
+    uint8_t refusal;            /* 0 */
+    riksamoe_network_t network; /* 8 */
+} riksamoe_answer_t;
+
 /* ---- The stored table */
 
 /* The check of blocks and packets: the sum of (k + 1) times byte k, modulo 65,521. */
@@ -175,6 +201,20 @@ riksamoe_report_t riksamoe_unit_step_in_place(riksamoe_unit_t *unit, uint8_t own
                                               const uint8_t *costs, size_t costs_length, const uint8_t *packet,
                                               size_t packet_length, uint8_t *out, size_t room);
 
+/* ---- A network: all units of a table at one place, for tests and trials, where a run can be ordered at will. Lend RIKSAMOE_POOL bytes as
+ * `pool`, and to every delivery the same stream, the network as the call before gave it and the pool as it left it. */
+
+/* All units, new, and what unit 1 sends in the pool: 5, 6, 7, 13. */
+riksamoe_answer_t riksamoe_network_make(const uint8_t *stream, size_t length, uint8_t *pool, size_t room);
+
+/* The packet at a cell goes to its unit; later cells move down one, and what the unit sends is added at the end: 13, 5 (n, sizes), 6, 7,
+ * 5 (states, cells in use), 12, 15, 8, 10, 9, 11, 14. */
+riksamoe_answer_t riksamoe_network_deliver(riksamoe_network_t network, const uint8_t *stream, size_t length, uint8_t *pool, size_t room,
+                                           uint64_t cell);
+
+/* Making, then cell 0 again and again until unit 1 has stopped: 5, 6, 7, 13. The answer is in unit 1. */
+riksamoe_answer_t riksamoe_network_settle(const uint8_t *stream, size_t length, uint8_t *pool, size_t room);
+
 /* ---- The bench: every assignment of a stream's table is tried, so lend it 1,048,576 of them at most: 5, 6, 7, 16. */
 riksamoe_found_t riksamoe_search(const uint8_t *stream, size_t length);
 
@@ -199,6 +239,10 @@ RIKSAMOE_HOLDS(offsetof(riksamoe_unit_t, counter) == 136 && offsetof(riksamoe_un
 RIKSAMOE_HOLDS(sizeof(riksamoe_outcome_t) == 148 && offsetof(riksamoe_outcome_t, unit) == 4);
 RIKSAMOE_HOLDS(offsetof(riksamoe_outcome_t, sent) == 144 && offsetof(riksamoe_outcome_t, records) == 145);
 RIKSAMOE_HOLDS(sizeof(riksamoe_report_t) == 3);
+RIKSAMOE_HOLDS(sizeof(riksamoe_count_t) == 16 && sizeof(riksamoe_core_t) == 2272);
+RIKSAMOE_HOLDS(offsetof(riksamoe_core_t, records) == 2240 && offsetof(riksamoe_core_t, deliveries) == 2256);
+RIKSAMOE_HOLDS(sizeof(riksamoe_network_t) == 2280 && offsetof(riksamoe_network_t, used) == 2272);
+RIKSAMOE_HOLDS(sizeof(riksamoe_answer_t) == 2288 && offsetof(riksamoe_answer_t, network) == 8);
 RIKSAMOE_HOLDS(sizeof(riksamoe_found_t) == 24 && offsetof(riksamoe_found_t, total) == 4 && offsetof(riksamoe_found_t, values) == 8);
 
 #ifdef __cplusplus

@@ -4,6 +4,8 @@
 use message::Kind;
 use message::Message;
 use message::Read;
+use network::Answer;
+use network::Network;
 use unit::Outcome;
 use unit::Report;
 use unit::Unit;
@@ -17,6 +19,8 @@ ghost use Rattle.costs.specs.Gather.{sizesIn, gatherCount, gatherInto};
 ghost use Rattle.message.specs.Decode.{parseFor, kindOf};
 ghost use Rattle.unit.specs.State.{noUnit};
 ghost use Rattle.unit.specs.Calls.{outcomeOf, reportOf, unitOf, bytesOf, makeOut, stepOut};
+ghost use Rattle.network.specs.Calls.{makeOf, deliverOf};
+ghost use Rattle.network.specs.Settle.{settleOf};
 ghost use Rattle.search.specs.Search.{searchOf};
 ghost use Rattle.cabi.specs.Calls.{ofRead, ofWritten, codeOf, parsedOf, writeByCode, writtenByCode, unknownKind, ofFound};
 
@@ -188,7 +192,33 @@ pub extern "C" fn riksamoe_unit_step_in_place(
     unit::step_in_place(u, own, n, places, costs, packet, out)
 }
 
-// ---- the bench
+// ---- a network, and the bench
+
+#[no_mangle]
+pub extern "C" fn riksamoe_network_make(stream: &[u8], pool: &mut [u8]) -> Answer
+    ensures { λ r. ⌜ (r ≡ makeOf (now (stream .entry)) (now (pool .entry)) .answer) × (now (pool .exit) ≡ makeOf (now (stream .entry)) (now (pool .entry)) .pool) ⌝ }
+{
+    network::make(stream, pool)
+}
+
+#[no_mangle]
+pub extern "C" fn riksamoe_network_deliver(
+    net: Network,
+    stream: &[u8],
+    pool: &mut [u8],
+    cell: u64,
+) -> Answer
+    ensures { λ r. ⌜ (r ≡ deliverOf net (now (stream .entry)) (now (pool .entry)) cell .answer) × (now (pool .exit) ≡ deliverOf net (now (stream .entry)) (now (pool .entry)) cell .pool) ⌝ }
+{
+    network::deliver(net, stream, pool, cell)
+}
+
+#[no_mangle]
+pub extern "C" fn riksamoe_network_settle(stream: &[u8], pool: &mut [u8]) -> Answer
+    ensures { λ r. ⌜ (r ≡ settleOf (now (stream .entry)) (now (pool .entry)) .answer) × (now (pool .exit) ≡ settleOf (now (stream .entry)) (now (pool .entry)) .pool) ⌝ }
+{
+    network::settle(stream, pool)
+}
 
 #[no_mangle]
 pub extern "C" fn riksamoe_search(stream: &[u8]) -> Found
