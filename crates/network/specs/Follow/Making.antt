@@ -1,5 +1,5 @@
 -- Making on bytes does what it does over messages (`make-tracks`), for a table that it accepts and a pool that is long enough.
--- Unit 1's assigning is never refused: it writes or backtracks.
+-- Unit 1's assigning is never refused (Delivery.Refusals).
 -- Assumes nothing.
 use Prim.Native.Nat.{ℕ, zero, suc, _+_, _*_, _-_, _^_, _≤_, _<_}
 use mathlib.Core.Path.{_≡_, refl, sym, ap, _∙_, subst}
@@ -11,13 +11,11 @@ use lib.Dec.{ltb, leb, eqb}
 use lib.ListN.{length, drop, take, length-append, length-drop}
 use borrow.Author.Tests.{ltb-false, eqb-true, eqb-false}
 use Rattle.table.specs.Stream.{unitsOf, streamRefusal, Accepted}
-use Rattle.costs.specs.Instance.{View, viewOf, instanceOf}
-use Rattle.costs.specs.Bounds.{costWith, h}
+use Rattle.costs.specs.Instance.{viewOf, instanceOf}
 use Rattle.message.specs.Message.{Packet}
-use Rattle.unit.specs.declared.Unit.{Unit as UnitState}
-use Rattle.unit.specs.State.{fresh, withBest}
+use Rattle.unit.specs.State.{fresh}
 use Rattle.unit.specs.Step as U
-use Rattle.unit.specs.Step.{Out, Written, assign}
+use Rattle.unit.specs.Step.{Out, assign}
 use Rattle.unit.specs.Send.{packets, encodeAll, laid}
 use Rattle.network.specs.Count.{zeroCount, valueOf}
 use Rattle.network.specs.Count.Laws.{plus-exact}
@@ -29,35 +27,7 @@ use Rattle.network.specs.Demand3.{State, stateOf, Made}
 use Rattle.network.specs.Follow.Cells.{AllSized, encode-all-length, front-holds}
 use Rattle.network.specs.Follow.Holds.{Holds, begin-holds}
 use Rattle.network.specs.Follow.Deliveries.{Tracks, Fits}
-
--- ---- assigning is never refused
-
-abbrev Taken : Out → Type 0
-Taken (U.refused r) = ⊥
-Taken (U.accepted u s ws) = Unit {0}
-
-taken-after : (r : Written) (o : Out) → Taken o → Taken (U.after r o)
-taken-after r (U.refused x) h = h
-taken-after r (U.accepted u s ws) h = tt
-
-try-taken : (w : View) (m v : ℕ) (b : Bool) (u : UnitState) → Taken (U.tryAfter w m v b u)
-unfolding U.tryAfter U.backtrack
-try-taken w zero v b u = tt
-try-taken w (suc m) v b u =
-    tested (ltb (u .cost + costWith w (u .values) (w .place) (suc v) + h w (suc v)) (u .bound)) (λ x t. try-taken w m (suc v) x t)
-  where
-    written : (t : Bool) (y : UnitState) → ((x : Bool) (z : UnitState) → Taken (U.tryAfter w m (suc v) x z)) → Taken (U.afterWrite w t y (λ (x : Bool) (z : UnitState). U.tryAfter w m (suc v) x z))
-    written true y ih = taken-after (U.recordOf w y) (U.tryAfter w m (suc v) true (U.takeOff w (withBest (y .cost) (y .values) y))) (ih true (U.takeOff w (withBest (y .cost) (y .values) y)))
-    written false y ih = tt
-
-    tested : (t : Bool) → ((x : Bool) (z : UnitState) → Taken (U.tryAfter w m (suc v) x z))
-        → Taken (U.tryValue w t (suc v) (u .cost + costWith w (u .values) (w .place) (suc v)) b u (λ (x : Bool) (z : UnitState). U.tryAfter w m (suc v) x z))
-    tested true ih = written (U.isLast w) (U.write w (suc v) (u .cost + costWith w (u .values) (w .place) (suc v)) u) ih
-    tested false ih = ih b u
-
-assign-taken : (w : View) (u : UnitState) → Taken (assign w u)
-unfolding U.assign
-assign-taken w u = try-taken w _ _ _ _
+use Rattle.network.specs.Delivery.Refusals.{Accepts, assign-accepts}
 
 -- ---- what making accepts
 
@@ -87,9 +57,9 @@ module _ (s pool : List ℕ) (made : Made s pool) where
   unfolding makeOf R.begin instanceOf laid
   make-tracks hold f =
       subst (λ r. Tracks (stateOf (C.made (unitsOf s) pool (C.unlessRefused r (assign (viewOf (instanceOf s) 0) fresh)))) (R.begunWith (instanceOf s) (assign (viewOf (instanceOf s) 0) fresh))) (sym no-refusal)
-      (go (assign (viewOf (instanceOf s) 0) fresh) (assign-taken (viewOf (instanceOf s) 0) fresh) hold f)
+      (go (assign (viewOf (instanceOf s) 0) fresh) (assign-accepts (viewOf (instanceOf s) 0) fresh) hold f)
     where
-      go : (o : Out) → Taken o → Holds s accepted-table (R.begunWith (instanceOf s) o) → Fits (R.begunWith (instanceOf s) o) → Tracks (stateOf (C.made (unitsOf s) pool o)) (R.begunWith (instanceOf s) o)
+      go : (o : Out) → Accepts o → Holds s accepted-table (R.begunWith (instanceOf s) o) → Fits (R.begunWith (instanceOf s) o) → Tracks (stateOf (C.made (unitsOf s) pool o)) (R.begunWith (instanceOf s) o)
       go (U.refused r) k hold f = absurd k
       go (U.accepted u o ws) k hold f =
           record {
