@@ -10,11 +10,8 @@ use mathlib.Core.Logic.{_⊎_, inl, inr}
 use mathlib.Core.List.{List, []}
 use native.Mathlib.Omega.{arith}
 use Rattle.base.specs.Sums.{sumTo}
+pub use Rattle.message.specs.Message.{NONE}
 pub use Rattle.costs.specs.Problem.{Problem, InDomains, Full, ClosedBy, Closed, Laws, closed-mono, closed-by-values, closed-full, closed-least}
-
--- 01: "*None* as a bound is 4,294,967,295"
-abbrev pub NONE : ℕ
-NONE = 4294967295
 
 module _ (P : Problem) where
   -- a bound is none, or the total of its assignment and below none
