@@ -1,5 +1,8 @@
-// Prints the listings of the sample sheds of data/, each after its name; then that of T with the newest message delivered each time.
+// Prints the listings of the sample sheds of data/, each after its name; then that of T with the newest message delivered each time,
+// and with counts past one word.
 use libc::STDOUT_FILENO;
+use network::Core;
+use network::Count;
 use network::Network;
 
 // Room for one block more than a table may have.
@@ -23,7 +26,10 @@ fn main() {
     show(b"bad.table");
     // 01's case 9: 5 records, 10 deliveries, the most allowed
     io::write_all(STDOUT_FILENO, b"T, newest first\n");
-    newest_first();
+    let net = newest_first();
+    report::print_network(net);
+    io::write_all(STDOUT_FILENO, b"the same, counted past one word\n");
+    report::print_network(recounted(net));
 }
 
 fn show(name: &[u8]) {
@@ -41,7 +47,7 @@ fn show(name: &[u8]) {
 }
 
 // The run of T that delivers the last cell each time, 10 times.
-fn newest_first() {
+fn newest_first() -> Network {
     let stream = [2u8, 2, 2, 5, 0, 3, 0, 2, 0, 4, 0];
     let mut pool = [0u8; 65536];
     let made = network::make(&stream, &mut pool);
@@ -51,7 +57,27 @@ fn newest_first() {
         net = newest(net, &stream, &mut pool);
         k += 1;
     }
-    report::print_network(net);
+    net
+}
+
+// The same network with counts of 2^64 and 2^128 - 1.
+fn recounted(net: Network) -> Network {
+    let core = net.core;
+    let units = core.units;
+    let records = Count { low: 0, high: 1 };
+    let deliveries = Count {
+        low: 18446744073709551615,
+        high: 18446744073709551615,
+    };
+    let core = Core {
+        units,
+        records,
+        deliveries,
+    };
+    Network {
+        core,
+        used: net.used,
+    }
 }
 
 // The network after its newest message was delivered.

@@ -43,9 +43,6 @@ loop-less c = search needs
 loop-again : tie.Need-loop-again Inv-loop μ-loop
 loop-again c = search needs
 
-print-network-requires : tie.Need-print-network-requires Inv-loop μ-loop
-print-network-requires c κs = search needs
-
 returns : tie.Need-returns Inv-loop μ-loop
 returns c = search needs
 
@@ -65,5 +62,4 @@ newest-first-spec =
     add-k
     loop-less
     loop-again
-    print-network-requires
     returns)
