@@ -257,11 +257,14 @@ fn delivery_rows() {
     }
 }
 
-fn search_row() {
-    let stream = stream(8, 4);
-    print_row("search, 65,536 assignments", |library| {
-        nanoseconds(|| black_box(library.search(black_box(&stream))).min(1))
-    });
+/// The largest shapes that the limit of 1,048,576 assignments allows, and all that binary sheds have.
+fn search_rows() {
+    for (n, values) in [(10, 4), (5, 16), (16, 2)] {
+        let stream = stream(n, values);
+        print_row(&format!("search, {n} units of {values} values"), |library| {
+            nanoseconds(|| black_box(library.search(black_box(&stream))).min(1))
+        });
+    }
 }
 
 fn main() {
@@ -274,5 +277,5 @@ fn main() {
     message_rows();
     step_rows();
     delivery_rows();
-    search_row();
+    search_rows();
 }
