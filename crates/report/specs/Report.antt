@@ -2,6 +2,7 @@
 -- Assumes nothing.
 use Prim.Native.Nat.{ℕ, zero, suc, _≤_, _-_}
 use mathlib.Core.Path.{_≡_, refl, sym, ap, _∙_}
+use mathlib.Core.Bool.{Bool, true, false}
 use mathlib.Core.List.{List}
 use native.Mathlib.Omega.{arith}
 use lib.ListN.{length, take, drop, replicate}
@@ -23,6 +24,11 @@ fileRefusal done f = orElse (readRefusal f 61457) (done (streamOf f))
 -- the number of a run to its end, in a pool of zeros
 unfoldable pub settleRefusal : List ℕ → ℕ
 settleRefusal s = settleOf s (replicate 65536 0) .answer .refusal
+
+-- that of the run, or that of the search
+abbrev pub refusalBy : Bool → List ℕ → ℕ
+refusalBy true s = settleRefusal s
+refusalBy false s = searchRefusal s
 
 -- ------------------------------------------------------------------------------------------------------------------
 -- Laws.

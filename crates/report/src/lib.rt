@@ -5,12 +5,27 @@ use network::Network;
 ghost use mathlib.Core.Path.{_≡_};
 ghost use Rattle.search.specs.Search.{searchRefusal};
 ghost use Rattle.network.specs.Run.{unitAt};
-ghost use Rattle.report.specs.Report.{fileRefusal, settleRefusal};
+ghost use Rattle.report.specs.Report.{fileRefusal, settleRefusal, refusalBy};
 
 // Prints the least total of a file's table, then each unit's value in the first assignment that has it, or `refused` and the number,
 // which it gives too.
 pub fn print_search(file: &[u8]) -> u8
     ensures { λ r. ⌜ r ≡ fileRefusal searchRefusal (now (file .entry)) ⌝ }
+{
+    print_file(file, false)
+}
+
+// Runs the network of a file's table, cell 0 delivered each time, and prints what unit 1 reports, then records and accepted
+// deliveries, or `refused` and the number, which it gives too.
+pub fn print_settled(file: &[u8]) -> u8
+    ensures { λ r. ⌜ r ≡ fileRefusal settleRefusal (now (file .entry)) ⌝ }
+{
+    print_file(file, true)
+}
+
+// One or the other.
+fn print_file(file: &[u8], settled: bool) -> u8
+    ensures { λ r. ⌜ r ≡ fileRefusal (refusalBy settled) (now (file .entry)) ⌝ }
 {
     let mut stream = [0u8; 61457];
     let r = table::read(file, &mut stream);
@@ -20,10 +35,20 @@ pub fn print_search(file: &[u8]) -> u8
         return refusal;
     }
     let length = r.length;
-    print_found(&stream[0..length])
+    print_stream(&stream[0..length], settled)
 }
 
 // The same of a stream.
+fn print_stream(stream: &[u8], settled: bool) -> u8
+    ensures { λ r. ⌜ r ≡ refusalBy settled (now (stream .entry)) ⌝ }
+{
+    if settled {
+        return print_run(stream);
+    }
+    print_found(stream)
+}
+
+// What the search finds.
 fn print_found(stream: &[u8]) -> u8
     ensures { λ r. ⌜ r ≡ searchRefusal (now (stream .entry)) ⌝ }
 {
@@ -41,23 +66,7 @@ fn print_found(stream: &[u8]) -> u8
     refusal
 }
 
-// Runs the network of a file's table, cell 0 delivered each time, and prints what unit 1 reports, then records and accepted
-// deliveries, or `refused` and the number, which it gives too.
-pub fn print_settled(file: &[u8]) -> u8
-    ensures { λ r. ⌜ r ≡ fileRefusal settleRefusal (now (file .entry)) ⌝ }
-{
-    let mut stream = [0u8; 61457];
-    let r = table::read(file, &mut stream);
-    let refusal = r.refusal;
-    if refusal != 0 {
-        refuse(refusal);
-        return refusal;
-    }
-    let length = r.length;
-    print_run(&stream[0..length])
-}
-
-// The same of a stream.
+// What the run comes to.
 fn print_run(stream: &[u8]) -> u8
     ensures { λ r. ⌜ r ≡ settleRefusal (now (stream .entry)) ⌝ }
 {

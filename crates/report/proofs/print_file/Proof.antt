@@ -1,4 +1,4 @@
--- `print_search` meets its contract: a file that isn't read, or what the search of its stream gives, which is the front of the buffer.
+-- `print_file` meets its contract: a file that isn't read, or what is done with its stream, which is the front of the buffer.
 -- Assumes nothing.
 use Prim.Native.Nat.{ℕ, _-_}
 use mathlib.Core.Path.{_≡_}
@@ -6,11 +6,10 @@ use native.Mathlib.Nat.{sub-zero}
 use mathlib.Core.List.{List}
 use lib.ListN.{length, take, replicate, length-replicate}
 use Rattle.table.specs.File.{streamOf}
-use Rattle.search.specs.Search.{searchRefusal}
-use Rattle.report.specs.Report.{unread, read-fits, read-front, read-report}
+use Rattle.report.specs.Report.{refusalBy, unread, read-fits, read-front, read-report}
 use borrow.Author.Needs.{needs}
-use Rattle.report.proofs.print_search.Statement.{statement}
-use Rattle.report.proofs.print_search.Tie as tie
+use Rattle.report.proofs.print_file.Statement.{statement}
+use Rattle.report.proofs.print_file.Tie as tie
 
 slice-aggregate-read : tie.Need-slice-aggregate-read
 slice-aggregate-read c = search needs
@@ -24,22 +23,22 @@ refuse-requires c κs = search needs
 returns : tie.Need-returns
 returns c =
     let x = c .before .before .before in
-    unread (x .before .before .before .args .file .now) (replicate 61457 0) (x .read .result) (x .read .ensures .0) (length-replicate {A = ℕ} 61457 0) searchRefusal (c .before .if1 .taken)
+    unread (x .before .before .before .args .file .now) (replicate 61457 0) (x .read .result) (x .read .ensures .0) (length-replicate {A = ℕ} 61457 0) (refusalBy (x .before .before .before .args .settled)) (c .before .if1 .taken)
 
-sub-print-found : tie.Need-sub-print-found
-sub-print-found c = search needs
+sub-print-stream : tie.Need-sub-print-stream
+sub-print-stream c = search needs
 
-part-print-found-start : tie.Need-part-print-found-start
-part-print-found-start c = search needs
+part-print-stream-start : tie.Need-part-print-stream-start
+part-print-stream-start c = search needs
 
-part-print-found-end : tie.Need-part-print-found-end
-part-print-found-end c =
+part-print-stream-end : tie.Need-part-print-stream-end
+part-print-stream-end c =
     let x = c .before .before .before in
     let p = read-fits (x .before .before .before .args .file .now) (replicate 61457 0) (x .read .result) (x .read .ensures .0) (length-replicate {A = ℕ} 61457 0) (c .before .if1 .left) in
     search needs
 
-print-found-requires : tie.Need-print-found-requires
-print-found-requires c κs = search needs
+print-stream-requires : tie.Need-print-stream-requires
+print-stream-requires c κs = search needs
 
 returns-2 : tie.Need-returns-2
 returns-2 c =
@@ -49,18 +48,18 @@ returns-2 c =
     let r = x .read .result in
     let none : List ℕ = replicate 61457 0 in
     let p : take (r .length - 0) (x .read .last .1 .0) ≡ streamOf f = rw sub-zero (read-front f none r (x .read .ensures .0) (length-replicate {A = ℕ} 61457 0) h (x .read .last .1 .0) (x .read .ensures .1)) in
-    read-report f none r (x .read .ensures .0) (length-replicate {A = ℕ} 61457 0) h searchRefusal (c .print-found .result) (take (r .length - 0) (x .read .last .1 .0)) p (c .print-found .ensures)
+    read-report f none r (x .read .ensures .0) (length-replicate {A = ℕ} 61457 0) h (refusalBy (x .before .before .before .args .settled)) (c .print-stream .result) (take (r .length - 0) (x .read .last .1 .0)) p (c .print-stream .ensures)
 
-pub print-search-spec : {M : Type 1} → statement M
-print-search-spec =
+pub print-file-spec : {M : Type 1} → statement M
+print-file-spec =
     tie.close
     (tie.spec
     slice-aggregate-read
     read-requires
     refuse-requires
     returns
-    sub-print-found
-    part-print-found-start
-    part-print-found-end
-    print-found-requires
+    sub-print-stream
+    part-print-stream-start
+    part-print-stream-end
+    print-stream-requires
     returns-2)
