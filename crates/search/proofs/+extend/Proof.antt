@@ -34,222 +34,9 @@ extend-Inv-loop stream starts left level cost chosen d best₀ v₀ best v = (1 
 abbrev extend-μ-loop : extend-lts.MeasureT-loop
 extend-μ-loop stream starts left level cost chosen d best₀ v₀ best v = d + 1 - v
 
-extend-better-requires : (t : ℕ) → extend-lts.Need-better-requires (
-  better-reads.Asked,
-  better-reads.Learnt,
-  byte-reads.Asked,
-  byte-reads.Learnt,
-  added-cost-reads.Asked,
-  added-cost-reads.Learnt,
-  extend-below t,
-  extend.Post,
-) (extend-at t) extend.Post extend-Inv-loop extend-μ-loop
-extend-better-requires t c κs = search needs
-
-extend-returns : (t : ℕ) → extend-lts.Need-returns (
-  better-reads.Asked,
-  better-reads.Learnt,
-  byte-reads.Asked,
-  byte-reads.Learnt,
-  added-cost-reads.Asked,
-  added-cost-reads.Learnt,
-  extend-below t,
-  extend.Post,
-) (extend-at t) extend.Post extend-Inv-loop extend-μ-loop
-extend-returns t c =
-    let z = c .before .before .before .before in
-    let a = z .args in
-    let e = c .before .if1 .taken in
-    c .better .ensures ∙ best-full (instanceOf (a .stream .now)) (a .left) (a .level) (a .chosen) (a .b) (a .cost) e (cost-is-total (z .pre .1) e)
-
-extend-add-byte : (t : ℕ) → extend-lts.Need-add-byte (
-  better-reads.Asked,
-  better-reads.Learnt,
-  byte-reads.Asked,
-  byte-reads.Learnt,
-  added-cost-reads.Asked,
-  added-cost-reads.Learnt,
-  extend-below t,
-  extend.Post,
-) (extend-at t) extend.Post extend-Inv-loop extend-μ-loop
-extend-add-byte t c = search needs
-
-extend-byte-requires : (t : ℕ) → extend-lts.Need-byte-requires (
-  better-reads.Asked,
-  better-reads.Learnt,
-  byte-reads.Asked,
-  byte-reads.Learnt,
-  added-cost-reads.Asked,
-  added-cost-reads.Learnt,
-  extend-below t,
-  extend.Post,
-) (extend-at t) extend.Post extend-Inv-loop extend-μ-loop
-extend-byte-requires t c κs = search needs
-
-extend-loop-holds : (t : ℕ) → extend-lts.Need-loop-holds (
-  better-reads.Asked,
-  better-reads.Learnt,
-  byte-reads.Asked,
-  byte-reads.Learnt,
-  added-cost-reads.Asked,
-  added-cost-reads.Learnt,
-  extend-below t,
-  extend.Post,
-) (extend-at t) extend.Post extend-Inv-loop extend-μ-loop
-extend-loop-holds t c =
-    let z = c .before .before .before .before in
-    let a = z .args in
-    let some = c .before .if1 .left in
-    let size = c .byte .ensures .0 in
-    (omega arith, omega arith, omega arith, size, best-of-values (instanceOf (a .stream .now)) (a .left) (a .level) (c .byte .result) (a .chosen) (a .b) some (size-is-dom (z .pre .1) (c .byte .result) some size))
-
-extend-cast-next : (t : ℕ) → extend-lts.Need-cast-next (
-  better-reads.Asked,
-  better-reads.Learnt,
-  byte-reads.Asked,
-  byte-reads.Learnt,
-  added-cost-reads.Asked,
-  added-cost-reads.Learnt,
-  extend-below t,
-  extend.Post,
-) (extend-at t) extend.Post extend-Inv-loop extend-μ-loop
-extend-cast-next t c = search needs
-
-extend-array-write-next : (t : ℕ) → extend-lts.Need-array-write-next (
-  better-reads.Asked,
-  better-reads.Learnt,
-  byte-reads.Asked,
-  byte-reads.Learnt,
-  added-cost-reads.Asked,
-  added-cost-reads.Learnt,
-  extend-below t,
-  extend.Post,
-) (extend-at t) extend.Post extend-Inv-loop extend-μ-loop
-extend-array-write-next t c = search needs
-
-extend-added-cost-requires : (t : ℕ) → extend-lts.Need-added-cost-requires (
-  better-reads.Asked,
-  better-reads.Learnt,
-  byte-reads.Asked,
-  byte-reads.Learnt,
-  added-cost-reads.Asked,
-  added-cost-reads.Learnt,
-  extend-below t,
-  extend.Post,
-) (extend-at t) extend.Post extend-Inv-loop extend-μ-loop
-extend-added-cost-requires t c κs = search needs
-
-extend-sub-extend : (t : ℕ) → extend-lts.Need-sub-extend (
-  better-reads.Asked,
-  better-reads.Learnt,
-  byte-reads.Asked,
-  byte-reads.Learnt,
-  added-cost-reads.Asked,
-  added-cost-reads.Learnt,
-  extend-below t,
-  extend.Post,
-) (extend-at t) extend.Post extend-Inv-loop extend-μ-loop
-extend-sub-extend t c = search needs
-
-extend-add-extend : (t : ℕ) → extend-lts.Need-add-extend (
-  better-reads.Asked,
-  better-reads.Learnt,
-  byte-reads.Asked,
-  byte-reads.Learnt,
-  added-cost-reads.Asked,
-  added-cost-reads.Learnt,
-  extend-below t,
-  extend.Post,
-) (extend-at t) extend.Post extend-Inv-loop extend-μ-loop
-extend-add-extend t c = search needs
-
-extend-add-extend-2 : (t : ℕ) → extend-lts.Need-add-extend-2 (
-  better-reads.Asked,
-  better-reads.Learnt,
-  byte-reads.Asked,
-  byte-reads.Learnt,
-  added-cost-reads.Asked,
-  added-cost-reads.Learnt,
-  extend-below t,
-  extend.Post,
-) (extend-at t) extend.Post extend-Inv-loop extend-μ-loop
-extend-add-extend-2 t c = search needs
-
-extend-extend-requires : (t : ℕ) → extend-lts.Need-extend-requires (
-  better-reads.Asked,
-  better-reads.Learnt,
-  byte-reads.Asked,
-  byte-reads.Learnt,
-  added-cost-reads.Asked,
-  added-cost-reads.Learnt,
-  extend-below t,
-  extend.Post,
-) (extend-at t) extend.Post extend-Inv-loop extend-μ-loop
-extend-extend-requires t c κs =
-    let z = c .before .before .before .before .before .before .before in
-    let l = c .before .before .loop in
-    let some = c .before .before .before .before .if1 .left in
-    let places : length (z .args .chosen) ≡ 16 = search needs in
-    (omega arith, extending-next (z .pre .1) (c .before .before .before .byte .result) some (l .inv .3) (l .v) (l .inv .0) (omega arith) (c .added-cost .result) places (c .added-cost .ensures .0))
-
-extend-add-v : (t : ℕ) → extend-lts.Need-add-v (
-  better-reads.Asked,
-  better-reads.Learnt,
-  byte-reads.Asked,
-  byte-reads.Learnt,
-  added-cost-reads.Asked,
-  added-cost-reads.Learnt,
-  extend-below t,
-  extend.Post,
-) (extend-at t) extend.Post extend-Inv-loop extend-μ-loop
-extend-add-v t c = search needs
-
-extend-loop-less : (t : ℕ) → extend-lts.Need-loop-less (
-  better-reads.Asked,
-  better-reads.Learnt,
-  byte-reads.Asked,
-  byte-reads.Learnt,
-  added-cost-reads.Asked,
-  added-cost-reads.Learnt,
-  extend-below t,
-  extend.Post,
-) (extend-at t) extend.Post extend-Inv-loop extend-μ-loop
-extend-loop-less t c = search needs
-
-extend-loop-again : (t : ℕ) → extend-lts.Need-loop-again (
-  better-reads.Asked,
-  better-reads.Learnt,
-  byte-reads.Asked,
-  byte-reads.Learnt,
-  added-cost-reads.Asked,
-  added-cost-reads.Learnt,
-  extend-below t,
-  extend.Post,
-) (extend-at t) extend.Post extend-Inv-loop extend-μ-loop
-extend-loop-again t c =
-    let a = c .before .before .before .before .before .before .before .before .args in
-    let l = c .before .before .before .loop in
-    let d = c .before .before .before .before .byte .result in
-    (omega arith, omega arith, omega arith, l .inv .3, l .inv .4 ∙ over-next (withValue (instanceOf (a .stream .now)) (a .left) (a .level) (a .chosen)) (l .v) d (l .best) (omega arith) ∙ simp (c .extend .ensures))
-
-extend-returns-2 : (t : ℕ) → extend-lts.Need-returns-2 (
-  better-reads.Asked,
-  better-reads.Learnt,
-  byte-reads.Asked,
-  byte-reads.Learnt,
-  added-cost-reads.Asked,
-  added-cost-reads.Learnt,
-  extend-below t,
-  extend.Post,
-) (extend-at t) extend.Post extend-Inv-loop extend-μ-loop
-extend-returns-2 t c =
-    let a = c .before .before .before .before .before .before .args in
-    let l = c .before .loop in
-    let d = c .before .before .byte .result in
-    sym (l .inv .4 ∙ over-done (withValue (instanceOf (a .stream .now)) (a .left) (a .level) (a .chosen)) (l .v) d (l .best) (omega arith))
-
-pub +extend-spec : {M : Type 1} → statement M
-+extend-spec = close μ-extend λ t. extend-lts.spec (
+-- what each call asks and gives, the call of itself at a smaller measure
+abbrev said : ℕ → extend-lts.Claims
+said t = (
   better-reads.Asked,
   better-reads.Learnt,
   byte-reads.Asked,
@@ -259,6 +46,79 @@ pub +extend-spec : {M : Type 1} → statement M
   extend-below t,
   extend.Post,
 )
+
+extend-better-requires : (t : ℕ) → extend-lts.Need-better-requires (said t) (extend-at t) extend.Post extend-Inv-loop extend-μ-loop
+extend-better-requires t c κs = search needs
+
+extend-returns : (t : ℕ) → extend-lts.Need-returns (said t) (extend-at t) extend.Post extend-Inv-loop extend-μ-loop
+extend-returns t c =
+    let z = c .before .before .before .before in
+    let a = z .args in
+    let e = c .before .if1 .taken in
+    c .better .ensures ∙ best-full (instanceOf (a .stream .now)) (a .left) (a .level) (a .chosen) (a .b) (a .cost) e (cost-is-total (z .pre .1) e)
+
+extend-add-byte : (t : ℕ) → extend-lts.Need-add-byte (said t) (extend-at t) extend.Post extend-Inv-loop extend-μ-loop
+extend-add-byte t c = search needs
+
+extend-byte-requires : (t : ℕ) → extend-lts.Need-byte-requires (said t) (extend-at t) extend.Post extend-Inv-loop extend-μ-loop
+extend-byte-requires t c κs = search needs
+
+extend-loop-holds : (t : ℕ) → extend-lts.Need-loop-holds (said t) (extend-at t) extend.Post extend-Inv-loop extend-μ-loop
+extend-loop-holds t c =
+    let z = c .before .before .before .before in
+    let a = z .args in
+    let some = c .before .if1 .left in
+    let size = c .byte .ensures .0 in
+    (omega arith, omega arith, omega arith, size, best-of-values (instanceOf (a .stream .now)) (a .left) (a .level) (c .byte .result) (a .chosen) (a .b) some (size-is-dom (z .pre .1) (c .byte .result) some size))
+
+extend-cast-next : (t : ℕ) → extend-lts.Need-cast-next (said t) (extend-at t) extend.Post extend-Inv-loop extend-μ-loop
+extend-cast-next t c = search needs
+
+extend-array-write-next : (t : ℕ) → extend-lts.Need-array-write-next (said t) (extend-at t) extend.Post extend-Inv-loop extend-μ-loop
+extend-array-write-next t c = search needs
+
+extend-added-cost-requires : (t : ℕ) → extend-lts.Need-added-cost-requires (said t) (extend-at t) extend.Post extend-Inv-loop extend-μ-loop
+extend-added-cost-requires t c κs = search needs
+
+extend-sub-extend : (t : ℕ) → extend-lts.Need-sub-extend (said t) (extend-at t) extend.Post extend-Inv-loop extend-μ-loop
+extend-sub-extend t c = search needs
+
+extend-add-extend : (t : ℕ) → extend-lts.Need-add-extend (said t) (extend-at t) extend.Post extend-Inv-loop extend-μ-loop
+extend-add-extend t c = search needs
+
+extend-add-extend-2 : (t : ℕ) → extend-lts.Need-add-extend-2 (said t) (extend-at t) extend.Post extend-Inv-loop extend-μ-loop
+extend-add-extend-2 t c = search needs
+
+extend-extend-requires : (t : ℕ) → extend-lts.Need-extend-requires (said t) (extend-at t) extend.Post extend-Inv-loop extend-μ-loop
+extend-extend-requires t c κs =
+    let z = c .before .before .before .before .before .before .before in
+    let l = c .before .before .loop in
+    let some = c .before .before .before .before .if1 .left in
+    let places : length (z .args .chosen) ≡ 16 = search needs in
+    (omega arith, extending-next (z .pre .1) (c .before .before .before .byte .result) some (l .inv .3) (l .v) (l .inv .0) (omega arith) (c .added-cost .result) places (c .added-cost .ensures .0))
+
+extend-add-v : (t : ℕ) → extend-lts.Need-add-v (said t) (extend-at t) extend.Post extend-Inv-loop extend-μ-loop
+extend-add-v t c = search needs
+
+extend-loop-less : (t : ℕ) → extend-lts.Need-loop-less (said t) (extend-at t) extend.Post extend-Inv-loop extend-μ-loop
+extend-loop-less t c = search needs
+
+extend-loop-again : (t : ℕ) → extend-lts.Need-loop-again (said t) (extend-at t) extend.Post extend-Inv-loop extend-μ-loop
+extend-loop-again t c =
+    let a = c .before .before .before .before .before .before .before .before .args in
+    let l = c .before .before .before .loop in
+    let d = c .before .before .before .before .byte .result in
+    (omega arith, omega arith, omega arith, l .inv .3, l .inv .4 ∙ over-next (withValue (instanceOf (a .stream .now)) (a .left) (a .level) (a .chosen)) (l .v) d (l .best) (omega arith) ∙ simp (c .extend .ensures))
+
+extend-returns-2 : (t : ℕ) → extend-lts.Need-returns-2 (said t) (extend-at t) extend.Post extend-Inv-loop extend-μ-loop
+extend-returns-2 t c =
+    let a = c .before .before .before .before .before .before .args in
+    let l = c .before .loop in
+    let d = c .before .before .byte .result in
+    sym (l .inv .4 ∙ over-done (withValue (instanceOf (a .stream .now)) (a .left) (a .level) (a .chosen)) (l .v) d (l .best) (omega arith))
+
+pub +extend-spec : {M : Type 1} → statement M
++extend-spec = close μ-extend λ t. extend-lts.spec (said t)
     (extend-at t)
     extend.Post
     extend-Inv-loop
