@@ -5,8 +5,6 @@
 // Each step goes on from the state that the record before left. What is sent is printed, and goes to no unit.
 ghost use Prim.Native.Nat.{_+_, _<_};
 use libc::STDOUT_FILENO;
-use message::Kind;
-use message::Message;
 use message::Read;
 use unit::Outcome;
 use unit::Unit;
@@ -100,9 +98,7 @@ fn sizes_in(r: &[u8]) -> [u8; 16] {
 fn told(r: &[u8], o: Outcome, out: &[u8]) -> Unit {
     let u = o.unit;
     if o.refusal != 0 {
-        io::write_all(STDOUT_FILENO, b" refused ");
-        io::print_decimal(STDOUT_FILENO, o.refusal as u64);
-        io::write_all(STDOUT_FILENO, b"\n");
+        print::print_refusal(o.refusal);
         return u;
     }
     io::write_all(STDOUT_FILENO, b" records ");
@@ -116,10 +112,10 @@ fn told(r: &[u8], o: Outcome, out: &[u8]) -> Unit {
 fn state(u: Unit) {
     io::write_all(STDOUT_FILENO, b" threshold");
     let threshold = u.threshold;
-    places(threshold);
+    print::print_bytes(threshold);
     io::write_all(STDOUT_FILENO, b" estimates");
     let estimates = u.estimates;
-    wide_places(estimates);
+    print::print_words(estimates);
     io::write_all(STDOUT_FILENO, b" counter ");
     io::print_decimal(STDOUT_FILENO, u.counter as u64);
     if u.stopped {
@@ -128,7 +124,7 @@ fn state(u: Unit) {
     let stamp = u.stamp;
     let values = u.values;
     let best = u.best;
-    cpa(stamp, values, u.cost, u.bound, best);
+    print::print_cpa(stamp, values, u.cost, u.bound, best);
 }
 
 // The messages at the front of the output.
@@ -157,76 +153,9 @@ fn packet(n: u8, sizes: [u8; 16], bytes: &[u8]) {
         io::write_all(STDOUT_FILENO, b"  not a message\n");
         return;
     };
-    name(kind);
+    io::write_all(STDOUT_FILENO, b"  sends ");
     let m = p.message;
-    fields(m);
-}
-
-// 01's word for a kind.
-fn name(kind: Kind) {
-    match kind {
-        Kind::Cpa => {
-            io::write_all(STDOUT_FILENO, b"  sends paper ");
-        }
-        Kind::Request => {
-            io::write_all(STDOUT_FILENO, b"  sends copy ");
-        }
-        Kind::Estimate => {
-            io::write_all(STDOUT_FILENO, b"  sends estimate ");
-        }
-        Kind::Solution => {
-            io::write_all(STDOUT_FILENO, b"  sends news ");
-        }
-        Kind::Stop => {
-            io::write_all(STDOUT_FILENO, b"  sends stop ");
-        }
-    }
-}
-
-fn fields(m: Message) {
-    io::print_decimal(STDOUT_FILENO, m.sender as u64);
-    io::write_all(STDOUT_FILENO, b" to ");
-    io::print_decimal(STDOUT_FILENO, m.receiver as u64);
-    let stamp = m.stamp;
-    let values = m.values;
-    let best = m.best;
-    cpa(stamp, values, m.cost, m.bound, best);
-}
-
-fn cpa(stamp: [u8; 16], values: [u8; 16], cost: u32, bound: u32, best: [u8; 16]) {
-    io::write_all(STDOUT_FILENO, b" stamp");
-    places(stamp);
-    io::write_all(STDOUT_FILENO, b" values");
-    places(values);
-    io::write_all(STDOUT_FILENO, b" cost ");
-    io::print_decimal(STDOUT_FILENO, cost as u64);
-    io::write_all(STDOUT_FILENO, b" bound ");
-    io::print_decimal(STDOUT_FILENO, bound as u64);
-    io::write_all(STDOUT_FILENO, b" best");
-    places(best);
-    io::write_all(STDOUT_FILENO, b"\n");
-}
-
-// The 16 places, each after a space.
-fn places(l: [u8; 16]) {
-    let mut i = 0;
-    while i < 16 {
-        place(l[i] as u64);
-        i += 1;
-    }
-}
-
-fn wide_places(l: [u32; 16]) {
-    let mut i = 0;
-    while i < 16 {
-        place(l[i] as u64);
-        i += 1;
-    }
-}
-
-fn place(x: u64) {
-    io::write_all(STDOUT_FILENO, b" ");
-    io::print_decimal(STDOUT_FILENO, x);
+    print::print_message(kind, m);
 }
 
 // No unit yet.

@@ -1,9 +1,9 @@
--- `places` is safe and ends: the measure is what is left of the 16 places.
+-- `print_words` is safe and ends: the measure is what is left of the 16 places.
 -- Assumes nothing.
 use Prim.Native.Nat.{_≤_, _-_}
 use borrow.Author.Needs.{needs}
-use Rattle.units.proofs.places.Statement.{statement}
-use Rattle.units.proofs.places.Tie as tie
+use Rattle.print.proofs.print_words.Statement.{statement}
+use Rattle.print.proofs.print_words.Tie as tie
 
 abbrev Inv-loop : tie.InvT-loop
 Inv-loop l i₀ i = i ≤ 16
@@ -14,14 +14,14 @@ abbrev μ-loop : tie.MeasureT-loop
 loop-holds : tie.Need-loop-holds Inv-loop μ-loop
 loop-holds c = search needs
 
-array-read-place : tie.Need-array-read-place Inv-loop μ-loop
-array-read-place c = search needs
+mul-print-place : tie.Need-mul-print-place Inv-loop μ-loop
+mul-print-place c = search needs
 
-cast-place : tie.Need-cast-place Inv-loop μ-loop
-cast-place c = search needs
+array-read-print-place : tie.Need-array-read-print-place Inv-loop μ-loop
+array-read-print-place c = search needs
 
-place-requires : tie.Need-place-requires Inv-loop μ-loop
-place-requires c κs = search needs
+print-place-requires : tie.Need-print-place-requires Inv-loop μ-loop
+print-place-requires c κs = search needs
 
 add-i : tie.Need-add-i Inv-loop μ-loop
 add-i c = search needs
@@ -35,16 +35,16 @@ loop-again c = search needs
 returns : tie.Need-returns Inv-loop μ-loop
 returns c = search needs
 
-pub places-spec : {M : Type 1} → statement M
-places-spec =
+pub print-words-spec : {M : Type 1} → statement M
+print-words-spec =
     tie.close
     (tie.spec
     Inv-loop
     μ-loop
     loop-holds
-    array-read-place
-    cast-place
-    place-requires
+    mul-print-place
+    array-read-print-place
+    print-place-requires
     add-i
     loop-less
     loop-again
