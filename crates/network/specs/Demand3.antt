@@ -109,6 +109,8 @@ pub record Served (stream pool cells : List ℕ) : Type 0 where
   pub ends : acceptedIn stream (stateOf (makeOf stream pool)) cells ≡ most (instanceOf stream) → first (runBytes stream pool cells) .stopped ≡ true
   -- until then a message waits
   pub waits : first (runBytes stream pool cells) .stopped ≡ false → 1 ≤ runBytes stream pool cells .network .used
+  -- and one of them can be delivered: the pool never refuses all by 14
+  pub progress : first (runBytes stream pool cells) .stopped ≡ false → (cell : ℕ) × (refusalAt stream (runBytes stream pool cells) cell ≡ 0)
   -- once stopped it reports the least total, with an assignment that totals just that
   pub full : first (runBytes stream pool cells) .stopped ≡ true → Assignment (instanceOf stream) (first (runBytes stream pool cells) .best)
   pub sum : first (runBytes stream pool cells) .stopped ≡ true → total (instanceOf stream) (first (runBytes stream pool cells) .best) ≡ first (runBytes stream pool cells) .bound

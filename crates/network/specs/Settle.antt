@@ -1,6 +1,6 @@
--- Running a network to its end: cell 0 delivered until unit 1 stops or a delivery is refused.
--- It is the run of (3n - 1) × N zeros: a refused delivery changes nothing, and demand 3 says that no run accepts more.
--- In order: `settleOf`; runs one after the other; what holds after k accepted deliveries (`After`), and how it ends.
+-- Running a network to its end: cell 0 delivered until unit 1 stops. None of these deliveries is refused, as oldest first never fills the pool.
+-- It is the run of (3n - 1) × N zeros: once unit 1 has stopped a delivery is refused and changes nothing, and demand 3 says that no run accepts more.
+-- In order: `settleOf`, and that unit 1 has then stopped; runs one after the other; what holds after k accepted deliveries (`After`), and how it ends.
 -- Assumes nothing.
 use Prim.Native.Nat.{ℕ, zero, suc, _+_, _*_, _-_, _≤_, _<_}
 use mathlib.Core.Path.{_≡_, refl, sym, ap, _∙_, subst}
@@ -19,7 +19,7 @@ use Rattle.network.specs.declared.Answer.{Answer}
 use Rattle.network.specs.Count.{valueOf}
 use Rattle.network.specs.Calls.{Result, makeOf, deliverOf}
 use Rattle.network.specs.Demand3.{State, stateOf, delivered, deliverAll, runBytes, refusalAt, acceptedIn, Made, most, first}
-use Rattle.network.specs.Theorem.{served, stopped-refuses, refused-stays}
+use Rattle.network.specs.Theorem.{served, oldest-accepted, oldest-ends, stopped-refuses, refused-stays}
 
 -- ---- the call
 
@@ -27,14 +27,15 @@ use Rattle.network.specs.Theorem.{served, stopped-refuses, refused-stays
 abbrev pub cellZero : ℕ → List ℕ
 cellZero k = replicate k 0
 
-abbrev pub reported : List ℕ → State → Result
-reported stream S = record { answer = record { refusal = cond (first S .stopped) 0 (refusalAt stream S 0); network = S .network }; pool = S .pool }
+-- not refused
+abbrev pub settled : State → Result
+settled S = record { answer = record { refusal = 0; network = S .network }; pool = S .pool }
 
 abbrev pub unlessUnmade : ℕ → List ℕ → List ℕ → Result
-unlessUnmade zero stream pool = reported stream (runBytes stream pool (cellZero (most (instanceOf stream))))
+unlessUnmade zero stream pool = settled (runBytes stream pool (cellZero (most (instanceOf stream))))
 unlessUnmade (suc r) stream pool = makeOf stream pool
 
--- Making's refusal; or the run of (3n - 1) × N zeros, with the refusal it met where unit 1 has not stopped.
+-- Making's refusal; or none, with what the run of (3n - 1) × N zeros leaves.
 unfoldable pub settleOf : List ℕ → List ℕ → Result
 settleOf stream pool = unlessUnmade (makeOf stream pool .answer .refusal) stream pool
 
@@ -76,16 +77,20 @@ module _ (s pool : List ℕ) (made : Made s pool) where
   unfolding runBytes
   after-counts S k a = ap (λ (T : State). valueOf (T .network .core .deliveries)) (a .is) ∙ served s pool made (cellZero k) .deliveries ∙ a .accepted
 
-  -- one more that is accepted
-  pub after-next : (S : State) (k : ℕ) → After s (stateOf (makeOf s pool)) S k → refusalAt s S 0 ≡ 0 → After s (stateOf (makeOf s pool)) (delivered s S 0) (k + 1)
+  -- until unit 1 stops one more is accepted
+  after-accepted : (S : State) (k : ℕ) → After s (stateOf (makeOf s pool)) S k → first S .stopped ≡ false → refusalAt s S 0 ≡ 0
+  unfolding runBytes
+  after-accepted S k a = subst (λ (T : State). first T .stopped ≡ false → refusalAt s T 0 ≡ 0) (sym (a .is)) (oldest-accepted s pool made k)
+
+  pub after-next : (S : State) (k : ℕ) → After s (stateOf (makeOf s pool)) S k → first S .stopped ≡ false → After s (stateOf (makeOf s pool)) (delivered s S 0) (k + 1)
   unfolding runBytes deliverAll acceptedIn
-  after-next S k a e =
+  after-next S k a st =
       record {
         is = ap (λ T. delivered s T 0) (a .is) ∙ sym (deliver-append s (cellZero k) (0 ∷ []) (stateOf (makeOf s pool))) ∙ ap (deliverAll s (stateOf (makeOf s pool))) (sym (one-more s k));
         accepted =
             ap (acceptedIn s (stateOf (makeOf s pool))) (one-more s k) ∙ accepted-append s (cellZero k) (0 ∷ []) (stateOf (makeOf s pool))
             ∙ (let t : _≡_ {A = ℕ} (cond (eqb (refusalAt s (deliverAll s (stateOf (makeOf s pool)) (cellZero k)) 0) 0) 1 0) 1 =
-            ap (λ (T : State). cond (eqb (refusalAt s T 0) 0) 1 0) (sym (a .is)) ∙ ap (λ q. cond q 1 0) (eq-eqb (refusalAt s S 0) 0 e) in
+            ap (λ (T : State). cond (eqb (refusalAt s T 0) 0) 1 0) (sym (a .is)) ∙ ap (λ q. cond q 1 0) (eq-eqb (refusalAt s S 0) 0 (after-accepted S k a st)) in
             omega (arith, t, a .accepted));
       }
 
@@ -108,27 +113,23 @@ module _ (s pool : List ℕ) (made : Made s pool) where
 
   -- ---- how it ends
 
-  settled-is : settleOf s pool ≡ reported s (runBytes s pool (cellZero (most (instanceOf s))))
+  settled-is : settleOf s pool ≡ settled (runBytes s pool (cellZero (most (instanceOf s))))
   unfolding settleOf
   settled-is = ap (λ r. unlessUnmade r s pool) made
 
-  pub settles-stopped : (S : State) (k : ℕ) → After s (stateOf (makeOf s pool)) S k → first S .stopped ≡ true
-      → settleOf s pool ≡ record { answer = record { refusal = 0; network = S .network }; pool = S .pool }
+  -- the network that is handed back has come to its end
+  pub settle-ends : first (stateOf (settleOf s pool)) .stopped ≡ true
+  settle-ends = ap (λ r. first (stateOf r) .stopped) settled-is ∙ oldest-ends s pool made
+
+  pub settles-stopped : (S : State) (k : ℕ) → After s (stateOf (makeOf s pool)) S k → first S .stopped ≡ true → settleOf s pool ≡ settled S
   unfolding runBytes
-  settles-stopped S k a st =
-      settled-is ∙ ap (reported s) (after-refused S k a (λ z. twelve (sym z ∙ refuses)))
-      ∙ ap (λ t. record { answer = record { refusal = cond t 0 (refusalAt s S 0); network = S .network }; pool = S .pool }) st
+  settles-stopped S k a st = settled-is ∙ ap settled (after-refused S k a (λ z. twelve (sym z ∙ refuses)))
     where
       refuses : refusalAt s S 0 ≡ 12
       refuses = subst (λ (T : State). first T .stopped ≡ true → refusalAt s T 0 ≡ 12) (sym (a .is)) (stopped-refuses s pool made (cellZero k) 0) st
 
       twelve : _≡_ {A = ℕ} 0 12 → ⊥
       twelve e = absurd (omega arith)
-
-  pub settles-refused : (S : State) (k : ℕ) → After s (stateOf (makeOf s pool)) S k → first S .stopped ≡ false → (refusalAt s S 0 ≡ 0 → ⊥) → settleOf s pool ≡ deliverOf (S .network) s (S .pool) 0
-  settles-refused S k a st ne =
-      settled-is ∙ ap (reported s) (after-refused S k a ne) ∙ ap (λ t. record { answer = record { refusal = cond t 0 (refusalAt s S 0); network = S .network }; pool = S .pool }) st
-      ∙ ap (λ (T : State). record { answer = record { refusal = refusalAt s S 0; network = T .network }; pool = T .pool }) (sym (refused-stays s S 0 ne))
 
 -- a table or a pool that making refuses
 pub settles-unmade : (s pool : List ℕ) → (makeOf s pool .answer .refusal ≡ 0 → ⊥) → settleOf s pool ≡ makeOf s pool
@@ -177,16 +178,12 @@ module _ (s p : List ℕ) (a : Answer) (l : List ℕ) (e : (a ≡ makeOf s p .an
       next-is : _≡_ {A = State} (record { network = d .network; pool = m′ }) (delivered s (record { network = net; pool = m }) 0)
       next-is = λ i. record { network = f .0 i .network; pool = f .1 i }
 
-      pub settle-refused : first (record { network = net; pool = m }) .stopped ≡ false → (d .refusal ≡ 0 → ⊥) → (d ≡ settleOf s p .answer) × (m′ ≡ settleOf s p .pool)
-      settle-refused st ne =
-          let q = settles-refused s p made (record { network = net; pool = m }) (r .0) from-making st (λ y. ne (ap (λ (x : Answer). x .refusal) (f .0) ∙ y)) in
-          (f .0 ∙ ap (λ (x : Result). x .answer) (sym q), f .1 ∙ ap (λ (x : Result). x .pool) (sym q))
-
-      module _ (y : d .refusal ≡ 0) where
+      -- unit 1 has not stopped
+      module _ (st : first (record { network = net; pool = m }) .stopped ≡ false) where
         next-after : After s (stateOf (makeOf s p)) (record { network = d .network; pool = m′ }) (r .0 + 1)
         next-after =
             subst (λ (S : State). After s (stateOf (makeOf s p)) S (r .0 + 1)) (sym next-is)
-            (after-next s p made (record { network = net; pool = m }) (r .0) from-making (ap (λ (x : Answer). x .refusal) (sym (f .0)) ∙ y))
+            (after-next s p made (record { network = net; pool = m }) (r .0) from-making st)
 
         pub reached-next : Reached (d .network) m′
         reached-next = (r .0 + 1, subst (λ (S₀ : State). After s S₀ (record { network = d .network; pool = m′ }) (r .0 + 1)) (sym start-is) next-after)

@@ -1,6 +1,6 @@
 -- DEMAND 3, proved (`demand3`): the statement is Demand3.antt's. The byte run follows the run over messages, delivery by delivery
 -- (Follow), and of that run the machine's theorem gives all parts (Simulation.Runs).
--- In order: the two runs side by side; one run; two runs of one table.
+-- In order: the two runs side by side; one run, and that it can be brought to its end (`finishes`); two runs of one table.
 -- Assumes nothing.
 use Prim.Native.Nat.{ℕ, zero, suc, _+_, _*_, _-_, _^_, _≤_, _<_, pred}
 use mathlib.Core.Path.{_≡_, refl, sym, ap, _∙_, subst}
@@ -10,7 +10,7 @@ use mathlib.Core.List.{List, [], _∷_, _++_, append-nil, append-assoc}
 use native.Mathlib.Omega.{arith}
 use native.Mathlib.Nat.{le-antisymm, zero-add}
 use lib.Dec.{leb, eqb}
-use lib.ListN.{length, take, drop, length-append}
+use lib.ListN.{length, take, drop, length-append, replicate}
 use borrow.Author.Tests.{eq-eqb, ne-eqb}
 use Rattle.table.specs.Stream.{unitsOf, Accepted}
 use Rattle.costs.specs.Instance.{viewOf, instanceOf}
@@ -29,7 +29,7 @@ use Rattle.network.specs.Run.{History, Delivery, unitAt, stopped, kept, 
 use Rattle.network.specs.Calls as C
 use Rattle.network.specs.Calls.{Result, makeOf, deliverRefusal, deliverOf}
 use Rattle.network.specs.Demand3.{State, stateOf, delivered, deliverAll, runBytes, refusalAt, acceptedIn, Made, most, Honest, Served, Demand3, first}
-use Rattle.network.specs.Simulation.Runs.{stream-free, HonestDelivery, Ran, ran}
+use Rattle.network.specs.Simulation.Runs.{stream-free, run-finishes, oldest-delivers, oldest-stops, HonestDelivery, Ran, ran}
 use Rattle.network.specs.Follow.Holds.{Holds, begin-holds, deliver-holds}
 use Rattle.network.specs.Follow.Deliveries.{numberOf, more, Tracks, Fits, Delivers, deliver-tracks}
 use Rattle.network.specs.Follow.Making.{accepted-table, make-tracks}
@@ -164,6 +164,12 @@ module _ (s pool : List ℕ) (made : Made s pool) where
       go (R.refusedBy r) h = inr h
       go (R.delivered K) h = inl refl
 
+  -- until box 1 stops some delivery is accepted
+  goes-on : (cs : List ℕ) → stopped (run (instanceOf s) cs) ≡ false → (c : ℕ) × (refusalAt s (runBytes s pool cs) c ≡ 0)
+  goes-on cs e =
+      let p = facts s (accepted-table s pool made) cs .progress e in
+      (p .0, step s (accepted-table s pool made) (runBytes s pool cs) cs (p .0) (side cs) .number ∙ ap numberOf (p .2))
+
   pub served : (cs : List ℕ) → Served s pool cs
   served cs =
       record {
@@ -172,6 +178,7 @@ module _ (s pool : List ℕ) (made : Made s pool) where
         bounded = subst (λ x. x ≤ most (instanceOf s)) (sym (counted cs)) (f .bounded);
         ends = subst (λ u. acceptedIn s (stateOf (makeOf s pool)) cs ≡ most (instanceOf s) → u .stopped ≡ true) (sym box) (λ e. f .ends (sym (counted cs) ∙ e));
         waits = subst (λ u. u .stopped ≡ false → 1 ≤ runBytes s pool cs .network .used) (sym box) (λ e. subst (λ x. 1 ≤ x) (sym (t .follows .used)) (f .waits e));
+        progress = subst (λ u. u .stopped ≡ false → (c : ℕ) × (refusalAt s (runBytes s pool cs) c ≡ 0)) (sym box) (goes-on cs);
         full = subst (λ u. u .stopped ≡ true → Assignment (instanceOf s) (u .best)) (sym box) (f .full);
         sum = subst (λ u. u .stopped ≡ true → total (instanceOf s) (u .best) ≡ u .bound) (sym box) (f .sum);
         least = subst (λ u. u .stopped ≡ true → (l : List ℕ) → Assignment (instanceOf s) l → u .bound ≤ total (instanceOf s) l) (sym box) (f .least);
@@ -191,12 +198,30 @@ module _ (s pool : List ℕ) (made : Made s pool) where
       box : first (runBytes s pool cs) ≡ unitAt (run (instanceOf s) cs .units) 0
       box = ap (λ (us : List UnitState). unitAt us 0) (side cs .tracks .follows .units)
 
+  same-stop : (cs : List ℕ) → first (runBytes s pool cs) .stopped ≡ stopped (run (instanceOf s) cs)
+  same-stop cs = ap (λ (us : List UnitState). unitAt us 0 .stopped) (side cs .tracks .follows .units)
+
+  -- every list of cells goes on to one after which box 1 has stopped
+  pub finishes : (cs : List ℕ) → (ds : List ℕ) × (first (runBytes s pool (cs ++ ds)) .stopped ≡ true)
+  finishes cs =
+      let f = run-finishes (instanceOf s) (sound-of s (accepted-table s pool made)) (stream-free s) cs in
+      (f .0, same-stop (cs ++ f .0) ∙ f .1)
+
+  -- Oldest first, cell 0 each time, is accepted until box 1 stops, and brings the run to its end.
+  pub oldest-accepted : (m : ℕ) → first (runBytes s pool (replicate m 0)) .stopped ≡ false → refusalAt s (runBytes s pool (replicate m 0)) 0 ≡ 0
+  oldest-accepted m e =
+      let d = oldest-delivers (instanceOf s) (sound-of s (accepted-table s pool made)) (stream-free s) m (sym (same-stop (replicate m 0)) ∙ e) in
+      step s (accepted-table s pool made) (runBytes s pool (replicate m 0)) (replicate m 0) 0 (side (replicate m 0)) .number ∙ ap numberOf (d .1)
+
+  pub oldest-ends : first (runBytes s pool (replicate (most (instanceOf s)) 0)) .stopped ≡ true
+  oldest-ends = same-stop (replicate (most (instanceOf s)) 0) ∙ oldest-stops (instanceOf s) (sound-of s (accepted-table s pool made)) (stream-free s)
+
   -- once box 1 has stopped every delivery is refused by 12
   pub stopped-refuses : (cs : List ℕ) (c : ℕ) → first (runBytes s pool cs) .stopped ≡ true → refusalAt s (runBytes s pool cs) c ≡ 12
   unfolding R.handOver
   stopped-refuses cs c e =
       step s (accepted-table s pool made) (runBytes s pool cs) cs c (side cs) .number
-      ∙ ap (λ t. numberOf (R.unlessStopped t (instanceOf s) (run (instanceOf s) cs) c)) (sym (ap (λ (us : List UnitState). unitAt us 0 .stopped) (side cs .tracks .follows .units)) ∙ e)
+      ∙ ap (λ t. numberOf (R.unlessStopped t (instanceOf s) (run (instanceOf s) cs) c)) (sym (same-stop cs) ∙ e)
 
 -- ---- a refused delivery changes nothing
 

@@ -8,8 +8,7 @@ ghost use mathlib.Core.Path.{_≡_};
 ghost use Rattle.network.specs.Run.{unitAt};
 ghost use Rattle.network.specs.Settle.{settleOf};
 
-// Makes a network of a stream and delivers cell 0 until unit 1 stops or a delivery is refused. Refusals: making's, then a delivery's,
-// with the deliveries before it standing.
+// Makes a network of a stream and delivers cell 0 until unit 1 stops; none of these deliveries is refused. Refusals: making's.
 pub fn settle(stream: &[u8], pool: &mut [u8]) -> Answer
     ensures { λ r. ⌜ (r ≡ settleOf (now (stream .entry)) (now (pool .entry)) .answer) × (now (pool .exit) ≡ settleOf (now (stream .entry)) (now (pool .entry)) .pool) ⌝ }
 {
@@ -20,9 +19,6 @@ pub fn settle(stream: &[u8], pool: &mut [u8]) -> Answer
     let mut net = made.network;
     while !has_stopped(net) {
         let next = deliver(net, stream, pool, 0);
-        if next.refusal != 0 {
-            return next;
-        }
         net = next.network;
     }
     Answer {

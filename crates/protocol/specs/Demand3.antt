@@ -3,15 +3,24 @@
 --     demand3     Laws P → 0 < P .n → (room : ℕ) (cells : List ℕ) → Demand3 P (run P room (make P) cells)
 --     two-runs    of any two lists after which unit 1 has stopped, and any two rooms, the bounds are equal
 --     counts-fit  with at most 16 units the records and the accepted deliveries are fewer than 2 ^ 128
+--     progress    in a pool with room for n × n + n messages some cell's delivery is accepted until unit 1 stops
+--     finishes    so every list of cells goes on to one after which it has stopped
+--
+-- Oldest/Run.antt proves of deliveries of cell 0 alone, for a pool with room for 3 × (n × n + 3 × n) + n messages:
+--
+--     oldest-accepted  each is accepted until unit 1 stops
+--     oldest-ends      after as many as demand 3 allows it has stopped
 --
 -- Read first: Problem.antt (what is asked of costs), Machine.antt (the rules), and this. The rest is proof:
 -- Lists, Tests, Walk            small facts; the ways through a step, a delivery and a run
 -- Safety                        facts that only grow: about records written and messages ever sent, whatever the pool does
 -- Liveness                      until unit 1 stops its CPA waits somewhere; the pool is any predicate on messages
 -- Count                         each record pays for the deliveries that follow from it
--- Theorem                       the three together
+-- Progress                      messages whose step sends more than one are few, so the pool never refuses all
+-- Theorem                       the four together
+-- Oldest                        delivered oldest first the pool is a queue, in rounds: each unit sends at most two CPAs in one
 -- Assumes nothing.
-use Prim.Native.Nat.{ℕ, zero, suc, _*_, _-_, _≤_}
+use Prim.Native.Nat.{ℕ, zero, suc, _+_, _*_, _-_, _≤_}
 use mathlib.Core.Path.{_≡_}
 use mathlib.Core.Logic.{_≢_}
 use mathlib.Core.Bool.{true, false}
@@ -35,6 +44,10 @@ mostEach P = 3 * P .n - 1
 
 abbrev pub most : Problem → ℕ
 most P = mostEach P * N P
+
+-- room in a pool with which it never refuses every message that waits
+abbrev pub roomNeeded : Problem → ℕ
+roomNeeded P = P .n * P .n + P .n
 
 pub record Demand3 (P : Problem) (S : Network) : Type 0 where
   -- no prefix is written twice

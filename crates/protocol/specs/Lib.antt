@@ -7,6 +7,8 @@ pub mod Walk
 pub mod Safety
 pub mod Liveness
 pub mod Count
+pub mod Progress
 pub mod Theorem
+pub mod Oldest
 pub mod Cases
 pub mod Simulation

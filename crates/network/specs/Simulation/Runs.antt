@@ -9,7 +9,7 @@ use mathlib.Core.List.{List, [], _∷_, _++_}
 use native.Mathlib.Omega.{arith}
 use native.Mathlib.Nat.{le-trans}
 use lib.Dec.{leb, ltb}
-use lib.ListN.{length, getD, take, drop, take-append-drop}
+use lib.ListN.{length, getD, take, drop, take-append-drop, replicate}
 use Rattle.costs.specs.Instance.{Instance, viewOf, instanceOf, isValue, tableCost}
 use Rattle.costs.specs.Bounds.{Assignment, total}
 use Rattle.costs.specs.Laws.{Sound, laws-of, costOf, problemOf, closed-limit}
@@ -24,7 +24,8 @@ use Rattle.protocol.specs.Machine as M
 use Rattle.protocol.specs.Machine.{Msg, Network}
 use Rattle.protocol.specs.Lists.{In, not-in-nil}
 use Rattle.protocol.specs.Demand3 as D
-use Rattle.protocol.specs.Theorem.{Kept, run-kept, kept-demand3}
+use Rattle.protocol.specs.Theorem.{Kept, run-kept, kept-demand3, progress, finishes, enough-room}
+use Rattle.protocol.specs.Oldest.Run.{oldest-accepted, oldest-ends, enough-oldest}
 use Rattle.protocol.specs.Safety.Network.{SafeNetwork, make-safe}
 use Rattle.protocol.specs.Safety.Run.{deliver-safe}
 use Rattle.protocol.specs.Count.Tally.{Tally, make-tally, deliver-tally}
@@ -140,6 +141,39 @@ module _ (I : Instance) (snd : Sound I) (free : FreeWhenUnassigned I) where
           go cs (kept H (handOver I H c)) (M.deliver (problemOf I) capacity S c) (kept-corresponds H (handOver I H c) (M.deliver (problemOf I) capacity S c) (deliver-corresponds I snd free H S c r safe (t .stops)))
           (deliver-safe (problemOf I) laws capacity S c safe) (deliver-tally (problemOf I) laws (snd .n1) capacity S c safe t)
 
+  same-stop : (cs : List ℕ) → stopped (run I cs) ≡ M.run (problemOf I) capacity (M.make (problemOf I)) cs .units 0 .stopped
+  same-stop cs = run-corresponds cs .units 0 (snd .n1) .common .stopped-is
+
+  -- every list of cells goes on to one after which box 1 has stopped
+  pub run-finishes : (cs : List ℕ) → (ds : List ℕ) × (stopped (run I (cs ++ ds)) ≡ true)
+  run-finishes cs =
+      let f = finishes (problemOf I) laws (snd .n1) capacity (enough-room (problemOf I) laws (snd .n1) (snd .n16)) cs in
+      (f .0, same-stop (cs ++ f .0) ∙ f .1)
+
+  -- a delivery that the machine accepts is accepted
+  accepted-delivers : (cs : List ℕ) (c : ℕ)
+      → M.deliver (problemOf I) capacity (M.run (problemOf I) capacity (M.make (problemOf I)) cs) c .accepted ≡ suc (M.run (problemOf I) capacity (M.make (problemOf I)) cs .accepted)
+      → (K : History) × (handOver I (run I cs) c ≡ R.delivered K)
+  accepted-delivers cs c a =
+      let k = run-kept (problemOf I) laws (snd .n1) capacity cs in
+      go (handOver I (run I cs) c) refl (deliver-corresponds I snd free (run I cs) S c (run-corresponds cs) (k .network) (k .tally .stops))
+    where
+      S : Network
+      S = M.run (problemOf I) capacity (M.make (problemOf I)) cs
+
+      go : (x : Delivery) → handOver I (run I cs) c ≡ x → Followed I snd free (run I cs) (stopped (run I cs)) x (M.deliver (problemOf I) capacity S c) → (K : History) × (handOver I (run I cs) c ≡ R.delivered K)
+      go (R.refusedBy y) q h = absurd (omega (arith, a, run-corresponds cs .accepted, h .0 .accepted))
+      go (R.delivered K) q h = (K, q)
+
+  -- ---- oldest first: cell 0 each time is accepted until box 1 stops, and brings it to its end
+
+  pub oldest-delivers : (m : ℕ) → stopped (run I (replicate m 0)) ≡ false → (K : History) × (handOver I (run I (replicate m 0)) 0 ≡ R.delivered K)
+  oldest-delivers m e =
+      accepted-delivers (replicate m 0) 0 (oldest-accepted (problemOf I) laws (snd .n1) capacity (enough-oldest (problemOf I) (snd .n16)) m (sym (same-stop (replicate m 0)) ∙ e))
+
+  pub oldest-stops : stopped (run I (replicate (most I) 0)) ≡ true
+  oldest-stops = same-stop (replicate (most I) 0) ∙ oldest-ends (problemOf I) laws (snd .n1) capacity (enough-oldest (problemOf I) (snd .n16))
+
   -- ---- what a run keeps
 
   -- the refusal that a delivery gives
@@ -160,6 +194,7 @@ module _ (I : Instance) (snd : Sound I) (free : FreeWhenUnassigned I) where
     pub records-fit : length (H .written) < 2 ^ 128
     pub deliveries-fit : length (H .handed) < 2 ^ 128
     pub honest : (c : ℕ) → HonestDelivery H (handOver I H c)
+    pub progress : stopped H ≡ false → (c : ℕ) × (K : History) × (handOver I H c ≡ R.delivered K)
 
   pub ran : (cs : List ℕ) → Ran (run I cs)
   ran cs =
@@ -176,6 +211,10 @@ module _ (I : Instance) (snd : Sound I) (free : FreeWhenUnassigned I) where
         records-fit = subst (λ x. x < 2 ^ 128) (sym (r .whole)) (records-fit (problemOf I) laws (S .units) (k .network .safe) (snd .n16));
         deliveries-fit = le-trans (suc-le-suc (subst (λ x. x ≤ most I) (sym (r .accepted)) (d .bounded))) (most-fits (problemOf I) laws (snd .n16));
         honest = λ c. honest (M.deliver (problemOf I) capacity S c) (handOver I (run I cs) c) (deliver-corresponds I snd free (run I cs) S c r (k .network) (k .tally .stops));
+        progress = λ e.
+            let p = progress (problemOf I) laws (snd .n1) capacity (enough-room (problemOf I) laws (snd .n1) (snd .n16)) cs (sym same ∙ e) in
+            let q = accepted-delivers cs (p .0) (p .1) in
+            (p .0, q .0, q .1);
       }
     where
       S : Network
@@ -191,7 +230,7 @@ module _ (I : Instance) (snd : Sound I) (free : FreeWhenUnassigned I) where
       d = kept-demand3 (problemOf I) laws (snd .n1) (M.run (problemOf I) capacity (M.make (problemOf I)) cs) k
 
       same : stopped (run I cs) ≡ M.run (problemOf I) capacity (M.make (problemOf I)) cs .units 0 .stopped
-      same = r .units 0 (snd .n1) .common .stopped-is
+      same = same-stop cs
 
       bound : unitAt (run I cs .units) 0 .bound ≡ M.run (problemOf I) capacity (M.make (problemOf I)) cs .units 0 .bound
       bound = r .units 0 (snd .n1) .common .bound-is

@@ -11,7 +11,7 @@ use Rattle.costs.specs.Instance.{instanceOf}
 use Rattle.network.specs.Count.{valueOf}
 use Rattle.network.specs.Calls.{Result, makeOf, deliverOf}
 use Rattle.network.specs.Demand3.{State, stateOf, delivered, refusalAt, Made, most}
-use Rattle.network.specs.Settle.{After, Reached, settle-unmade, reached-start, reached-next, measure-falls, settle-refused, settle-stopped}
+use Rattle.network.specs.Settle.{After, Reached, settle-unmade, reached-start, reached-next, measure-falls, settle-stopped}
 use Rattle.network.proofs.settling.settle.Statement.{statement}
 use Rattle.network.proofs.settling.settle.Tie as tie
 use Rattle.network.proofs.settling.settle.Reads as reads
@@ -50,59 +50,35 @@ has-stopped-requires c κs = search needs
 deliver-requires : tie.Need-deliver-requires Inv-loop μ-loop
 deliver-requires c κs = search needs
 
+loop-less : tie.Need-loop-less Inv-loop μ-loop
+loop-less c =
+    let a = c .before .before .before .before .before .before .before .before .before .before .before .before .before .before .before .before .before .args in
+    let k = c .before .before .before .before .before .before .before .before .before .before .before .before .before .make in
+    let l = c .before .before .before .before .before .before .before .loop in
+    let d = c .before .before .before .deliver in
+    measure-falls (a .stream .now) (a .pool .now) (k .result) (k .last .1 .0) (k .ensures) (c .before .before .before .before .before .before .before .before .before .if1 .left) (l .net) (l .pool) (l .inv .1) (d .result) (d .last .1 .1 .0) (d .ensures)
+    (sym (c .before .before .before .before .before .before .has-stopped .ensures) ∙ not-true (c .before .before .before .before .before .before .has-stopped .result) (c .before .before .before .before .before .if2 .taken))
+
+loop-again : tie.Need-loop-again Inv-loop μ-loop
+loop-again c =
+    let a = c .before .before .before .before .before .before .before .before .before .before .before .before .before .before .before .before .before .args in
+    let k = c .before .before .before .before .before .before .before .before .before .before .before .before .before .make in
+    let l = c .before .before .before .before .before .before .before .loop in
+    let d = c .before .before .before .deliver in (
+      search needs,
+      reached-next (a .stream .now) (a .pool .now) (k .result) (k .last .1 .0) (k .ensures) (c .before .before .before .before .before .before .before .before .before .if1 .left) (l .net) (l .pool) (l .inv .1) (d .result) (d .last .1 .1 .0) (d .ensures)
+          (sym (c .before .before .before .before .before .before .has-stopped .ensures) ∙ not-true (c .before .before .before .before .before .before .has-stopped .result) (c .before .before .before .before .before .if2 .taken)),
+    )
+
 same-length-2 : tie.Need-same-length-2 Inv-loop μ-loop
 same-length-2 c = search needs
 
 returns-2 : tie.Need-returns-2 Inv-loop μ-loop
 returns-2 c =
-    let a = c .before .before .before .before .before .before .before .before .before .before .before .before .before .before .before .before .before .before .args in
-    let k = c .before .before .before .before .before .before .before .before .before .before .before .before .before .before .make in
-    let l = c .before .before .before .before .before .before .before .before .loop in
-    let d = c .before .before .before .before .deliver in
-    settle-refused (a .stream .now) (a .pool .now) (k .result) (k .last .1 .0) (k .ensures) (c .before .before .before .before .before .before .before .before .before .before .if1 .left) (l .net) (l .pool) (l .inv .1) (d .result) (d .last .1 .1 .0) (d .ensures)
-    (sym (c .before .before .before .before .before .before .before .has-stopped .ensures) ∙ not-true (c .before .before .before .before .before .before .before .has-stopped .result) (c .before .before .before .before .before .before .if2 .taken)) (c .if3 .taken)
-
-loop-less : tie.Need-loop-less Inv-loop μ-loop
-loop-less c =
-    let a = c .before .before .before .before .before .before .before .before .before .before .before .before .before .before .before .before .before .before .before .args in
-    let k = c .before .before .before .before .before .before .before .before .before .before .before .before .before .before .before .make in
-    let l = c .before .before .before .before .before .before .before .before .before .loop in
-    let d = c .before .before .before .before .before .deliver in
-    measure-falls (a .stream .now) (a .pool .now) (k .result) (k .last .1 .0) (k .ensures) (c .before .before .before .before .before .before .before .before .before .before .before .if1 .left) (l .net) (l .pool) (l .inv .1) (d .result) (d .last .1 .1 .0) (d .ensures) (c .before .if3 .left)
-
-loop-again : tie.Need-loop-again Inv-loop μ-loop
-loop-again c =
-    let a = c .before .before .before .before .before .before .before .before .before .before .before .before .before .before .before .before .before .before .before .args in
-    let k = c .before .before .before .before .before .before .before .before .before .before .before .before .before .before .before .make in
-    let l = c .before .before .before .before .before .before .before .before .before .loop in
-    let d = c .before .before .before .before .before .deliver in
-    (search needs, reached-next (a .stream .now) (a .pool .now) (k .result) (k .last .1 .0) (k .ensures) (c .before .before .before .before .before .before .before .before .before .before .before .if1 .left) (l .net) (l .pool) (l .inv .1) (d .result) (d .last .1 .1 .0) (d .ensures) (c .before .if3 .left))
-
-same-length-3 : tie.Need-same-length-3 Inv-loop μ-loop
-same-length-3 c = search needs
-
-returns-3 : tie.Need-returns-3 Inv-loop μ-loop
-returns-3 c =
     let a = c .before .before .before .before .before .before .before .before .before .before .before .before .args in
     let k = c .before .before .before .before .before .before .before .before .make in
     let l = c .before .before .loop in
     settle-stopped (a .stream .now) (a .pool .now) (k .result) (k .last .1 .0) (k .ensures) (c .before .before .before .before .if1 .left) (l .net) (l .pool) (l .inv .1) (sym (c .before .has-stopped .ensures) ∙ not-false (c .before .has-stopped .result) (c .if2 .left))
 
 pub settle-spec : {M : Type 1} → statement M
-settle-spec =
-    tie.close
-    (tie.spec
-    Inv-loop
-    μ-loop
-    make-requires
-    same-length
-    returns
-    loop-holds
-    has-stopped-requires
-    deliver-requires
-    same-length-2
-    returns-2
-    loop-less
-    loop-again
-    same-length-3
-    returns-3)
+settle-spec = tie.close (tie.spec Inv-loop μ-loop make-requires same-length returns loop-holds has-stopped-requires deliver-requires loop-less loop-again same-length-2 returns-2)
