@@ -1,4 +1,7 @@
--- What every layer counts with: bytes as numbers, domain sizes in range, finite sums and least values.
+-- What every layer counts with: 01's numbers, bytes as numbers, domain sizes in range, finite sums and least values, refusals, bytes put into a buffer.
+pub mod Limits
 pub mod Bytes
 pub mod Sums
 pub mod Shape
+pub mod Refusal
+pub mod Put

@@ -1,6 +1,7 @@
--- Finite sums and least values over numbers. Their laws are in crate costs, specs/Laws/Sums.antt.
+-- Finite sums and least values over numbers. Their laws are in Sums/Laws.
 -- Assumes nothing.
 use Prim.Native.Nat.{ℕ, zero, suc, _+_, min}
+pub mod Laws
 
 -- f lo + f (lo + 1) + .., m of them
 abbrev pub sumFrom : (ℕ → ℕ) → ℕ → ℕ → ℕ

@@ -1,0 +1,65 @@
+-- The numbers of document 01 that more than one place goes by, each here alone; src/lib.rt has the same for code.
+-- Assumes nothing.
+use Prim.Native.Nat.{ℕ, _*_, _-_}
+
+-- ---- units and costs
+
+-- 01: "n units (boxes), 1 to 16", and as many places in every array of a unit and of a message
+abbrev pub places : ℕ
+places = 16
+
+-- 01: "Each pair i < j has a cost, 0 to 60,000"
+abbrev pub pairLimit : ℕ
+pairLimit = 60000
+
+-- 01: "A bound is at most 7,200,000": so a total too, of the 120 pairs of 16 units
+abbrev pub totalLimit : ℕ
+totalLimit = 7200000
+
+-- 01: "an estimate at most 7,200,000"
+abbrev pub estimateLimit : ℕ
+estimateLimit = 7200000
+
+-- 01: "A paper or copy with k filled units costs at most 30,000 × k × (k-1)"
+abbrev pub prefixLimit : ℕ → ℕ
+prefixLimit k = 30000 * k * (k - 1)
+
+-- 01: "None as a bound is 4,294,967,295"
+abbrev pub NONE : ℕ
+NONE = 4294967295
+
+-- 01, refusal 16: "more than 1,048,576 lottings"
+abbrev pub searchLimit : ℕ
+searchLimit = 1048576
+
+-- ---- bytes
+
+-- 01: "Blocks of 512 bytes", of which 506 are payload and the check is over the first 510; at most 122 in a file
+abbrev pub blockSize : ℕ
+blockSize = 512
+
+abbrev pub payloadSize : ℕ
+payloadSize = 506
+
+abbrev pub checkedSize : ℕ
+checkedSize = 510
+
+abbrev pub fileSize : ℕ
+fileSize = 62464
+
+-- 01: "Radio message, 64 bytes"; "The pool is 1,024 cells of 64 bytes"
+abbrev pub messageSize : ℕ
+messageSize = 64
+
+abbrev pub poolCells : ℕ
+poolCells = 1024
+
+-- 01, refusal 13: "1,024 for sending, 65,536 for the pool, 61,457 for a stream"
+abbrev pub sendingSize : ℕ
+sendingSize = 1024
+
+abbrev pub poolSize : ℕ
+poolSize = 65536
+
+abbrev pub streamSize : ℕ
+streamSize = 61457
