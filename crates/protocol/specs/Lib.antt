@@ -3,6 +3,7 @@ pub mod Machine
 pub mod Demand3
 pub mod Lists
 pub mod Tests
+pub mod Totals
 pub mod Walk
 pub mod Safety
 pub mod Liveness
