@@ -162,7 +162,7 @@ module _ (P : Problem) (laws : Laws P) (S : Network) (safe : SafeNetwork P S) (h
 
 module _ (P : Problem) (laws : Laws P) where
   pub deliver-asked : (room : ℕ) (S : Network) (c : ℕ) → SafeNetwork P S → Asked P S → Asked P (deliver P room S c)
-  deliver-asked room S c safe h = deliver-cases P room S (Asked P) c h (λ b a m u ms e st d. asked P laws S safe h b a m u ms e d)
+  deliver-asked room S c safe h = deliver-cases P room S (Asked P) c h (λ b a m u ms e st d le. asked P laws S safe h b a m u ms e d)
 
   pub make-asked : Asked P (make P)
   make-asked = go (assign P 0 fresh) (λ lt. try-sent P 0 lt (P .size 0 - 0) false (counted fresh))
