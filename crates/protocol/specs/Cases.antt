@@ -3,12 +3,12 @@
 -- Assumes nothing.
 use Prim.Native.Nat.{ℕ, _+_, _*_, _-_}
 use mathlib.Core.Path.{_≡_, refl}
-use mathlib.Core.Bool.{Bool, true}
-use mathlib.Core.List.{List, [], _∷_}
+use mathlib.Core.Bool.{Bool, true, false}
+use mathlib.Core.List.{List, [], _∷_, map}
 use lib.ListN.{length, getD}
 use Rattle.costs.specs.Instance.{Instance}
 use Rattle.costs.specs.Laws.{problemOf}
-use Rattle.protocol.specs.Machine.{make, run}
+use Rattle.protocol.specs.Machine.{make, deliver, run}
 use Rattle.protocol.specs.Demand3.{written, most}
 
 -- what is seen of a run: whether unit 1 has stopped, its bound and best assignment (the last unit's value first), records, accepted deliveries
@@ -44,3 +44,29 @@ no-solution = refl
 -- unit 2 has backtracked when an estimate for its last CPA comes: it is stale, and not refused
 pub late-estimate : after three (0 ∷ 2 ∷ 2 ∷ 2 ∷ 4 ∷ 4 ∷ []) ≡ (true, 1, 1 ∷ 1 ∷ 1 ∷ [], 3, 6)
 late-estimate = refl
+
+-- ---- a pool with too few cells
+
+-- four units of 2, 2, 2 and 1 values: the costs of the pairs (1,2), (1,3), (1,4), (2,3), (2,4), and (3,4) behind a row of zeros
+abbrev four : Instance
+four =
+    record {
+      n = 4;
+      dom = λ k. getD (2 ∷ 2 ∷ 2 ∷ 1 ∷ []) k 0;
+      cost = λ i u j v.
+          getD (2 ∷ 2 ∷ 1 ∷ 0 ∷ 0 ∷ 0 ∷ 1 ∷ 0 ∷ 0 ∷ 0 ∷ 1 ∷ 0 ∷ 0 ∷ 0 ∷ 0 ∷ 0 ∷ 0 ∷ 0 ∷ 1 ∷ 0 ∷ 0 ∷ 0 ∷ 0 ∷ 0 ∷ 0 ∷ 0 ∷ 1 ∷ 0 ∷ []) ((2 * i + j - 1) * 4 + (u - 1) * 2 + (v - 1)) 0;
+    }
+
+-- 24 deliveries to its network in so many cells: whether unit 1 has stopped, how many were accepted, and how many are with one of the five that then wait
+abbrev crowded : ℕ → Bool × ℕ × List ℕ
+crowded room =
+    let P = problemOf four in
+    let S = run P room (make P) (0 ∷ 0 ∷ 0 ∷ 4 ∷ 1 ∷ 5 ∷ 0 ∷ 1 ∷ 3 ∷ 2 ∷ 3 ∷ 3 ∷ 3 ∷ 1 ∷ 3 ∷ 3 ∷ 0 ∷ 0 ∷ 0 ∷ 0 ∷ 0 ∷ 1 ∷ 1 ∷ 1 ∷ []) in
+    (S .units 0 .stopped, S .accepted, map (λ c. deliver P room S c .accepted) (0 ∷ 1 ∷ 2 ∷ 3 ∷ 4 ∷ []))
+
+-- In six cells it sticks: two estimates for unit 1, two for unit 2 and its CPA coming back wait, and each delivery is refused by 14. With one cell more none is.
+pub stuck : crowded 6 ≡ (false, 24, 24 ∷ 24 ∷ 24 ∷ 24 ∷ 24 ∷ [])
+stuck = refl
+
+pub not-stuck : crowded 7 ≡ (false, 24, 25 ∷ 25 ∷ 25 ∷ 25 ∷ 25 ∷ [])
+not-stuck = refl

@@ -11,7 +11,7 @@ use mathlib.Core.List.{List, []}
 use native.Mathlib.Omega.{arith}
 use Rattle.base.specs.Sums.{sumTo}
 pub use Rattle.message.specs.Message.{NONE}
-pub use Rattle.costs.specs.Problem.{Problem, InDomains, Full, ClosedBy, Closed, Laws, closed-mono, closed-by-values, closed-full, closed-least}
+pub use Rattle.costs.specs.Problem.{Problem, InDomains, Full, Closed, Laws, closed-mono, closed-by-values, closed-full, closed-least}
 
 module _ (P : Problem) where
   -- a bound is none, or the total of its assignment and below none

@@ -4,29 +4,29 @@
 -- Assumes nothing.
 use Prim.Native.Nat.{ℕ, zero, suc, _+_, _*_, _-_, _≤_, _<_, pred}
 use mathlib.Core.Path.{_≡_, refl, sym, ap, _∙_, subst}
-use mathlib.Core.Logic.{_⊎_, inl, inr}
-use mathlib.Core.Bool.{Bool, true, false, cond, _||_}
-use mathlib.Core.List.{List, [], _∷_, _++_, reverse}
+use mathlib.Core.Logic.{inr}
+use mathlib.Core.Bool.{Bool, true, false, _||_}
+use mathlib.Core.List.{List, _∷_, reverse}
 use native.Mathlib.Omega.{arith}
 use lib.Dec.{ltb, leb, eqb, eqb·suc-zero}
 use lib.ListN.{length, getD, set, take, length-set}
-use lib.Seq.{getD-set-same, getD-set-other, take-suc, getD-take}
-use borrow.Author.Tests.{eqb-true, lt-ltb}
+use lib.Seq.{getD-set-same, getD-take}
+use borrow.Author.Tests.{eqb-true}
 use Rattle.costs.specs.Instance.{Instance, View, viewOf}
 use Rattle.costs.specs.Bounds.{costWith, h}
 use Rattle.costs.specs.Laws.{against, costOf, lookaheadOf, problemOf}
-use Rattle.costs.specs.Laws.Prefix.{pre, length-pre, pre-set, pre-set-next, cost-with-prefix, cost-next, lookahead-next}
-use Rattle.message.specs.declared.Kind.the-variants.{Cpa, Request, Estimate, Solution, Stop}
+use Rattle.costs.specs.Laws.Prefix.{pre, pre-set, pre-set-next, cost-with-prefix, cost-next, lookahead-next}
+use Rattle.message.specs.declared.Kind.the-variants.{Solution, Stop}
 use Rattle.message.specs.Message.{Packet}
 use Rattle.unit.specs.declared.Unit.{Unit as UnitState}
-use Rattle.unit.specs.State.{zeros, withBest, withEstimates, withCounter, ownValue, left}
+use Rattle.unit.specs.State.{zeros, withBest}
 use Rattle.unit.specs.Step as U
-use Rattle.unit.specs.Step.{Out, accepted, bareCost, takeOff, carried, takeLower}
+use Rattle.unit.specs.Step.{takeOff, carried}
 use Rattle.unit.specs.Send.{packets, each, cpaTo, requestTo, boundTo, handBack, solutions}
 use Rattle.protocol.specs.Machine as M
-use Rattle.protocol.specs.Machine.{Msg, Agent, Record}
-use Rattle.protocol.specs.Simulation.Stamps.{rank, Digits, FilledTo, rank-set, zero-place, zeros-filled, zeros-digits, digits-set, filled-next, filled-off, take-is-prefix}
-use Rattle.protocol.specs.Simulation.Relations.{StampIs, ValuesAre, BestIs, Reads, ReadAll, read-each, read-append, Common, AtRest, no-cpa, InHand, OwnOff, RecordIs, Agrees, agrees-after}
+use Rattle.protocol.specs.Machine.{Msg, Agent}
+use Rattle.protocol.specs.Simulation.Stamps.{rank, rank-set, zero-place, digits-set, filled-next, filled-off, take-is-prefix}
+use Rattle.protocol.specs.Simulation.Relations.{StampIs, ValuesAre, ReadAll, read-each, read-append, Common, AtRest, no-cpa, OwnOff, RecordIs, Agrees, agrees-after}
 
 pub less-test : {a a′ d d′ : ℕ} → a ≡ a′ → d ≡ d′ → ltb a d ≡ ltb a′ d′
 less-test p q = λ i. ltb (p i) (q i)

@@ -2,15 +2,15 @@
 -- value off, and what a unit decides to what the machine's step gives.
 -- In order: stamps and values; packets; states; decisions, with their records.
 -- Assumes nothing.
-use Prim.Native.Nat.{ℕ, zero, suc, _+_, _*_, _-_, _≤_, _<_}
-use mathlib.Core.Path.{_≡_, refl}
+use Prim.Native.Nat.{ℕ, zero, suc, _+_, _≤_, _<_}
+use mathlib.Core.Path.{_≡_}
 use mathlib.Core.Logic.{_⊎_}
-use mathlib.Core.Bool.{Bool, true, false}
+use mathlib.Core.Bool.{Bool}
 use mathlib.Core.List.{List, [], _∷_, _++_, reverse}
 use native.Mathlib.Omega.{arith}
 use lib.ListN.{length, getD}
-use Rattle.costs.specs.Instance.{Instance, View, viewOf}
-use Rattle.costs.specs.Laws.{costOf, problemOf}
+use Rattle.costs.specs.Instance.{Instance, viewOf}
+use Rattle.costs.specs.Laws.{costOf}
 use Rattle.costs.specs.Laws.Prefix.{pre}
 use Rattle.message.specs.declared.Kind.the-variants.{Cpa, Request, Estimate, Solution, Stop}
 use Rattle.message.specs.Message.{Packet}

@@ -7,19 +7,18 @@ use mathlib.Core.Bool.{Bool, true, false, cond}
 use mathlib.Core.List.{List}
 use native.Mathlib.Omega.{arith}
 use lib.Dec.{ltb, leb, eqb, eqb·suc-zero}
-use lib.ListN.{getD, set}
-use Rattle.costs.specs.Instance.{Instance, View, viewOf}
+use Rattle.costs.specs.Instance.{Instance, viewOf}
 use Rattle.costs.specs.Laws.{costOf, problemOf}
 use Rattle.costs.specs.Laws.Prefix.{pre-set}
 use Rattle.message.specs.declared.Message.{Message}
 use Rattle.unit.specs.declared.Unit.{Unit as UnitState}
-use Rattle.unit.specs.State.{zeros, withEstimates, withCounter, ownValue, left}
+use Rattle.unit.specs.State.{ownValue}
 use Rattle.unit.specs.Step as U
-use Rattle.unit.specs.Step.{bareCost, takeOff, begun, takeLower, takeBound}
+use Rattle.unit.specs.Step.{takeOff, begun, takeLower, takeBound}
 use Rattle.protocol.specs.Machine as M
 use Rattle.protocol.specs.Machine.{Agent}
 use Rattle.protocol.specs.Simulation.Stamps.{rank-set, digits-set, filled-off}
-use Rattle.protocol.specs.Simulation.Relations.{BestIs, Common, InHand, OwnOff, Agrees}
+use Rattle.protocol.specs.Simulation.Relations.{BestIs, InHand, OwnOff, Agrees}
 use Rattle.protocol.specs.Simulation.Assign.{less-test, most-test, backtrack-agrees, try-agrees}
 
 counter-begun : (v w c d : ℕ) → v ≡ w → c ≡ d → cond (eqb v 0) 0 c ≡ M.recount w d

@@ -4,7 +4,6 @@
 -- Assumes nothing.
 use Prim.Native.Nat.{ℕ, zero, suc, _+_, _*_, _-_, _/_, _^_, _≤_, _<_}
 use mathlib.Core.Path.{_≡_, refl, sym, ap, _∙_, subst}
-use mathlib.Core.Logic.{_⊎_, inl, inr}
 use mathlib.Core.Bool.{Bool, true, false, cond, _&&_}
 use mathlib.Core.List.{List, [], _∷_}
 use native.Mathlib.Omega.{arith}
@@ -13,28 +12,28 @@ use lib.ListN.{length, getD, set, length-set}
 use lib.Seq.{getD-set-same, getD-set-other}
 use borrow.Author.Tests.{ltb-true, ltb-false, eqb-true, eqb-false, lt-ltb, le-ltb}
 use Rattle.base.specs.Sums.{sumFrom}
-use Rattle.costs.specs.Instance.{Instance, View, viewOf}
+use Rattle.costs.specs.Instance.{Instance, viewOf}
 use Rattle.costs.specs.Bounds.{costWith, estimate}
 use Rattle.costs.specs.Problem.{Laws}
 use Rattle.costs.specs.Laws.{against, costOf, estimateOf, problemOf}
-use Rattle.costs.specs.Laws.Prefix.{pre, length-pre, cost-with-prefix, cost-next, estimate-prefix}
+use Rattle.costs.specs.Laws.Prefix.{pre, cost-with-prefix, cost-next, estimate-prefix}
 use Rattle.message.specs.declared.Message.{Message}
-use Rattle.message.specs.declared.Kind.the-variants.{Cpa, Request, Estimate, Solution, Stop}
+use Rattle.message.specs.declared.Kind.the-variants.{Estimate}
 use Rattle.message.specs.Message.{Packet}
 use Rattle.unit.specs.declared.Unit.{Unit as UnitState}
 use Rattle.unit.specs.declared.Order.{Order}
 use Rattle.unit.specs.declared.Order.the-variants.{Smaller, Equal, Bigger}
 use Rattle.unit.specs.State.{withThreshold, withCpa, withEstimates, withStopped, ownValue, compareOn, sameOn}
 use Rattle.unit.specs.Step as U
-use Rattle.unit.specs.Step.{accepted, silent, bareCost, takeBound, takeLower, reply, stored, sumLater}
+use Rattle.unit.specs.Step.{accepted, takeBound, takeLower, reply, stored, sumLater}
 use Rattle.unit.specs.Send.{packets}
 use Rattle.protocol.specs.Machine as M
 use Rattle.protocol.specs.Machine.{Msg, Agent}
 use Rattle.protocol.specs.Tests.{eqb-same, and-true, same-refl}
-use Rattle.protocol.specs.Safety.Facts.{History, OnLog, ValidMsg, Before, CpaOut, Good}
+use Rattle.protocol.specs.Safety.Facts.{History, OnLog, ValidMsg, Before, Good}
 use Rattle.protocol.specs.Safety.Step.{the-cpa-out}
-use Rattle.protocol.specs.Simulation.Stamps.{rank, Digits, FilledTo, filled-more, rank-pad, Compared, order-of-ranks, same-ranks, same-prefixes}
-use Rattle.protocol.specs.Simulation.Relations.{StampIs, ValuesAre, BestIs, Reads, Common, AtRest, InHand, Agrees}
+use Rattle.protocol.specs.Simulation.Stamps.{rank, Digits, filled-more, rank-pad, Compared, order-of-ranks, same-ranks, same-prefixes}
+use Rattle.protocol.specs.Simulation.Relations.{StampIs, ValuesAre, BestIs, Reads, AtRest, InHand, Agrees}
 use Rattle.protocol.specs.Simulation.Assign.{less-test, most-test}
 use Rattle.protocol.specs.Simulation.Resume.{ReadyToAssign, assign-agrees, lower-log, resume-lower}
 
