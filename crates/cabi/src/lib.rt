@@ -1,16 +1,19 @@
 // The calls of document 01 for C and Rust, as include/riksamoe.h declares them. Each hands on to the call that it names, and promises
 // what that one does.
 
+mod lent; // a state and a network as C lends them
+
 use message::Kind;
 use message::Message;
 use message::Read;
 use network::Answer;
-use network::Network;
+use network::Count;
 use unit::Outcome;
 use unit::Report;
-use unit::Unit;
 ghost use mathlib.Core.Path.{_≡_};
+ghost use mathlib.Core.Bool.{not};
 ghost use Prim.Native.Nat.{pred};
+ghost use lib.Dec.{eqb};
 ghost use lib.ListN.{length};
 ghost use Rattle.checksum.specs.Sum.{sumOf};
 ghost use Rattle.table.specs.Block.{blockRefusal};
@@ -18,11 +21,11 @@ ghost use Rattle.table.specs.File.{readOf, readInto, writeOf, writeInto};
 ghost use Rattle.costs.specs.Gather.{sizesIn, gatherCount, gatherInto};
 ghost use Rattle.message.specs.Decode.{parseFor, kindOf};
 ghost use Rattle.unit.specs.State.{noUnit};
-ghost use Rattle.unit.specs.Calls.{outcomeOf, reportOf, unitOf, bytesOf, makeOut, stepOut};
-ghost use Rattle.network.specs.Calls.{makeOf, deliverOf};
+ghost use Rattle.unit.specs.Calls.{outcomeOf, bytesOf, makeOut};
+ghost use Rattle.network.specs.Calls.{makeOf};
 ghost use Rattle.network.specs.Settle.{settleOf};
 ghost use Rattle.search.specs.Search.{searchOf};
-ghost use Rattle.cabi.specs.Calls.{ofRead, ofWritten, codeOf, parsedOf, writeByCode, writtenByCode, unknownKind, ofFound};
+ghost use Rattle.cabi.specs.Calls.{ofRead, ofWritten, codeOf, parsedOf, writeByCode, writtenByCode, unknownKind, ofFound, stepOf, steppedBytes, reportBy, deliveredTo, poolAfter};
 
 // A domain size for each of 16 units, zero past n.
 #[repr(C)]
@@ -45,6 +48,50 @@ pub struct Parsed {
     pub message: Message,
 }
 
+// `unit::Unit` as C lends it: any byte can stand where the flag is. Making, which is lent no state, gives `unit::Outcome`, of the same
+// layout.
+#[repr(C)]
+pub struct LentUnit {
+    pub threshold: [u8; 16],
+    pub bound: u32,
+    pub best: [u8; 16],
+    pub estimates: [u32; 16],
+    pub stamp: [u8; 16],
+    pub values: [u8; 16],
+    pub cost: u32,
+    pub counter: u8,
+    pub stopped: u8,
+}
+
+// `unit::Outcome` of a lent state.
+#[repr(C)]
+pub struct LentOutcome {
+    pub refusal: u8,
+    pub unit: LentUnit,
+    pub sent: u8,
+    pub records: u8,
+}
+
+// `network::Core`, `Network` and `Answer` with lent states.
+#[repr(C)]
+pub struct LentCore {
+    pub units: [LentUnit; 16],
+    pub records: Count,
+    pub deliveries: Count,
+}
+
+#[repr(C)]
+pub struct LentNetwork {
+    pub core: LentCore,
+    pub used: u64,
+}
+
+#[repr(C)]
+pub struct LentAnswer {
+    pub refusal: u8,
+    pub network: LentNetwork,
+}
+
 // A refusal with all else zero, or 0 with the least total and its first assignment.
 #[repr(C)]
 pub struct Found {
@@ -62,11 +109,12 @@ pub extern "C" fn riksamoe_checksum(bytes: &[u8]) -> u32
     checksum::sum(bytes)
 }
 
+// Any `last` but 0 is true.
 #[no_mangle]
-pub extern "C" fn riksamoe_block_refusal(block: &[u8], number: u16, last: bool) -> u8
-    ensures { λ r. ⌜ r ≡ blockRefusal number last (now (block .entry)) ⌝ }
+pub extern "C" fn riksamoe_block_refusal(block: &[u8], number: u16, last: u8) -> u8
+    ensures { λ r. ⌜ r ≡ blockRefusal number (not (eqb last 0)) (now (block .entry)) ⌝ }
 {
-    table::block_refusal(block, number, last)
+    table::block_refusal(block, number, last != 0)
 }
 
 #[no_mangle]
@@ -162,23 +210,25 @@ pub extern "C" fn riksamoe_unit_make(
 
 #[no_mangle]
 pub extern "C" fn riksamoe_unit_step(
-    u: Unit,
+    u: LentUnit,
     own: u8,
     n: u8,
     sizes: Sizes,
     costs: &[u8],
     packet: &[u8],
     out: &mut [u8],
-) -> Outcome
-    ensures { λ r. ⌜ (r ≡ outcomeOf n (pred own) u (stepOut u own n (sizes .places) (now (costs .entry)) (now (packet .entry)) (length (now (out .entry))))) × (now (out .exit) ≡ bytesOf n (pred own) (now (out .entry)) (stepOut u own n (sizes .places) (now (costs .entry)) (now (packet .entry)) (length (now (out .entry))))) ⌝ }
+) -> LentOutcome
+    ensures { λ r. ⌜ (r ≡ stepOf u own n (sizes .places) (now (costs .entry)) (now (packet .entry)) (length (now (out .entry)))) × (now (out .exit) ≡ steppedBytes u own n (sizes .places) (now (costs .entry)) (now (packet .entry)) (now (out .entry))) ⌝ }
 {
     let places = sizes.places;
-    unit::step(u, own, n, places, costs, packet, out)
+    let v = lent::unit_from(u);
+    let r = unit::step(v, own, n, places, costs, packet, out);
+    lent::outcome_back(u, r)
 }
 
 #[no_mangle]
 pub extern "C" fn riksamoe_unit_step_in_place(
-    u: &mut Unit,
+    u: &mut LentUnit,
     own: u8,
     n: u8,
     sizes: Sizes,
@@ -186,10 +236,17 @@ pub extern "C" fn riksamoe_unit_step_in_place(
     packet: &[u8],
     out: &mut [u8],
 ) -> Report
-    ensures { λ r. ⌜ (r ≡ reportOf n (pred own) (stepOut (now (u .entry)) own n (sizes .places) (now (costs .entry)) (now (packet .entry)) (length (now (out .entry))))) × (now (u .exit) ≡ unitOf (now (u .entry)) (stepOut (now (u .entry)) own n (sizes .places) (now (costs .entry)) (now (packet .entry)) (length (now (out .entry))))) × (now (out .exit) ≡ bytesOf n (pred own) (now (out .entry)) (stepOut (now (u .entry)) own n (sizes .places) (now (costs .entry)) (now (packet .entry)) (length (now (out .entry))))) ⌝ }
+    ensures { λ r. ⌜ (r ≡ reportBy (stepOf (now (u .entry)) own n (sizes .places) (now (costs .entry)) (now (packet .entry)) (length (now (out .entry))))) × (now (u .exit) ≡ stepOf (now (u .entry)) own n (sizes .places) (now (costs .entry)) (now (packet .entry)) (length (now (out .entry))) .unit) × (now (out .exit) ≡ steppedBytes (now (u .entry)) own n (sizes .places) (now (costs .entry)) (now (packet .entry)) (now (out .entry))) ⌝ }
 {
-    let places = sizes.places;
-    unit::step_in_place(u, own, n, places, costs, packet, out)
+    let v = *u;
+    let r = riksamoe_unit_step(v, own, n, sizes, costs, packet, out);
+    let w = r.unit;
+    *u = w;
+    Report {
+        refusal: r.refusal,
+        sent: r.sent,
+        records: r.records,
+    }
 }
 
 // ---- a network, and the bench
@@ -203,14 +260,16 @@ pub extern "C" fn riksamoe_network_make(stream: &[u8], pool: &mut [u8]) -> Answe
 
 #[no_mangle]
 pub extern "C" fn riksamoe_network_deliver(
-    net: Network,
+    net: LentNetwork,
     stream: &[u8],
     pool: &mut [u8],
     cell: u64,
-) -> Answer
-    ensures { λ r. ⌜ (r ≡ deliverOf net (now (stream .entry)) (now (pool .entry)) cell .answer) × (now (pool .exit) ≡ deliverOf net (now (stream .entry)) (now (pool .entry)) cell .pool) ⌝ }
+) -> LentAnswer
+    ensures { λ r. ⌜ (r ≡ deliveredTo net (now (stream .entry)) (now (pool .entry)) cell) × (now (pool .exit) ≡ poolAfter net (now (stream .entry)) (now (pool .entry)) cell) ⌝ }
 {
-    network::deliver(net, stream, pool, cell)
+    let read = lent::network_from(net);
+    let a = network::deliver(read, stream, pool, cell);
+    lent::answer_back(net, a)
 }
 
 #[no_mangle]

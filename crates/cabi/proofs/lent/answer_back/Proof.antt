@@ -1,0 +1,14 @@
+-- `answer_back` meets its contract: the units go back, all else is copied.
+-- Assumes nothing.
+use borrow.Author.Needs.{needs}
+use Rattle.cabi.proofs.lent.answer_back.Statement.{statement}
+use Rattle.cabi.proofs.lent.answer_back.Tie as tie
+
+units-back-requires : tie.Need-units-back-requires
+units-back-requires c κs = search needs
+
+returns : tie.Need-returns
+returns c = cc
+
+pub answer-back-spec : {M : Type 1} → statement M
+answer-back-spec = tie.close (tie.spec units-back-requires returns)

@@ -1,0 +1,14 @@
+-- `lent_of` meets its contract: all fields are copied but the flag, whose byte `flag` gives.
+-- Assumes nothing.
+use borrow.Author.Needs.{needs}
+use Rattle.cabi.proofs.lent.lent_of.Statement.{statement}
+use Rattle.cabi.proofs.lent.lent_of.Tie as tie
+
+flag-requires : tie.Need-flag-requires
+flag-requires c κs = search needs
+
+returns : tie.Need-returns
+returns c = cc
+
+pub lent-of-spec : {M : Type 1} → statement M
+lent-of-spec = tie.close (tie.spec flag-requires returns)

@@ -1,0 +1,14 @@
+-- `network_from` meets its contract: the units are read, all else is copied.
+-- Assumes nothing.
+use borrow.Author.Needs.{needs}
+use Rattle.cabi.proofs.lent.network_from.Statement.{statement}
+use Rattle.cabi.proofs.lent.network_from.Tie as tie
+
+units-from-requires : tie.Need-units-from-requires
+units-from-requires c κs = search needs
+
+returns : tie.Need-returns
+returns c = cc
+
+pub network-from-spec : {M : Type 1} → statement M
+network-from-spec = tie.close (tie.spec units-from-requires returns)

@@ -1,0 +1,16 @@
+-- `unit_from` meets its contract: all fields are copied but the threshold and the flag.
+-- Assumes nothing.
+use Rattle.cabi.specs.Lent.{unitFrom}
+use borrow.Author.Needs.{needs}
+use Rattle.cabi.proofs.lent.unit_from.Statement.{statement}
+use Rattle.cabi.proofs.lent.unit_from.Tie as tie
+
+threshold-from-requires : tie.Need-threshold-from-requires
+threshold-from-requires c κs = search needs
+
+returns : tie.Need-returns
+unfolding unitFrom
+returns c = cc
+
+pub unit-from-spec : {M : Type 1} → statement M
+unit-from-spec = tie.close (tie.spec threshold-from-requires returns)

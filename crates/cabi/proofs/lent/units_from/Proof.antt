@@ -1,0 +1,78 @@
+-- `units_from` meets its contract. The invariant: the first i places are done, the others blank.
+-- Assumes nothing.
+use Prim.Native.Nat.{ℕ, _-_, _≤_}
+use mathlib.Core.Path.{_≡_, refl, sym, _∙_}
+use mathlib.Core.List.{_++_}
+use native.Mathlib.Omega.{arith}
+use lib.ListN.{length, getD, drop, replicate}
+use Rattle.unit.specs.State.{emptyUnit, noUnit}
+use Rattle.cabi.specs.Lent.{emptyLent, upTo, unitFrom}
+use Rattle.cabi.specs.Lent.Laws.{up-to-next, up-to-done}
+use borrow.Author.Needs.{needs}
+use Rattle.cabi.proofs.lent.units_from.Statement.{statement}
+use Rattle.cabi.proofs.lent.units_from.Tie as tie
+
+abbrev Inv-loop : tie.InvT-loop
+Inv-loop ss us₀ i₀ us i = (i ≤ 16) × (us ≡ upTo i (λ (k : ℕ). unitFrom (getD ss k emptyLent)) ++ drop i (replicate 16 noUnit))
+
+abbrev μ-loop : tie.MeasureT-loop
+μ-loop ss us₀ i₀ us i = 16 - i
+
+no-unit-requires : tie.Need-no-unit-requires Inv-loop μ-loop
+no-unit-requires c κs = search needs
+
+loop-holds : tie.Need-loop-holds Inv-loop μ-loop
+unfolding upTo
+loop-holds c = (search needs, rw (c .no-unit .ensures))
+
+mul-s : tie.Need-mul-s Inv-loop μ-loop
+mul-s c = search needs
+
+array-copy-out-s : tie.Need-array-copy-out-s Inv-loop μ-loop
+array-copy-out-s c = search needs
+
+unit-from-requires : tie.Need-unit-from-requires Inv-loop μ-loop
+unit-from-requires c κs = search needs
+
+mul-us : tie.Need-mul-us Inv-loop μ-loop
+mul-us c = search needs
+
+array-set-from-us : tie.Need-array-set-from-us Inv-loop μ-loop
+array-set-from-us c = search needs
+
+add-i : tie.Need-add-i Inv-loop μ-loop
+add-i c = search needs
+
+loop-less : tie.Need-loop-less Inv-loop μ-loop
+loop-less c = search needs
+
+loop-again : tie.Need-loop-again Inv-loop μ-loop
+loop-again c =
+    let ss = c .before .before .before .before .before .args .t1 in
+    let l = c .before .before .before .loop in
+    (omega arith, rw (l .inv .1, c .unit-from .ensures) (up-to-next (λ (k : ℕ). unitFrom (getD ss k emptyLent)) (replicate 16 noUnit) (l .i) noUnit (omega arith)))
+
+returns : tie.Need-returns Inv-loop μ-loop
+returns c =
+    let ss = c .before .before .before .args .t1 in
+    let l = c .before .loop in
+    let e : l .i ≡ 16 = omega arith in
+    l .inv .1 ∙ rw e (up-to-done (λ (k : ℕ). unitFrom (getD ss k emptyLent)) (replicate 16 noUnit) 16 refl)
+
+pub units-from-spec : {M : Type 1} → statement M
+units-from-spec =
+    tie.close
+    (tie.spec
+    Inv-loop
+    μ-loop
+    no-unit-requires
+    loop-holds
+    mul-s
+    array-copy-out-s
+    unit-from-requires
+    mul-us
+    array-set-from-us
+    add-i
+    loop-less
+    loop-again
+    returns)

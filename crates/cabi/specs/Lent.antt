@@ -1,0 +1,92 @@
+-- A unit's state, and a network, as C lends them: the flag `stopped` is a byte there, and any byte can stand in it. One that is neither 0
+-- nor 1 makes the state one out of range: refusal 5, at its place in the order of step and delivery.
+--     unitFrom, unitBack            a lent state read, and what stands there after the call
+--     networkFrom, networkBack      the same of a network
+-- Lent/Laws shows that such a state is out of range, and that what a call leaves alone comes back as lent. Assumes nothing.
+use Prim.Native.Nat.{ℕ, zero, suc}
+use mathlib.Core.Bool.{Bool, cond}
+use mathlib.Core.List.{List, [], _∷_, _++_}
+use lib.Dec.{leb, eqb}
+use lib.ListN.{getD, replicate}
+use Rattle.unit.specs.declared.Unit.{Unit}
+use Rattle.unit.specs.declared.Outcome.{Outcome}
+use Rattle.unit.specs.State.{emptyUnit}
+use Rattle.network.specs.declared.Network.{Network}
+use Rattle.network.specs.declared.Answer.{Answer}
+use Rattle.cabi.specs.declared.LentUnit.{LentUnit}
+use Rattle.cabi.specs.declared.LentOutcome.{LentOutcome}
+use Rattle.cabi.specs.declared.LentNetwork.{LentNetwork}
+use Rattle.cabi.specs.declared.LentAnswer.{LentAnswer}
+pub mod Laws
+
+-- ---- one unit
+
+-- the byte is a flag
+abbrev pub flagGood : LentUnit → Bool
+flagGood s = leb (s .stopped) 1
+
+-- the state that is lent; where the byte is no flag, one out of range: 01 allows threshold bytes of at most 17
+unfoldable pub unitFrom : LentUnit → Unit
+unitFrom s = record {
+  threshold = cond (flagGood s) (s .threshold) (replicate 16 255);
+  bound = s .bound;
+  best = s .best;
+  estimates = s .estimates;
+  stamp = s .stamp;
+  values = s .values;
+  cost = s .cost;
+  counter = s .counter;
+  stopped = eqb (s .stopped) 1;
+}
+
+-- a state with its flag as a byte
+abbrev pub lentOf : Unit → LentUnit
+lentOf u = record {
+  threshold = u .threshold;
+  bound = u .bound;
+  best = u .best;
+  estimates = u .estimates;
+  stamp = u .stamp;
+  values = u .values;
+  cost = u .cost;
+  counter = u .counter;
+  stopped = cond (u .stopped) 1 0;
+}
+
+-- what stands where s was lent, once the call leaves the unit u there: a byte that is no flag stays with its state, which no call touches
+unfoldable pub unitBack : LentUnit → Unit → LentUnit
+unitBack s u = cond (flagGood s) (lentOf u) s
+
+-- what a step by value hands back
+abbrev pub outcomeBack : LentUnit → Outcome → LentOutcome
+outcomeBack s r = record { refusal = r .refusal; unit = unitBack s (r .unit); sent = r .sent; records = r .records }
+
+-- ---- a network
+
+-- what stands past the end of a list of lent units
+abbrev pub emptyLent : LentUnit
+emptyLent = record { threshold = []; bound = 0; best = []; estimates = []; stamp = []; values = []; cost = 0; counter = 0; stopped = 0 }
+
+-- the list of f 0 to f (k - 1)
+unfoldable pub upTo : {A : Type 0} → ℕ → (ℕ → A) → List A
+upTo zero f = []
+upTo (suc k) f = upTo k f ++ f k ∷ []
+
+abbrev pub unitsFrom : List LentUnit → List Unit
+unitsFrom ss = upTo 16 (λ (k : ℕ). unitFrom (getD ss k emptyLent))
+
+abbrev pub unitsBack : List LentUnit → List Unit → List LentUnit
+unitsBack ss us = upTo 16 (λ (k : ℕ). unitBack (getD ss k emptyLent) (getD us k emptyUnit))
+
+abbrev pub networkFrom : LentNetwork → Network
+networkFrom s = record { core = record { units = unitsFrom (s .core .units); records = s .core .records; deliveries = s .core .deliveries }; used = s .used }
+
+abbrev pub networkBack : LentNetwork → Network → LentNetwork
+networkBack s t =
+    record {
+      core = record { units = unitsBack (s .core .units) (t .core .units); records = t .core .records; deliveries = t .core .deliveries };
+      used = t .used;
+    }
+
+abbrev pub answerBack : LentNetwork → Answer → LentAnswer
+answerBack s a = record { refusal = a .refusal; network = networkBack s (a .network) }
