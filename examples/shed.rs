@@ -33,7 +33,7 @@ mod riksamoe {
         pub values: [u8; 16],
         pub cost: u32,
         pub counter: u8,
-        pub stopped: bool,
+        pub stopped: u8,
     }
 
     #[repr(C)]
@@ -181,7 +181,7 @@ fn run(path: &str) -> Result<(), String> {
     let mut printed = false;
     loop {
         let first = nodes[0].unit;
-        if first.stopped && !printed {
+        if first.stopped == 1 && !printed {
             println!("total {}", first.bound);
             for (k, value) in first.best.iter().take(nodes.len()).enumerate() {
                 println!("unit {} value {value}", k + 1);
@@ -202,7 +202,7 @@ fn run(path: &str) -> Result<(), String> {
     }
     // what box 1 sent last tells the others: in the end all have the same answer
     let first = nodes[0].unit;
-    let same = |unit: &Unit| unit.stopped && unit.bound == first.bound && unit.best == first.best;
+    let same = |unit: &Unit| unit.stopped == 1 && unit.bound == first.bound && unit.best == first.best;
     match nodes.iter().find(|node| !same(&node.unit)) {
         Some(node) => Err(format!("another answer in box {}", node.own)),
         None => Ok(()),

@@ -43,7 +43,7 @@ pub const CALLS: [(Call, &str, &[u8]); 13] = [
 #[derive(Clone, Debug)]
 pub enum Input {
     Sum { bytes: Vec<u8> },
-    Block { block: Vec<u8>, expected: u16, last: bool },
+    Block { block: Vec<u8>, expected: u16, last: u8 },
     Read { file: Vec<u8>, stream: Vec<u8> },
     Write { stream: Vec<u8>, file: Vec<u8> },
     Lent { stream: Vec<u8>, own: u8, out: Vec<u8> },
@@ -98,7 +98,7 @@ pub fn lent_outcome(sizes: &Places, count: usize, lent: Vec<u8>) -> Outcome {
 pub fn reference(input: Input) -> Outcome {
     match input {
         Input::Sum { bytes } => Outcome { numbers: vec![checksum::sum(&bytes).into()], ..Outcome::default() },
-        Input::Block { block, expected, last } => match table::read_block(&block, expected, last) {
+        Input::Block { block, expected, last } => match table::read_block(&block, expected, last != 0) {
             Ok(payload) => Outcome { lent: payload.to_vec(), ..Outcome::default() },
             Err(refusal) => Outcome { refusal, ..Outcome::default() },
         },

@@ -248,7 +248,7 @@ fn reseal(packet: &mut [u8]) {
 pub fn unit(random: &mut Random, view: &View) -> Unit {
     let mut unit = Unit::default();
     (unit.bound, unit.best) = bound(random, view.n as u8, &view.sizes);
-    unit.stopped = random.once_in(12);
+    unit.stopped = u8::from(random.once_in(12));
     for k in 0..16 {
         unit.threshold[k] = random.below(18) as u8;
         if random.once_in(3) {
@@ -280,7 +280,7 @@ pub fn unit(random: &mut Random, view: &View) -> Unit {
 pub fn damage_unit(random: &mut Random, unit: &mut Unit) {
     let place = random.below(16) as usize;
     let byte = *random.pick(&[0, 1, 2, 16, 17, 18, 255]);
-    match random.below(9) {
+    match random.below(10) {
         0 => unit.threshold[place] = byte,
         1 => unit.bound = *random.pick(&[0, 7_200_000, 7_200_001, NONE - 1, NONE]),
         2 => unit.best[place] = byte,
@@ -289,7 +289,8 @@ pub fn damage_unit(random: &mut Random, unit: &mut Unit) {
         5 => unit.values[place] = byte,
         6 => unit.cost = *random.pick(&[0, 1, 60_000, 60_001, 7_200_000, 7_200_001, u32::MAX]),
         7 => unit.counter = byte,
-        _ => unit.stopped = !unit.stopped,
+        8 => unit.stopped ^= 1,
+        _ => unit.stopped = *random.pick(&[2, 3, 128, 255]),
     }
 }
 
@@ -335,13 +336,13 @@ pub fn network(random: &mut Random, stream: &[u8]) -> (Network, Vec<u8>) {
     let mut network = network::make(stream, &mut pool).expect("an accepted table");
     let steps = random.below(40);
     for _ in 0..steps {
-        if network.units[0].stopped && !random.once_in(10) {
+        if network.units[0].has_stopped() && !random.once_in(10) {
             break;
         }
         let before = (network.clone(), pool.clone());
         let cell = random.below(network.count.max(1));
         let _ = network::deliver(&mut network, stream, &mut pool, cell);
-        if network.units[0].stopped && random.once_in(2) {
+        if network.units[0].has_stopped() && random.once_in(2) {
             return before;
         }
     }
@@ -384,6 +385,7 @@ fn damage_network(random: &mut Random, network: &mut Network, pool: &mut Vec<u8>
             for k in n..16 {
                 network.units[k].threshold = [255; 16];
                 network.units[k].cost = u32::MAX;
+                network.units[k].stopped = random.byte();
             }
         }
         8 => {
@@ -572,6 +574,7 @@ fn block(random: &mut Random) -> Input {
     }
     let start = (512 * expected as usize).min(file.len());
     let end = (start + length(random, 512)).min(file.len());
+    let last = if last { *random.pick(&[1, 1, 2, 128, 255]) } else { 0 };
     Input::Block { block: file[start..end].to_vec(), expected, last }
 }
 

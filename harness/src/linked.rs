@@ -52,7 +52,7 @@ pub struct Unit {
     pub values: Places,
     pub cost: u32,
     pub counter: u8,
-    pub stopped: bool,
+    pub stopped: u8,
 }
 
 #[repr(C)]
@@ -112,7 +112,7 @@ pub struct Found {
 
 extern "C" {
     fn riksamoe_checksum(bytes: *const u8, length: usize) -> u32;
-    fn riksamoe_block_refusal(block: *const u8, length: usize, expected: u16, last: bool) -> u8;
+    fn riksamoe_block_refusal(block: *const u8, length: usize, expected: u16, last: u8) -> u8;
     fn riksamoe_table_read(file: *const u8, length: usize, stream: *mut u8, room: usize) -> Length;
     fn riksamoe_table_write(stream: *const u8, length: usize, file: *mut u8, room: usize) -> Length;
     fn riksamoe_sizes(stream: *const u8, length: usize) -> Sizes;
@@ -171,7 +171,7 @@ pub fn checksum(bytes: &[u8]) -> u32 {
     unsafe { riksamoe_checksum(bytes.as_ptr(), bytes.len()) }
 }
 
-pub fn block_refusal(block: &[u8], expected: u16, last: bool) -> u8 {
+pub fn block_refusal(block: &[u8], expected: u16, last: u8) -> u8 {
     unsafe { riksamoe_block_refusal(block.as_ptr(), block.len(), expected, last) }
 }
 

@@ -77,7 +77,7 @@ pub fn forward_bounding(problem: &Problem) -> Effort {
     for own in 1..=n as usize {
         shed.make(own);
     }
-    while !shed.units[0].stopped {
+    while !shed.units[0].has_stopped() {
         shed.deliver_oldest();
     }
     let checks = shed.clocks.iter().copied().max().unwrap_or(0);

@@ -46,7 +46,7 @@ fn case_4_one_unit() {
     let mut pool = pool();
     let shed = network::make(&stream, &mut pool).unwrap();
     let first = &shed.units[0];
-    assert!(first.stopped);
+    assert!(first.has_stopped());
     assert_eq!((first.bound, first.best[0]), (0, 1));
     assert_eq!((shed.records, shed.deliveries, shed.count), (1, 0, 0));
 }
@@ -105,7 +105,7 @@ fn case_9_newest_first() {
     let stream = sample::t();
     let mut pool = pool();
     let mut shed = network::make(&stream, &mut pool).unwrap();
-    while !shed.units[0].stopped {
+    while !shed.units[0].has_stopped() {
         let newest = shed.count - 1;
         network::deliver(&mut shed, &stream, &mut pool, newest).unwrap();
     }

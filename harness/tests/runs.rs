@@ -44,7 +44,7 @@ fn runs_in_any_order() {
         let mut pool = vec![0; network::POOL];
         let mut shed = network::make(&stream, &mut pool).unwrap();
         let mut written: HashSet<_> = held_out(&shed, n as usize).collect();
-        while !shed.units[0].stopped {
+        while !shed.units[0].has_stopped() {
             assert!(shed.count > 0, "a message waits until unit 1 has stopped");
             let before = shed.clone();
             let cell = cell(&mut random, round % 4, shed.count);

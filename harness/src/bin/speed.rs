@@ -188,7 +188,7 @@ fn steps(stream: &[u8], most: usize) -> Vec<Step> {
     let mut pool = vec![0; network::POOL];
     let mut shed: Network = network::make(stream, &mut pool).expect("an accepted table");
     let mut steps = Vec::new();
-    while steps.len() < most && !shed.units[0].stopped {
+    while steps.len() < most && !shed.units[0].has_stopped() {
         let packet = pool[..64].to_vec();
         let own = packet[2];
         let costs = costs::of_unit(stream, own as usize);

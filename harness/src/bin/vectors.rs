@@ -29,7 +29,7 @@ fn unit_bytes(unit: &Unit) -> Vec<u8> {
     bytes.extend(unit.values);
     bytes.extend(unit.cost.to_le_bytes());
     bytes.push(unit.counter);
-    bytes.push(u8::from(unit.stopped));
+    bytes.push(unit.stopped);
     bytes
 }
 
@@ -38,7 +38,7 @@ fn run(stream: &[u8], limit: usize, mut each: impl FnMut(&Network, &[u8])) {
     let mut pool = vec![0; network::POOL];
     let mut shed = network::make(stream, &mut pool).unwrap_or_else(refused);
     for _ in 0..limit {
-        if shed.units[0].stopped {
+        if shed.units[0].has_stopped() {
             return;
         }
         each(&shed, &pool[..64]);

@@ -45,7 +45,7 @@ pub fn deliver(network: &mut Network, stream: &[u8], pool: &mut [u8], cell: u64)
     table::check_stream(stream)?;
     let (n, sizes) = table::head(stream);
     check_states(network, stream, n, &sizes)?;
-    if network.units[0].stopped {
+    if network.units[0].has_stopped() {
         return Err(12);
     }
     if cell >= network.count {
@@ -71,7 +71,7 @@ pub fn deliver(network: &mut Network, stream: &[u8], pool: &mut [u8], cell: u64)
 /// Making, then cell 0 each time until unit 1 has stopped.
 pub fn settle(stream: &[u8], pool: &mut [u8]) -> Result<Network, Refusal> {
     let mut network = make(stream, pool)?;
-    while !network.units[0].stopped {
+    while !network.units[0].has_stopped() {
         deliver(&mut network, stream, pool, 0)?;
     }
     Ok(network)

@@ -19,7 +19,14 @@ pub struct Unit {
     pub values: Places,
     pub cost: u32,
     pub counter: u8,
-    pub stopped: bool,
+    /// 0 or 1: a lent state may have any byte here, and is out of range with another.
+    pub stopped: u8,
+}
+
+impl Unit {
+    pub fn has_stopped(&self) -> bool {
+        self.stopped == 1
+    }
 }
 
 /// What making or a step gives beside the bytes sent.
@@ -90,7 +97,7 @@ fn try_step(
 /// The part of a step that a delivery shares: refusals 8, 10, 9, 12, 11.
 pub fn step_packet(view: &View, unit: &Unit, packet: &[u8]) -> Result<Decision, Refusal> {
     let (kind, message) = message::parse_for(view.n as u8, &view.sizes, packet, Some(view.own as u8))?;
-    if unit.stopped {
+    if unit.has_stopped() {
         return Err(12);
     }
     decide(view, unit, kind, &message)
@@ -122,7 +129,8 @@ fn check_costs(own: u8, n: u8, sizes: &Places, costs: &[u8]) -> Result<(), Refus
 
 /// 01: "A lent state is in range when ..".
 pub fn in_range(view: &View, unit: &Unit) -> bool {
-    let limits = unit.threshold.iter().all(|byte| *byte <= 17)
+    let limits = unit.stopped <= 1
+        && unit.threshold.iter().all(|byte| *byte <= 17)
         && unit.estimates.iter().all(|estimate| *estimate <= MAX_TOTAL)
         && bound_in_range(unit.bound, &unit.best, view.n, &view.sizes);
     limits && cpa_in_range(view, unit)
@@ -175,7 +183,7 @@ pub fn decide(view: &View, unit: &Unit, kind: u8, message: &Message) -> Result<D
         message::SOLUTION => work.take_if_lower(message),
         _ => {
             work.take_if_lower(message);
-            work.unit.stopped = true;
+            work.unit.stopped = 1;
         }
     }
     Ok(work.decision())
@@ -334,7 +342,7 @@ impl<'a> Work<'a> {
         self.unit.stamp[own - 1] = 0;
         self.unit.estimates = [0; 16];
         if own == 1 {
-            self.unit.stopped = true;
+            self.unit.stopped = 1;
             for receiver in 2..=self.view.n {
                 let stop = self.solution(receiver);
                 self.others_sent.push((message::STOP, stop));
