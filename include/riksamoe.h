@@ -1,9 +1,9 @@
-/* Riksamoe for firmware: units that agree by forward bounding on the cheapest lotting, from C.
+/* Riksamoe for firmware: units that agree by forward bounding on the cheapest lotting, from C (C99 or later) and C++.
  *
- * Link target/staticlib/libcabi.a, which `rt staticlib cabi` makes (x86-64, System V calls; of a C library it needs memcpy and
- * memset alone). Each function below is a proved one of crates/cabi: what it promises stands there beside it, for all inputs. This
- * header is kept by hand; its layouts are held by the assertions at the end, and scripts/differential compares every call with a second
- * implementation. examples/ has a shed of such boxes in C and in Rust.
+ * Link target/staticlib/libcabi.a, which `rt staticlib cabi` makes for x86-64 with SSE and System V calls; of a C library it
+ * needs memcpy, memmove and memset alone. Each function below is a proved one of crates/cabi: what it promises stands there
+ * beside it, for all inputs. This header is kept by hand; its layouts are held by the assertions at the end, and scripts/differential
+ * compares every call with a second implementation. examples/ has a shed of such boxes in C and in Rust.
  *
  * What a box does
  *
@@ -13,44 +13,49 @@
  *   3. When a packet arrives, call riksamoe_unit_step_in_place with the kept state, n, sizes, costs, the bytes as they came and an
  *      output of RIKSAMOE_SENDING bytes. If the refusal is 0, send the first `sent` packets of 64 bytes from the output, in their
  *      order; byte 2 of each says to which unit. If it is not 0, nothing has changed and there is nothing to send: drop the packet.
- *   4. Once `stopped` is set the box is done: `bound` is the least total and `best` the value of each unit (unit k's at best[k - 1]).
- *      Every later packet that reads well is refused by 12.
+ *   4. Once `stopped` is 1 the box is done, and every later packet that reads well is refused by 12. In box 1 `bound` is then the least
+ *      total and `best` the value of each unit (unit k's at best[k - 1]); this is proved. The others are told both by box 1's stop.
  *
  * A stale packet is accepted, changes nothing and sends nothing. Packets may come in any order; none may be lost.
  *
  * Buffers. A pointer and the length after it are lent for the call alone: nothing keeps them. Lend no buffer twice in one call. Each
- * pointer must be valid for its length; with length 0 it may be any pointer but null. `const` bytes are read; of the others only
- * those named are written, and none where the call is refused. No call allocates, blocks, or keeps anything between calls.
+ * pointer must be valid for its length, one to a struct aligned for it; with length 0 a pointer may be any but null. `const` bytes are
+ * read; of the others only those named are written, and none where the call is refused. No call allocates, blocks, or keeps anything between
+ * calls, so calls on buffers of their own may run at the same time.
  *
- * Refusals: 0 accepted, else
- *    1  table bytes: 0, no multiple of 512, or over 62,464; a block not of 512 bytes
- *    2  block number wrong
- *    3  payload count or unused bytes wrong
- *    4  block check wrong
- *    5  n or a size not 1 to 16; a state out of range, or a pool count over 1,024
- *    6  stream, or a unit's costs, shorter or longer than n and the sizes need
- *    7  a cost above 60,000
- *    8  packet not 64 bytes, or its check wrong: it was damaged on the way
- *    9  a message field against its kind
- *   10  unit number, sender or receiver not 1 to n; packet for another unit
- *   11  CPA or estimate not of the CPA this unit has out
- *   12  the unit (in a network: unit 1) has stopped
- *   13  output too short
- *   14  what is sent doesn't fit the pool
- *   15  no message at that cell
- *   16  more than 1,048,576 assignments (search only)
- * The order in which a call checks them stands with it; the first that applies is returned.
+ * Any bytes may be lent, in structs too: a state read back from flash needs no check of the caller's. One that is out of range, as where
+ * `stopped` is neither 0 nor 1, is refused by 5, and stays as lent.
+ *
+ * Stack. Bytes that a call needs at most, its return address counted, beside what the three functions of the C library use; structs that
+ * pass by value stand in the caller's own frame (a network has 2,280 bytes, an answer 2,288). scripts/stack reads these off the machine code.
+ *
+ *   riksamoe_checksum                256
+ *   riksamoe_block_refusal           256
+ *   riksamoe_table_read              256
+ *   riksamoe_table_write             256
+ *   riksamoe_sizes                   256
+ *   riksamoe_costs                   512
+ *   riksamoe_message_parse           768
+ *   riksamoe_message_write           768
+ *   riksamoe_unit_make             2,560
+ *   riksamoe_unit_step             4,864
+ *   riksamoe_unit_step_in_place    4,864
+ *   riksamoe_network_make         13,056
+ *   riksamoe_network_deliver      31,488
+ *   riksamoe_network_settle       31,744
+ *   riksamoe_search                6,656
  */
 #ifndef RIKSAMOE_H
 #define RIKSAMOE_H
 
-#include <stdbool.h>
 #include <stddef.h>
 #include <stdint.h>
 
 #ifdef __cplusplus
 extern "C" {
 #endif
+
+#define RIKSAMOE_VERSION 1         /* raised where a call, a struct or a promise below changes */
 
 #define RIKSAMOE_UNITS 16          /* places in every array: unit k's is k - 1 */
 #define RIKSAMOE_NONE 4294967295u  /* the bound *none* */
@@ -63,6 +68,27 @@ extern "C" {
 
 /* Kinds of message, with the words of the format's paper. */
 enum { RIKSAMOE_CPA = 1 /* paper */, RIKSAMOE_REQUEST = 2 /* copy */, RIKSAMOE_ESTIMATE = 3, RIKSAMOE_SOLUTION = 4 /* news */, RIKSAMOE_STOP = 5 };
+
+/* Refusals. The order in which a call checks them stands with it; the first that applies is returned. */
+enum {
+    RIKSAMOE_ACCEPTED = 0,
+    RIKSAMOE_BAD_FILE = 1,        /* table bytes: 0, no multiple of 512, or over 62,464; a block not of 512 bytes */
+    RIKSAMOE_BAD_BLOCK = 2,       /* block number wrong */
+    RIKSAMOE_BAD_PAYLOAD = 3,     /* payload count or unused bytes wrong */
+    RIKSAMOE_BAD_BLOCK_CHECK = 4, /* block check wrong */
+    RIKSAMOE_OUT_OF_RANGE = 5,    /* n or a size not 1 to 16; a state out of range, or a pool count over 1,024 */
+    RIKSAMOE_BAD_LENGTH = 6,      /* stream, or a unit's costs, shorter or longer than n and the sizes need */
+    RIKSAMOE_BAD_COST = 7,        /* a cost above 60,000 */
+    RIKSAMOE_DAMAGED = 8,         /* packet not 64 bytes, or its check wrong: it was damaged on the way */
+    RIKSAMOE_BAD_FIELD = 9,       /* a message field against its kind */
+    RIKSAMOE_BAD_UNIT = 10,       /* unit number, sender or receiver not 1 to n; packet for another unit */
+    RIKSAMOE_NOT_OUT = 11,        /* CPA or estimate not of the CPA this unit has out */
+    RIKSAMOE_STOPPED = 12,        /* the unit (in a network: unit 1, or the receiver) has stopped */
+    RIKSAMOE_NO_ROOM = 13,        /* output too short */
+    RIKSAMOE_POOL_FULL = 14,      /* what is sent doesn't fit the pool */
+    RIKSAMOE_NO_MESSAGE = 15,     /* no message at that cell */
+    RIKSAMOE_TOO_MANY = 16        /* more than 1,048,576 assignments (search only) */
+};
 
 /* ---- Structs. All pass by value; offsets and sizes in bytes. */
 
@@ -96,7 +122,7 @@ typedef struct {
 } riksamoe_parsed_t;
 
 /* A unit's whole state: keep it between packets, and change nothing in it. One that is out of range is refused by 5. Size 140, alignment
- * 4. */
+ * 4; the two bytes of padding at the end are not read, and may come back as any. */
 typedef struct {
     uint8_t threshold[16];  /*   0 the highest stamp seen */
     uint32_t bound;         /*  16 the best total known, RIKSAMOE_NONE at first */
@@ -106,7 +132,7 @@ typedef struct {
     uint8_t values[16];     /* 116 of the CPA out; own value 0: none is out */
     uint32_t cost;          /* 132 of the CPA out */
     uint8_t counter;        /* 136 how many values were tried */
-    bool stopped;           /* 137 0 or 1, no other byte; two bytes of padding follow */
+    uint8_t stopped;        /* 137 0 or 1; with any other byte the state is out of range */
 } riksamoe_unit_t;
 
 /* What making and a step by value give. Refused: nothing sent, no record; a step's unit as lent, a making's all zero. Size 148. */
@@ -161,9 +187,9 @@ typedef struct {
 /* The check of blocks and packets: the sum of (k + 1) times byte k, modulo 65,521. */
 uint32_t riksamoe_checksum(const uint8_t *bytes, size_t length);
 
-/* A block read alone, which must have this number, and be the table's last or not: 1, 4, 2, 3. Where it gives 0, the payload is the
+/* A block read alone, which must have this number, and be the table's last (any `last` but 0) or not (0): 1, 4, 2, 3. Where it gives 0, the payload is the
  * part of the block from byte 4 on whose length the 16-bit number at byte 2 says. */
-uint8_t riksamoe_block_refusal(const uint8_t *block, size_t length, uint16_t number, bool last);
+uint8_t riksamoe_block_refusal(const uint8_t *block, size_t length, uint16_t number, uint8_t last);
 
 /* A stored table's stream, to the front of `stream` (lend RIKSAMOE_STREAM bytes): 13, 1, then each block 4, 2, 3, then 5, 6, 7. */
 riksamoe_length_t riksamoe_table_read(const uint8_t *file, size_t length, uint8_t *stream, size_t room);
@@ -171,7 +197,8 @@ riksamoe_length_t riksamoe_table_read(const uint8_t *file, size_t length, uint8_
 /* The stored table of a stream, to the front of `file` (RIKSAMOE_FILE bytes are always enough): 5, 6, 7, 13. */
 riksamoe_length_t riksamoe_table_write(const uint8_t *stream, size_t length, uint8_t *file, size_t room);
 
-/* The sizes in a stream, 0 where there are none. */
+/* The sizes in a stream: its bytes 1 to n, 0 past n and past the stream's end. They are not checked; of an n above 16, which every other
+ * call refuses by 5, it gives the first 16. */
 riksamoe_sizes_t riksamoe_sizes(const uint8_t *stream, size_t length);
 
 /* The costs that touch unit `own`, to the front of `out` (RIKSAMOE_COSTS bytes are always enough): gives how many bytes. It gives 0 and
@@ -208,11 +235,13 @@ riksamoe_report_t riksamoe_unit_step_in_place(riksamoe_unit_t *unit, uint8_t own
 riksamoe_answer_t riksamoe_network_make(const uint8_t *stream, size_t length, uint8_t *pool, size_t room);
 
 /* The packet at a cell goes to its unit; later cells move down one, and what the unit sends is added at the end: 13, 5 (n, sizes), 6, 7,
- * 5 (states, cells in use), 12, 15, 8, 10, 9, 11, 14. */
+ * 5 (states of units 1 to n, cells in use), 12 (unit 1), 15, 8, 10, 9, 12 (the receiver), 11, 14. Units past n are not looked at and come
+ * back as lent. */
 riksamoe_answer_t riksamoe_network_deliver(riksamoe_network_t network, const uint8_t *stream, size_t length, uint8_t *pool, size_t room,
                                            uint64_t cell);
 
-/* Making, then cell 0 again and again until unit 1 has stopped: 5, 6, 7, 13. The answer is in unit 1. */
+/* Making, then cell 0 again and again until unit 1 has stopped: 5, 6, 7, 13, as making; proved: it comes to that end, and no delivery on
+ * the way is refused. The answer is in unit 1. How long it takes is not bounded by anything short. */
 riksamoe_answer_t riksamoe_network_settle(const uint8_t *stream, size_t length, uint8_t *pool, size_t room);
 
 /* ---- The bench: every assignment of a stream's table is tried, so lend it 1,048,576 of them at most: 5, 6, 7, 16. */
@@ -220,10 +249,14 @@ riksamoe_found_t riksamoe_search(const uint8_t *stream, size_t length);
 
 /* ---- The layouts above, held */
 
-#ifdef __cplusplus
+#if defined(__cplusplus) && __cplusplus >= 201103L
 #define RIKSAMOE_HOLDS(test) static_assert(test, #test)
-#else
+#elif defined(__STDC_VERSION__) && __STDC_VERSION__ >= 201112L
 #define RIKSAMOE_HOLDS(test) _Static_assert(test, #test)
+#else
+#define RIKSAMOE_JOIN(a, b) a##b
+#define RIKSAMOE_NAME(line) RIKSAMOE_JOIN(riksamoe_holds_, line)
+#define RIKSAMOE_HOLDS(test) extern char RIKSAMOE_NAME(__LINE__)[(test) ? 1 : -1]
 #endif
 RIKSAMOE_HOLDS(sizeof(riksamoe_sizes_t) == 16);
 RIKSAMOE_HOLDS(sizeof(riksamoe_length_t) == 16 && offsetof(riksamoe_length_t, length) == 8);

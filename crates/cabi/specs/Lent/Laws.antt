@@ -2,19 +2,26 @@
 -- was comes back as lent, that byte too.
 -- Assumes nothing.
 use Prim.Native.Nat.{ℕ, zero, suc, _+_, _<_, _≤_}
-use mathlib.Core.Path.{_≡_, refl, sym, _∙_}
+use mathlib.Core.Path.{_≡_, refl, sym, _∙_, ap}
 use mathlib.Core.Bool.{Bool, true, false, cond}
 use mathlib.Core.List.{List, [], _∷_, _++_, append-assoc, append-nil}
 use native.Mathlib.Omega.{arith}
 use native.Mathlib.Numerals.{add-one}
-use borrow.Author.Tests.{leb-true}
+use borrow.Author.Tests.{leb-true, eqb-true, eqb-false}
 use lib.Dec.{leb, eqb}
-use lib.ListN.{length, getD, set, drop, length-append, drop-of-length-le}
-use lib.Seq.{drop-cons, set-at}
-use Rattle.costs.specs.Instance.{View}
-use Rattle.unit.specs.State.{allAtMost, inRangePaid, inRange}
+use lib.ListN.{length, getD, set, drop, length-append, length-set, drop-of-length-le, List·getD-append as getD-append}
+use lib.Seq.{drop-cons, set-at, getD-at, getD-set-same, getD-set-other, ext-getD}
+use Rattle.table.specs.Stream.{unitsOf}
+use Rattle.costs.specs.Instance.{View, viewOf, instanceOf}
+use Rattle.costs.specs.Gather.{sizesIn}
+use Rattle.message.specs.Laws.{every-not}
+use Rattle.unit.specs.declared.Unit.{Unit}
+use Rattle.unit.specs.State.{emptyUnit, allAtMost, inRangePaid, inRange}
+use Rattle.network.specs.Run.{unitAt}
+use Rattle.network.specs.Calls.{networkInRange}
 use Rattle.cabi.specs.declared.LentUnit.{LentUnit}
-use Rattle.cabi.specs.Lent.{flagGood, unitFrom, lentOf, unitBack, upTo}
+use Rattle.cabi.specs.declared.LentNetwork.{LentNetwork}
+use Rattle.cabi.specs.Lent.{flagGood, unitFrom, unitBack, emptyLent, upTo, unitsFrom, unitsBack, networkFrom}
 
 -- ---- one unit
 
@@ -51,3 +58,50 @@ up-to-next f l i d h =
 
 pub up-to-done : {A : Type 0} (f : ℕ → A) (l : List A) (i : ℕ) → length l ≡ i → upTo i f ++ drop i l ≡ upTo i f
 up-to-done f l i e = let h : length l ≤ i = omega (arith, e) in rw (drop-of-length-le l h, append-nil)
+
+pub up-to-at : {A : Type 0} (n : ℕ) (f : ℕ → A) (k : ℕ) (d : A) → k < n → getD (upTo n f) k d ≡ f k
+unfolding upTo
+up-to-at zero f k d h = absurd (omega arith)
+up-to-at (suc n) f k d h = go (eqb k n) refl (λ q. up-to-at n f k d q)
+  where
+    go : (t : Bool) → eqb k n ≡ t → (k < n → getD (upTo n f) k d ≡ f k) → getD (upTo n f ++ f n ∷ []) k d ≡ f k
+    go true e below = rw (eqb-true k n e) (getD-at (upTo n f) (f n) [] d n (length-up-to n f))
+    go false e below =
+        let q : k ≡ n → ⊥ = eqb-false k n e in
+        let l : k < length (upTo n f) = rw (length-up-to n f) (omega arith) in
+        getD-append (upTo n f) (f n ∷ []) d k l ∙ below (omega arith)
+
+-- a network with such a byte in one of its n units is out of range, 5
+pub no-flag-network : (stream : List ℕ) (s : LentNetwork) (k : ℕ) → k < unitsOf stream → k < 16 → flagGood (getD (s .core .units) k emptyLent) ≡ false → networkInRange stream (networkFrom s) ≡ false
+unfolding networkInRange
+no-flag-network stream s k h h16 e =
+    let at = up-to-at 16 (λ (i : ℕ). unitFrom (getD (s .core .units) i emptyLent)) k emptyUnit h16 in
+    let out : inRange (sizesIn stream) (viewOf (instanceOf stream) k) (unitAt (unitsFrom (s .core .units)) k) ≡ false = rw at (no-flag-out-of-range (sizesIn stream) (viewOf (instanceOf stream) k) (getD (s .core .units) k emptyLent) e) in
+    rw (every-not (λ (i : ℕ). inRange (sizesIn stream) (viewOf (instanceOf stream) i) (unitAt (unitsFrom (s .core .units)) i)) (unitsOf stream) k h out)
+
+module _ (ss : List LentUnit) (sixteen : length ss ≡ 16) where
+  kept : (us : List Unit) (i : ℕ) → i < 16 → getD us i emptyUnit ≡ getD (unitsFrom ss) i emptyUnit → unitBack (getD ss i emptyLent) (getD us i emptyUnit) ≡ getD ss i emptyLent
+  kept us i h e = ap (λ (u : Unit). unitBack (getD ss i emptyLent) u) (e ∙ up-to-at 16 (λ (k : ℕ). unitFrom (getD ss k emptyLent)) i emptyUnit h) ∙ comes-back (getD ss i emptyLent)
+
+  by-places : (us : List Unit) (ts : List LentUnit) → length ts ≡ 16 → ((i : ℕ) → i < 16 → unitBack (getD ss i emptyLent) (getD us i emptyUnit) ≡ getD ts i emptyLent) → unitsBack ss us ≡ ts
+  by-places us ts l each =
+      let f : ℕ → LentUnit = λ k. unitBack (getD ss k emptyLent) (getD us k emptyUnit) in
+      let long : length (upTo 16 f) ≡ 16 = length-up-to 16 f in
+      ext-getD emptyLent (upTo 16 f) ts (long ∙ sym l) (λ i h. let i16 : i < 16 = omega (arith, long, h) in up-to-at 16 f i emptyLent i16 ∙ each i i16)
+
+  -- a network that no call changes comes back as it was lent
+  pub all-come-back : unitsBack ss (unitsFrom ss) ≡ ss
+  all-come-back = by-places (unitsFrom ss) ss sixteen (λ i h. kept (unitsFrom ss) i h refl)
+
+  -- all units but the one that a call changes come back as they were lent, those past n too
+  pub others-come-back : (j : ℕ) (u : Unit) → j < 16 → unitsBack ss (set (unitsFrom ss) j u) ≡ set ss j (unitBack (getD ss j emptyLent) u)
+  others-come-back j u h = by-places (set (unitsFrom ss) j u) (set ss j back) (length-set ss j back ∙ sixteen) (λ i hi. each i hi (eqb i j) refl)
+    where
+      back : LentUnit
+      back = unitBack (getD ss j emptyLent) u
+
+      each : (i : ℕ) → i < 16 → (t : Bool) → eqb i j ≡ t → unitBack (getD ss i emptyLent) (getD (set (unitsFrom ss) j u) i emptyUnit) ≡ getD (set ss j back) i emptyLent
+      each i hi true e =
+          let long : length (unitsFrom ss) ≡ 16 = length-up-to 16 (λ (k : ℕ). unitFrom (getD ss k emptyLent)) in
+          rw (eqb-true i j e, getD-set-same (unitsFrom ss) j u emptyUnit (omega (arith, long)), getD-set-same ss j back emptyLent (omega (arith, sixteen)))
+      each i hi false e = kept (set (unitsFrom ss) j u) i hi (getD-set-other (unitsFrom ss) j i u emptyUnit (eqb-false i j e)) ∙ sym (getD-set-other ss j i back emptyLent (eqb-false i j e))

@@ -1,11 +1,11 @@
 -- `units_back` meets its contract. The invariant: the first i places are done, the others as lent.
 -- Assumes nothing.
 use Prim.Native.Nat.{ℕ, _-_, _≤_}
-use mathlib.Core.Path.{_≡_, refl, sym, _∙_}
+use mathlib.Core.Path.{_≡_, refl, _∙_}
 use mathlib.Core.List.{_++_}
 use native.Mathlib.Omega.{arith}
-use lib.ListN.{length, getD, drop, replicate}
-use Rattle.unit.specs.State.{emptyUnit, noUnit}
+use lib.ListN.{length, getD, drop}
+use Rattle.unit.specs.State.{emptyUnit}
 use Rattle.cabi.specs.Lent.{emptyLent, upTo, unitBack}
 use Rattle.cabi.specs.Lent.Laws.{up-to-next, up-to-done}
 use borrow.Author.Needs.{needs}
