@@ -1,28 +1,28 @@
 -- The calls on bytes: making a network and a delivery, refusals in 01's order.
 -- 01: "Making .. a shed: 5, 6, 7, 13." "Delivery: 13, 5 (n, sizes), 6, 7, 5 (any unit's state, pool count), 12, 15, the step's from 8 on, 14."
 -- Assumes nothing.
-use Prim.Native.Nat.{ℕ, zero, suc, _+_, _*_, _-_, pred}
-use mathlib.Core.Bool.{Bool, true, false, cond, not, _&&_}
-use mathlib.Core.List.{List, [], _∷_, _++_}
-use lib.Dec.{ltb, leb, eqb}
+use Prim.Native.Nat.{ℕ, zero, suc, _+_, _-_, pred}
+use mathlib.Core.Bool.{Bool, true, false, cond, _&&_}
+use mathlib.Core.List.{List}
+use lib.Dec.{ltb, leb}
 use lib.ListN.{length, getD, set, replicate}
+use Rattle.base.specs.Limits.{poolSize, poolCells}
+use Rattle.base.specs.Refusal.{orElse}
 use Rattle.table.specs.Stream.{unitsOf, streamRefusal}
-use Rattle.costs.specs.Instance.{Instance, viewOf, instanceOf}
+use Rattle.costs.specs.Instance.{viewOf, instanceOf}
 use Rattle.costs.specs.Gather.{sizesIn}
-use Rattle.message.specs.declared.Parsed.{Parsed}
-use Rattle.message.specs.Message.{Packet, isUnit, every}
+use Rattle.message.specs.Message.{isUnit, every}
 use Rattle.message.specs.Decode.{parseFor}
 use Rattle.unit.specs.declared.Unit.{Unit}
 use Rattle.unit.specs.State.{noUnit, fresh, inRange}
 use Rattle.unit.specs.Step.{Out, refused, accepted, assign}
 use Rattle.unit.specs.Send.{packets, laid}
-use Rattle.unit.specs.Calls.{onRead}
-use Rattle.network.specs.declared.Core.{Core}
+use Rattle.unit.specs.Calls.{unlessRefused, onRead}
 use Rattle.network.specs.declared.Network.{Network}
 use Rattle.network.specs.declared.Answer.{Answer}
 use Rattle.network.specs.Count.{zeroCount, plus}
 use Rattle.network.specs.Pool.{cellOf, poolAfter}
-use Rattle.network.specs.Run.{capacity, unitAt}
+use Rattle.unit.specs.Units.{unitAt}
 
 -- what a call gives: the answer, and the bytes of the lent pool
 pub record Result : Type 0 where
@@ -49,11 +49,7 @@ made n pool (accepted u s ws) =
 
 -- 01: "5, 6, 7, 13"
 unfoldable pub makeRefusal : List ℕ → List ℕ → ℕ
-makeRefusal stream pool = cond (not (eqb (streamRefusal stream) 0)) (streamRefusal stream) (cond (ltb (length pool) 65536) 13 0)
-
-abbrev pub unlessRefused : ℕ → Out → Out
-unlessRefused zero o = o
-unlessRefused (suc r) o = refused (suc r)
+makeRefusal stream pool = orElse (streamRefusal stream) (cond (ltb (length pool) poolSize) 13 0)
 
 -- 01: "Making unit 1 assigns", "making the shed counts unit 1's records"
 unfoldable pub makeOf : List ℕ → List ℕ → Result
@@ -64,14 +60,16 @@ makeOf stream pool = made (unitsOf stream) pool (unlessRefused (makeRefusal stre
 -- 01, 5: "any unit's state, pool count"; units 1 to n only
 unfoldable pub networkInRange : List ℕ → Network → Bool
 networkInRange stream net =
-    every (λ (k : ℕ). inRange (sizesIn stream) (viewOf (instanceOf stream) k) (unitAt (net .core .units) k)) (unitsOf stream) && leb (net .used) capacity
+    every (λ (k : ℕ). inRange (sizesIn stream) (viewOf (instanceOf stream) k) (unitAt (net .core .units) k)) (unitsOf stream) && leb (net .used) poolCells
 
--- the first of 13, 5, 6, 7, 5, 12, 15 that applies, or 0
+-- the first of 13, 5, 6, 7, 5, 12 that applies, or 0: what is asked whatever message is to be delivered
+unfoldable pub networkRefusal : Network → List ℕ → List ℕ → ℕ
+networkRefusal net stream pool =
+    orElse (cond (ltb (length pool) poolSize) 13 0) (orElse (streamRefusal stream) (orElse (cond (networkInRange stream net) 0 5) (cond (unitAt (net .core .units) 0 .stopped) 12 0)))
+
+-- then 15
 unfoldable pub deliverRefusal : Network → List ℕ → List ℕ → ℕ → ℕ
-deliverRefusal net stream pool cell =
-    cond (ltb (length pool) 65536) 13
-    (cond (not (eqb (streamRefusal stream) 0)) (streamRefusal stream)
-    (cond (not (networkInRange stream net)) 5 (cond (unitAt (net .core .units) 0 .stopped) 12 (cond (leb (net .used) cell) 15 0))))
+deliverRefusal net stream pool cell = orElse (networkRefusal net stream pool) (cond (leb (net .used) cell) 15 0)
 
 -- the unit that a packet names as its receiver; one that is no unit is refused by any unit's reading, as by unit 1's
 abbrev pub receiverOf : ℕ → List ℕ → ℕ
@@ -102,7 +100,7 @@ abbrev pub onOut : Network → List ℕ → ℕ → ℕ → ℕ → Out → Resu
 onOut net pool cell n own (refused r) = refusedDelivery net pool r
 onOut net pool cell n own (accepted u s ws) =
     let ps = packets n (pred own) s in
-    ifFits (leb (net .used - 1 + length ps) capacity) net pool
+    ifFits (leb (net .used - 1 + length ps) poolCells) net pool
     (record { answer = record { refusal = 0; network = stepped net own u (length ps) (length ws) }; pool = poolAfter (net .used) cell ps pool })
 
 abbrev pub deliverBy : ℕ → Network → List ℕ → List ℕ → ℕ → Result

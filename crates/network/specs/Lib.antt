@@ -1,12 +1,11 @@
--- A network of units: counts, the pool, the run over messages, the calls on bytes, and demand 3.
+-- A network of units. The statement: counts, the run over messages, the calls on bytes, demand 3. The pool. The proof; and how the code does what the calls say.
 pub mod Count
 pub mod Digits
-pub mod Pool
 pub mod Run
 pub mod Calls
 pub mod Demand3
-pub mod Simulation
-pub mod Follow
+pub mod Pool
+pub mod Proof
 pub mod Theorem
 pub mod Settle
-pub mod Delivery
+pub mod Code

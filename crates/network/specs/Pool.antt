@@ -4,8 +4,9 @@ use Prim.Native.Nat.{ℕ, suc, _+_, _*_, _-_}
 use mathlib.Core.List.{List, _++_}
 use lib.ListN.{length, take, drop}
 use Rattle.message.specs.Message.{Packet}
-use Rattle.unit.specs.Send.{encodeAll, laid}
+use Rattle.unit.specs.Send.{encodeAll}
 pub mod Laws
+pub mod Stored
 
 -- the bytes of a cell
 abbrev pub cellOf : List ℕ → ℕ → List ℕ

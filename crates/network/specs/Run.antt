@@ -1,104 +1,135 @@
 -- A network of units over messages: making, a delivery, and a run, fed only the table and the list of cells. No byte is met here.
 -- 01, 'Runs, for demand 3': "A run is a list of deliveries to a shed as making left it."
---     History                      the units, the messages waiting, and what has happened so far
---     begin, handOver, run         making; one delivery; a list of them
---     written, prefixes            the records that a run writes
+--     Pool                           what a pool is: the message at a cell, what is left without it, and with others put in
+--     HistoryOf, hand, deliverIn     what has happened so far; a packet handed to its unit; a delivery, over any pool
+--     cells                          01's pool: the messages that wait, one after the other
+--     begin, handOver, run           making, one delivery, and a list of them, over 01's pool
+--     written                        the records that a run writes
 -- Assumes nothing.
-use Prim.Native.Nat.{ℕ, zero, suc, _+_, _*_, _-_, pred}
-use mathlib.Core.Bool.{Bool, true, false, cond}
-use mathlib.Core.List.{List, [], _∷_, _++_, map}
-use lib.Dec.{ltb, leb, eqb}
-use lib.ListN.{length, getD, set, take, drop, replicate}
+use Prim.Native.Nat.{ℕ, suc}
+use mathlib.Core.Bool.{Bool, true, false}
+use mathlib.Core.List.{List, [], _∷_, _++_}
+use mathlib.Core.Option.{Option, none, some}
+use lib.Dec.{leb}
+use lib.ListN.{length, set, take, drop, replicate}
+use Rattle.base.specs.Limits.{poolCells}
 use Rattle.costs.specs.Instance.{Instance, viewOf, instanceOf}
 use Rattle.message.specs.Message.{Packet}
 use Rattle.unit.specs.declared.Unit.{Unit}
-use Rattle.unit.specs.State.{fresh, emptyUnit}
-use Rattle.unit.specs.Step.{Out, refused, accepted, Written, assign, respond}
+use Rattle.unit.specs.State.{fresh}
+use Rattle.unit.specs.Step.{Out, refused, accepted, Written, assign}
 use Rattle.unit.specs.Send.{packets}
+pub use Rattle.unit.specs.Units.{unitAt, placeOf, stepOn}
 
--- 01: "The pool is 1,024 cells"
-abbrev pub capacity : ℕ
-capacity = 1024
+-- ---- a pool of messages, by cell
 
--- What a run has led to: the units by place, the messages that wait by cell, the records written, what was sent and what was
--- handed over, each oldest first.
-pub record History : Type 0 where
+pub record Pool (W : Type 0) : Type 0 where
+  pub start : List Packet → W  -- as making leaves it
+  pub at : W → ℕ → Option Packet  -- the message at a cell
+  pub without : W → ℕ → W  -- that one taken out
+  pub put : W → List Packet → Option W  -- others put in; none where they don't fit
+
+-- What a run has led to: the units by place, the messages that wait, the records written, what was sent and what was handed over,
+-- each oldest first.
+pub record HistoryOf (W : Type 0) : Type 0 where
   pub units : List Unit
-  pub waiting : List Packet
+  pub waiting : W
   pub written : List Written
   pub sent : List Packet
   pub handed : List Packet
 
--- the unit at a place
-abbrev pub unitAt : List Unit → ℕ → Unit
-unitAt us k = getD us k emptyUnit
+pub data DeliveryOf (W : Type 0) : Type 0 where
+  refusedBy : ℕ → DeliveryOf W
+  delivered : HistoryOf W → DeliveryOf W
 
--- 01: "Box 1 has stopped"
-abbrev pub stopped : History → Bool
-stopped H = unitAt (H .units) 0 .stopped
+-- ---- a packet goes to its unit, whatever cell it is from: `put` says what waits once the unit's packets are put in
 
--- ---- making: unit 1 assigns
+module _ {W : Type 0} where
+  -- 01: "Box 1 has stopped"
+  abbrev pub stopped : HistoryOf W → Bool
+  stopped H = unitAt (H .units) 0 .stopped
 
-abbrev pub begunWith : Instance → Out → History
-begunWith I (refused r) = record { units = replicate 16 fresh; waiting = []; written = []; sent = []; handed = [] }
-begunWith I (accepted u s ws) =
-    let ps = packets (I .n) 0 s in
-    record { units = set (replicate 16 fresh) 0 u; waiting = ps; written = ws; sent = ps; handed = [] }
+  -- the packet p was handed over: its unit is u now, it sent ps and wrote ws, and w waits
+  abbrev pub after : HistoryOf W → Packet → Unit → List Packet → List Written → W → HistoryOf W
+  after H p u ps ws w = record { units = set (H .units) (placeOf p) u; waiting = w; written = H .written ++ ws; sent = H .sent ++ ps; handed = H .handed ++ (p ∷ []) }
 
-unfoldable pub begin : Instance → History
-begin I = begunWith I (assign (viewOf I 0) fresh)
+  -- 01, refusal 14: "outgoing messages don't fit the pool after the taken one left"
+  abbrev pub ifFits : HistoryOf W → Packet → Unit → List Packet → List Written → Option W → DeliveryOf W
+  ifFits H p u ps ws none = refusedBy 14
+  ifFits H p u ps ws (some w) = delivered (after H p u ps ws w)
 
--- ---- one delivery
+  abbrev pub onOut : Instance → HistoryOf W → Packet → (List Packet → Option W) → Out → DeliveryOf W
+  onOut I H p put (refused r) = refusedBy r
+  onOut I H p put (accepted u s ws) = ifFits H p u (packets (I .n) (placeOf p) s) ws (put (packets (I .n) (placeOf p) s))
 
-pub data Delivery : Type 0 where
-  refusedBy : ℕ → Delivery
-  delivered : History → Delivery
+  abbrev pub hand : Instance → HistoryOf W → Packet → (List Packet → Option W) → DeliveryOf W
+  hand I H p put = onOut I H p put (stepOn I (H .units) p)
 
--- the place of the unit that a packet is for
-abbrev pub placeOf : Packet → ℕ
-placeOf p = pred (p .message .receiver)
+  -- 01: "A refused delivery stays in the list and changes nothing"
+  abbrev pub onward : HistoryOf W → DeliveryOf W → HistoryOf W
+  onward H (refusedBy r) = H
+  onward H (delivered K) = K
+
+-- ---- making, a delivery and a run over a pool
+
+module _ {W : Type 0} (L : Pool W) where
+  abbrev pub begunWith : Instance → Out → HistoryOf W
+  begunWith I (refused r) = record { units = replicate 16 fresh; waiting = L .start []; written = []; sent = []; handed = [] }
+  begunWith I (accepted u s ws) =
+      let ps = packets (I .n) 0 s in
+      record { units = set (replicate 16 fresh) 0 u; waiting = L .start ps; written = ws; sent = ps; handed = [] }
+
+  -- 01: "Making unit 1 assigns"
+  abbrev pub beginIn : Instance → HistoryOf W
+  beginIn I = begunWith I (assign (viewOf I 0) fresh)
+
+  -- 01, refusal 15: "no message at that cell"
+  abbrev pub takeCell : Instance → HistoryOf W → ℕ → Option Packet → DeliveryOf W
+  takeCell I H cell none = refusedBy 15
+  takeCell I H cell (some p) = hand I H p (L .put (L .without (H .waiting) cell))
+
+  -- 01, refusal 12: "(in the shed: unit 1) has stopped"
+  abbrev pub unlessStopped : Bool → Instance → HistoryOf W → ℕ → DeliveryOf W
+  unlessStopped true I H cell = refusedBy 12
+  unlessStopped false I H cell = takeCell I H cell (L .at (H .waiting) cell)
+
+  abbrev pub deliverIn : Instance → HistoryOf W → ℕ → DeliveryOf W
+  deliverIn I H cell = unlessStopped (stopped H) I H cell
+
+-- ---- 01's pool: "The pool is 1,024 cells"
+
+abbrev pub firstOf : List Packet → Option Packet
+firstOf [] = none
+firstOf (p ∷ ps) = some p
+
+abbrev pub ifRoom : Bool → List Packet → Option (List Packet)
+ifRoom true ps = some ps
+ifRoom false ps = none
 
 -- 01: "closes the gap by moving later cells down one, and adds what the step sends at the end"
-abbrev pub after : History → ℕ → Packet → List Packet → Unit → List Packet → List Written → History
-after H k p rest u ps ws =
-    record { units = set (H .units) k u; waiting = rest ++ ps; written = H .written ++ ws; sent = H .sent ++ ps; handed = H .handed ++ (p ∷ []) }
+abbrev pub cells : Pool (List Packet)
+cells = record {
+  start = λ ps. ps;
+  at = λ ms c. firstOf (drop c ms);
+  without = λ ms c. take c ms ++ drop (suc c) ms;
+  put = λ ms ps. ifRoom (leb (length (ms ++ ps)) poolCells) (ms ++ ps);
+}
 
--- 01, refusal 14: "outgoing messages don't fit the pool after the taken one left"
-abbrev pub ifFits : Bool → History → Delivery
-ifFits true H = delivered H
-ifFits false H = refusedBy 14
+abbrev pub History : Type 0
+History = HistoryOf (List Packet)
 
-abbrev pub onOut : Instance → History → ℕ → Packet → List Packet → Out → Delivery
-onOut I H k p rest (refused r) = refusedBy r
-onOut I H k p rest (accepted u s ws) = ifFits (leb (length (rest ++ packets (I .n) k s)) capacity) (after H k p rest u (packets (I .n) k s) ws)
+abbrev pub Delivery : Type 0
+Delivery = DeliveryOf (List Packet)
 
--- the step of the unit at place k on a packet
-abbrev pub stepAt : Instance → History → ℕ → Packet → Out
-stepAt I H k p = respond (viewOf I k) (p .kind) (unitAt (H .units) k) (p .message)
-
--- 01, refusal 15: "no message at that cell"
-abbrev pub takeCell : Instance → History → List Packet → List Packet → Delivery
-takeCell I H before [] = refusedBy 15
-takeCell I H before (p ∷ later) = onOut I H (placeOf p) p (before ++ later) (stepAt I H (placeOf p) p)
-
--- 01, refusal 12: "(in the shed: unit 1) has stopped"
-abbrev pub unlessStopped : Bool → Instance → History → ℕ → Delivery
-unlessStopped true I H cell = refusedBy 12
-unlessStopped false I H cell = takeCell I H (take cell (H .waiting)) (drop cell (H .waiting))
+unfoldable pub begin : Instance → History
+begin I = beginIn cells I
 
 unfoldable pub handOver : Instance → History → ℕ → Delivery
-handOver I H cell = unlessStopped (stopped H) I H cell
-
--- ---- a run
-
--- 01: "A refused delivery stays in the list and changes nothing"
-abbrev pub kept : History → Delivery → History
-kept H (refusedBy r) = H
-kept H (delivered K) = K
+handOver I H cell = deliverIn cells I H cell
 
 unfoldable pub runFrom : Instance → History → List ℕ → History
 runFrom I H [] = H
-runFrom I H (c ∷ cs) = runFrom I (kept H (handOver I H c)) cs
+runFrom I H (c ∷ cs) = runFrom I (onward H (handOver I H c)) cs
 
 unfoldable pub run : Instance → List ℕ → History
 run I cs = runFrom I (begin I) cs

@@ -3,8 +3,7 @@
 use crate::Count;
 use crate::Text;
 ghost use mathlib.Core.Path.{_≡_};
-ghost use mathlib.Core.Bool.{not};
-ghost use Prim.Native.Nat.{ℕ, _+_, _*_, _≤_, _<_, _/_, _%_, _^_};
+ghost use Prim.Native.Nat.{_+_, _*_, _≤_, _<_};
 ghost use lib.Dec.{eqb};
 ghost use Rattle.network.specs.Count.{valueOf};
 ghost use Rattle.network.specs.Digits.{digitsOf};

@@ -9,7 +9,7 @@ use unit::Outcome;
 use unit::Unit;
 ghost use mathlib.Core.Path.{_≡_};
 ghost use mathlib.Core.List.{List};
-ghost use Prim.Native.Nat.{ℕ, pred, _*_, _≤_, _<_};
+ghost use Prim.Native.Nat.{ℕ, _≤_, _<_};
 ghost use lib.ListN.{length, getD};
 ghost use Rattle.table.specs.Stream.{unitsOf, Accepted};
 ghost use Rattle.message.specs.Message.{every};
@@ -19,7 +19,7 @@ ghost use Rattle.costs.specs.Bounds.{costWith};
 ghost use Rattle.unit.specs.State.{inRangePaid};
 ghost use Rattle.unit.specs.Laws.Range.{SizedUnit};
 ghost use Rattle.network.specs.Calls.{deliverRefusal, receiverOf, stepped, deliverBy, deliverOf};
-ghost use Rattle.network.specs.Delivery.Steps.{unitInRange, Open, Stepping, Stepped, Storing, storedAnswer, storedPool};
+ghost use Rattle.network.specs.Code.{unitInRange, Open, Stepping, Stepped, Storing, storedAnswer, storedPool};
 
 // The message at a cell is delivered: the network and pool after it, or a refusal with both as lent. Refusals 13, 5, 6, 7, 5, 12, 15, then
 // the step's from 8 on, then 14.

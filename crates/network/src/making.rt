@@ -17,7 +17,7 @@ ghost use Rattle.unit.specs.Step.{assign};
 ghost use Rattle.unit.specs.Calls.{outcomeOf, bytesOf};
 ghost use Rattle.network.specs.Count.{zeroCount};
 ghost use Rattle.network.specs.Calls.{noNetwork, makeRefusal, makeOf};
-ghost use Rattle.network.specs.Delivery.Steps.{begunAnswer};
+ghost use Rattle.network.specs.Code.{begunAnswer};
 
 // A network of a stream's table, its messages at the front of the pool. Refusals 5, 6, 7, 13 in order.
 pub fn make(stream: &[u8], pool: &mut [u8]) -> Answer

@@ -5,7 +5,7 @@ use crate::Network;
 use crate::deliver;
 use crate::make;
 ghost use mathlib.Core.Path.{_≡_};
-ghost use Rattle.network.specs.Run.{unitAt};
+ghost use Rattle.unit.specs.Units.{unitAt};
 ghost use Rattle.network.specs.Settle.{settleOf};
 
 // Makes a network of a stream and delivers cell 0 until unit 1 stops; none of these deliveries is refused. Refusals: making's.

@@ -11,6 +11,8 @@
 --     oldest-accepted  each is accepted until unit 1 stops
 --     oldest-ends      after as many as demand 3 allows it has stopped
 --
+-- That no prefix is written twice is said of the records themselves: Simulation/Units.antt (`Matches`).
+--
 -- Read first: Problem.antt (what is asked of costs), Machine.antt (the rules), and this. The rest is proof:
 -- Lists, Tests, Walk            small facts; the ways through a step, a delivery and a run
 -- Safety                        facts that only grow: about records written and messages ever sent, whatever the pool does
@@ -24,7 +26,7 @@ use Prim.Native.Nat.{ℕ, zero, suc, _+_, _*_, _-_, _≤_}
 use mathlib.Core.Path.{_≡_}
 use mathlib.Core.Logic.{_≢_}
 use mathlib.Core.Bool.{true, false}
-use mathlib.Core.List.{List, [], _∷_, _++_, map}
+use mathlib.Core.List.{List, [], _++_, map}
 use Rattle.protocol.specs.Problem.{Problem, Full, ValidBound, N}
 use Rattle.protocol.specs.Machine.{Msg, to, valuesOf, Agent, refused, step, Network}
 use Rattle.protocol.specs.Lists.{In}
@@ -33,10 +35,6 @@ use Rattle.protocol.specs.Lists.{In}
 abbrev pub written : (ℕ → Agent) → ℕ → List (List ℕ)
 written us zero = []
 written us (suc k) = map valuesOf (us k .log) ++ written us k
-
-abbrev pub Distinct : List (List ℕ) → Type 0
-Distinct [] = Unit {0}
-Distinct (x ∷ xs) = (In x xs → ⊥) × Distinct xs
 
 -- the most deliveries that follow from one record, and from all
 abbrev pub mostEach : Problem → ℕ
@@ -50,8 +48,6 @@ abbrev pub roomNeeded : Problem → ℕ
 roomNeeded P = P .n * P .n + P .n
 
 pub record Demand3 (P : Problem) (S : Network) : Type 0 where
-  -- no prefix is written twice
-  pub distinct : Distinct (written (S .units) (P .n))
   -- at most (3n - 1) × N deliveries are accepted, and with that many unit 1 has stopped
   pub bounded : S .accepted ≤ most P
   pub ends : S .accepted ≡ most P → S .units 0 .stopped ≡ true

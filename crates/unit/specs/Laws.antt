@@ -5,6 +5,8 @@
 --     Assign, Steps             a unit in range takes any message that reads well, stays in range, and sends what can be written; so does making
 --     Bounds                    a stale message changes nothing; the bound never rises; unit n keeps no CPA
 --     Calls                     the same of making and a step as called
+--     Refusals                  a refusal has a number; assigning refuses nothing
+--     Units                     many units in range: a step of one leaves all in range, and sends what can be written
 --     Readiness                 what a step has checked is what the deciding functions ask
 pub mod Views
 pub mod Stamps
@@ -15,4 +17,6 @@ pub mod Assign
 pub mod Steps
 pub mod Bounds
 pub mod Calls
+pub mod Refusals
+pub mod Units
 pub mod Readiness

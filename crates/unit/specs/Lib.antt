@@ -1,8 +1,9 @@
--- One unit, in reading order: its state, what it does, what it sends, and the two calls; what the deciding code asks of its arguments.
+-- One unit, in reading order: its state, what it does, what it sends, and the two calls; what the deciding code asks of its arguments; many units.
 pub mod State
 pub mod Step
 pub mod Send
 pub mod Laying
 pub mod Calls
 pub mod Ready
+pub mod Units
 pub mod Laws

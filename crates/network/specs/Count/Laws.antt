@@ -1,7 +1,7 @@
 -- A count with m more is the number with m more, modulo 2^128. By the two digits of a number to the base 2^64, for any base.
 -- Assumes nothing.
-use Prim.Native.Nat.{ℕ, _+_, _*_, _/_, _%_, _^_, _≤_, _<_, zero}
-use mathlib.Core.Path.{_≡_, refl, sym, ap, _∙_}
+use Prim.Native.Nat.{ℕ, _+_, _*_, _/_, _%_, _^_, _<_, zero}
+use mathlib.Core.Path.{_≡_, sym, ap, _∙_}
 use native.Mathlib.Omega.{arith}
 use native.Mathlib.Nat.{mul-add-div-right, mul-add-mod-self-right, mod-eq-of-lt, add-assoc}
 use mathlib.Core.Bool.{false}
@@ -9,14 +9,11 @@ use lib.Arith.{mod-mul}
 use lib.Dec.{eqb}
 use borrow.Author.Tests.{ne-eqb}
 use Rattle.network.specs.declared.Count.{Count}
-use Rattle.network.specs.Count.{zeroCount, valueOf, plus}
+use Rattle.network.specs.Count.{valueOf, plus}
 
 -- the carry of a low word that went round
 pub carry-one : (l m r : ℕ) → l < 2 ^ 64 → m < 2 ^ 64 → r ≡ (l + m) % 2 ^ 64 → r < m → (l + m) / 2 ^ 64 ≡ 1
 carry-one l m r hl hm e h = omega arith
-
-pub carry-none : (l m r : ℕ) → l < 2 ^ 64 → m < 2 ^ 64 → r ≡ (l + m) % 2 ^ 64 → m ≤ r → (l + m) / 2 ^ 64 ≡ 0
-carry-none l m r hl hm e h = omega arith
 
 -- two digits to the base b with m more
 digits-plus : (b l h m : ℕ) → zero < b → ((h + (l + m) / b) % b) * b + (l + m) % b ≡ (h * b + l + m) % (b * b)
@@ -31,9 +28,6 @@ plus-value m c = digits-plus (2 ^ 64) (c .low) (c .high) m (omega arith)
 -- without the modulus, while it lasts
 pub plus-exact : (m : ℕ) (c : Count) → valueOf c + m < 2 ^ 64 * 2 ^ 64 → valueOf (plus m c) ≡ valueOf c + m
 plus-exact m c h = plus-value m c ∙ mod-eq-of-lt h
-
-pub zero-value : valueOf zeroCount ≡ 0
-zero-value = refl
 
 -- a number is 0 where both its words are
 positive : (h l : ℕ) → (h ≡ 0 → ⊥) → h * 2 ^ 64 + l ≡ 0 → ⊥

@@ -3,10 +3,10 @@
 use Prim.Native.Nat.{ℕ, suc, _+_, _*_, _-_, _≤_, _<_}
 use mathlib.Core.Path.{_≡_, sym, ap, _∙_}
 use mathlib.Core.List.{List, _++_, append-assoc}
-use native.Mathlib.Numerals.{add-one}
 use native.Mathlib.Omega.{arith}
 use lib.ListN.{length, getD, take, drop, set, length-append, length-drop}
-use lib.Seq.{paste, paste-suc, length-paste-head, getD-append-add, getD-drop, length-take-le, take-at, drop-append-add, drop-drop}
+use lib.Seq.{paste, length-paste-head, getD-append-add, getD-drop, length-take-le, take-at, drop-append-add, drop-drop}
+use Rattle.base.specs.Put.{paste-more}
 use Rattle.message.specs.Message.{Packet}
 use Rattle.unit.specs.Send.{encodeAll, laid}
 use Rattle.network.specs.Pool.{laterCells, poolAfter, closeGap}
@@ -21,10 +21,6 @@ paste-past d at s j n k hd hs e =
     (ap (λ (m : ℕ). getD (p ++ drop (at + j) d) (m + n) 0) (sym (length-paste-head d at s j hd hs))
     ∙ getD-append-add p (drop (at + j) d) n 0
     ∙ getD-drop (at + j) d n 0)
-
--- a byte copied
-pub paste-more : (d : List ℕ) (at : ℕ) (s : List ℕ) (j : ℕ) → at + j < length d → j < length s → set (paste d at s j) (at + j) (getD s j 0) ≡ paste d at s (j + 1)
-paste-more d at s j hd hs = rw add-one (paste-suc d at s j 0 hd hs)
 
 -- a byte moved down
 pub gap-more : (d : List ℕ) (at j : ℕ) → at + 64 + j < length d

@@ -30,6 +30,7 @@ use Rattle.unit.specs.Send.{packets}
 use Rattle.protocol.specs.Machine as M
 use Rattle.protocol.specs.Machine.{Msg, Agent}
 use Rattle.protocol.specs.Tests.{eqb-same, and-true, same-refl}
+use Rattle.protocol.specs.Walk.{recount-out}
 use Rattle.protocol.specs.Safety.Facts.{History, OnLog, ValidMsg, Before, Good}
 use Rattle.protocol.specs.Safety.Step.{the-cpa-out}
 use Rattle.protocol.specs.Simulation.Stamps.{rank, Digits, filled-more, rank-pad, Compared, order-of-ranks, same-ranks, same-prefixes}
@@ -76,10 +77,6 @@ module _ (I : Instance) (free : FreeWhenUnassigned I) (laws : Laws (problemOf I)
               omega (arith, a, b, cost-next I k (s .values) (ownValue (viewOf I k) s));
         };
       }
-
-  recount-out : (v c : ℕ) → 1 ≤ v → M.recount v c ≡ c
-  recount-out zero c h = absurd (omega arith)
-  recount-out (suc v) c h = refl
 
   out-ready : 1 ≤ u .own → u .threshold ≡ M.stamp u → ReadyToAssign I k k16 u
   out-ready o e =

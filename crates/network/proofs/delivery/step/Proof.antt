@@ -7,7 +7,7 @@ use borrow.Author.Needs.{needs}
 use lib.ListN.{take, drop, replicate, length-replicate}
 use Rattle.costs.specs.Gather.{gathered}
 use Rattle.unit.specs.Laws.Range.{SizedUnit}
-use Rattle.network.specs.Delivery.Steps.{lent-count, lent-front, step-told}
+use Rattle.network.specs.Code.{lent-count, lent-front, step-told}
 use Rattle.network.proofs.delivery.step.Statement.{statement}
 use Rattle.network.proofs.delivery.step.Tie as tie
 

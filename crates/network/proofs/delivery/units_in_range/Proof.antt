@@ -10,8 +10,8 @@ use Rattle.table.specs.StreamLaws.{accepted-units}
 use Rattle.costs.specs.Gather.{sizesIn}
 use Rattle.message.specs.Message.{every}
 use Rattle.message.specs.Laws.{every-more, every-not}
-use Rattle.network.specs.Run.{unitAt}
-use Rattle.network.specs.Delivery.Steps.{unitInRange, range-of-paid}
+use Rattle.unit.specs.Units.{unitAt}
+use Rattle.network.specs.Code.{unitInRange, range-of-paid}
 use Rattle.network.proofs.delivery.units_in_range.Statement.{statement}
 use Rattle.network.proofs.delivery.units_in_range.Tie as tie
 

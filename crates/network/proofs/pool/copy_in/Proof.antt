@@ -5,7 +5,7 @@ use native.Mathlib.Omega.{arith}
 use borrow.Author.Needs.{needs}
 use lib.ListN.{length, length-set}
 use lib.Seq.{paste, paste-zero}
-use Rattle.network.specs.Pool.Laws.{paste-more}
+use Rattle.base.specs.Put.{paste-more}
 use Rattle.network.proofs.pool.copy_in.Statement.{statement}
 use Rattle.network.proofs.pool.copy_in.Tie as tie
 

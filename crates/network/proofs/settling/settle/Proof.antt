@@ -1,27 +1,19 @@
--- `network::settle` meets its contract. The loop's invariant: the network and the pool are what k accepted deliveries of cell 0 have left of
--- what making gave. The measure is (3n - 1) × N less the accepted deliveries, in the two count words: demand 3 bounds them.
-use Prim.Native.Nat.{ℕ, _+_, _-_, _≤_, _<_}
-use mathlib.Core.Path.{_≡_, refl, sym, ap, _∙_, subst}
-use mathlib.Core.Bool.{true, false}
-use native.Mathlib.Omega.{arith}
+-- `network::settle` meets its contract. The loop's invariant: the network and the pool are what as many deliveries of cell 0 as are counted
+-- have left of what making gave. The measure is (3n - 1) × N less the accepted deliveries, in the two count words: demand 3 bounds them.
+use Prim.Native.Nat.{_-_}
+use mathlib.Core.Path.{_≡_, refl, sym, _∙_}
 use lib.ListN.{length}
 use borrow.Author.Needs.{needs}
 use borrow.Author.Tests.{not-true, not-false}
 use Rattle.costs.specs.Instance.{instanceOf}
 use Rattle.network.specs.Count.{valueOf}
-use Rattle.network.specs.Calls.{Result, makeOf, deliverOf}
-use Rattle.network.specs.Demand3.{State, stateOf, delivered, refusalAt, Made, most}
-use Rattle.network.specs.Settle.{After, Reached, settle-unmade, reached-start, reached-next, measure-falls, settle-stopped}
+use Rattle.network.specs.Demand3.{most}
+use Rattle.network.specs.Settle.{After, settle-unmade, reached-start, reached-next, measure-falls, settle-stopped}
 use Rattle.network.proofs.settling.settle.Statement.{statement}
 use Rattle.network.proofs.settling.settle.Tie as tie
-use Rattle.network.proofs.settling.settle.Reads as reads
-use Rattle.network.proofs.settling.settle.Lts as lts
-use Rattle.network.proofs.delivery.deliver.Reads as deliver-reads
-use Rattle.network.proofs.settling.has_stopped.Reads as has-stopped-reads
-use Rattle.network.proofs.making.make.Reads as make-reads
 
 abbrev Inv-loop : tie.InvT-loop
-Inv-loop stream pool₀ net₀ pool net = (length pool ≡ length pool₀) × ((k : ℕ) × After stream (record { network = net₀; pool = pool₀ }) (record { network = net; pool = pool }) k)
+Inv-loop stream pool₀ net₀ pool net = (length pool ≡ length pool₀) × After stream (record { network = net₀; pool = pool₀ }) (record { network = net; pool = pool })
 
 abbrev μ-loop : tie.MeasureT-loop
 μ-loop stream pool₀ net₀ pool net = most (instanceOf stream) - valueOf (net .core .deliveries)

@@ -1,19 +1,19 @@
 -- The records of a run stand on the machine's logs, and no prefix is among them twice: a unit's log rises in the rank of its
 -- prefixes, so what a step adds to it comes after all that was there (`written-apart`).
 -- Assumes nothing.
-use Prim.Native.Nat.{ℕ, zero, suc, _+_, _<_}
+use Prim.Native.Nat.{ℕ, _<_}
 use mathlib.Core.Path.{_≡_, refl, sym, ap, _∙_, subst}
 use mathlib.Core.Logic.{_⊎_, inl, inr}
 use mathlib.Core.List.{List, [], _∷_, _++_, reverse, reverse-reverse, append-assoc}
 use native.Mathlib.Omega.{arith}
 use lib.ListN.{length, length-append}
 use Rattle.unit.specs.Step.{Written}
+use Rattle.unit.specs.Units.{SamePrefix, Distinct}
 use Rattle.protocol.specs.Problem.{Problem}
 use Rattle.protocol.specs.Machine.{Record, valuesOf, Agent}
 use Rattle.protocol.specs.Lists.{In, here, there, in-cases, in-append, in-left, in-right, not-in-nil, Every}
 use Rattle.protocol.specs.Safety.Facts.{History, Sorted, rank}
 use Rattle.protocol.specs.Simulation.Relations.{RecordIs, Grown}
-use Rattle.network.specs.Demand3.{SamePrefix, Distinct}
 
 pub distinct-append : (a b : List Written) → Distinct a → Distinct b → ((x y : Written) → In x a → In y b → SamePrefix x y → ⊥) → Distinct (a ++ b)
 distinct-append [] b h g f = g

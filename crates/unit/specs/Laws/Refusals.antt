@@ -1,13 +1,13 @@
 -- A refusal has a number: reading and responding never give 0 for one, so a 0 means that the message was accepted. And assigning refuses nothing.
 -- By going through the tests of each definition. Assumes nothing.
-use Prim.Native.Nat.{ℕ, zero, suc, pred, _+_, _≤_}
+use Prim.Native.Nat.{ℕ, zero, suc, _+_, _≤_}
 use mathlib.Core.Bool.{Bool, true, false, cond, not, _&&_}
 use mathlib.Core.List.{List}
 use native.Mathlib.Omega.{arith}
 use lib.Dec.{ltb, leb, eqb}
 use lib.ListN.{getD}
 use Rattle.base.specs.Shape.{shapeGood}
-use Rattle.costs.specs.Instance.{View, viewOf, instanceOf}
+use Rattle.costs.specs.Instance.{View}
 use Rattle.costs.specs.Bounds.{costWith, h}
 use Rattle.message.specs.declared.Message.{Message}
 use Rattle.message.specs.declared.Kind.{Kind}
@@ -17,16 +17,12 @@ use Rattle.message.specs.declared.Read.{Read}
 use Rattle.message.specs.declared.Read.the-variants.{Good, Refused}
 use Rattle.message.specs.Message.{addressGood, wellFormed}
 use Rattle.message.specs.Decode.{messageIn, kindOf, checkGood, restZero, forUnit, parseKind, parseFor}
 use Rattle.unit.specs.declared.Unit.{Unit as State}
 use Rattle.unit.specs.declared.Order.{Order}
 use Rattle.unit.specs.declared.Order.the-variants.{Smaller, Equal, Bigger}
 use Rattle.unit.specs.State.{ownValue, left, compareOn, sameOn, withBest, withCpa, withThreshold}
 use Rattle.unit.specs.Step.{Out, refused, accepted, Written, after, takeBound, takeOff, begun, isLast, recordOf, write, afterWrite, tryValue, tryAfter, assign, backtrack, bareCost, reachedBound, resume, onDown, isCpaOut, onOwn, onBack, onEither, onCpa, onFresh, onRequest, sumLater, stored, isOut, reachedByEstimates, onOwnEstimate, onTimely, onEstimate, onSolution, onStop, byKind, unlessStopped, respond}
 use Rattle.unit.specs.Calls.{onRead}
-use Rattle.table.specs.Stream.{unitsOf}
-use Rattle.costs.specs.Gather.{sizesIn}
-use Rattle.network.specs.Run.{unitAt}
-use Rattle.network.specs.Calls.{stepFrom8}
 
 abbrev pub Numbered : Out → Type 0
 Numbered (refused r) = 1 ≤ r
@@ -160,7 +156,7 @@ kind-read b =
     either NumberedRead (eqb b 1) _ _ tt
     (either NumberedRead (eqb b 2) _ _ tt (either NumberedRead (eqb b 3) _ _ tt (either NumberedRead (eqb b 4) _ _ tt (either NumberedRead (eqb b 5) _ _ tt (omega arith)))))
 
-abbrev NumberedParse : Parsed → Type 0
+abbrev pub NumberedParse : Parsed → Type 0
 NumberedParse p = NumberedRead (p .answer)
 
 parsed-kind : (n : ℕ) (sizes s : List ℕ) (m : Message) (a : Read) → NumberedRead a → NumberedParse (parseKind n sizes s m a)
@@ -168,7 +164,7 @@ unfolding parseKind
 parsed-kind n sizes s m (Good k) f = either NumberedParse (restZero s && wellFormed n sizes k m) _ _ tt (omega arith)
 parsed-kind n sizes s m (Refused r) f = f
 
-parse-numbered : (n : ℕ) (sizes : List ℕ) (own : ℕ) (s : List ℕ) → NumberedParse (parseFor n sizes own s)
+pub parse-numbered : (n : ℕ) (sizes : List ℕ) (own : ℕ) (s : List ℕ) → NumberedParse (parseFor n sizes own s)
 unfolding parseFor
 parse-numbered n sizes own s =
     either NumberedParse (not (shapeGood n sizes)) _ _ (omega arith)
@@ -178,12 +174,6 @@ parse-numbered n sizes own s =
 
 -- ---- both
 
-read-numbered : (w : View) (u : State) (a : Read) (m : Message) → NumberedRead a → Numbered (onRead w u a m)
+pub read-numbered : (w : View) (u : State) (a : Read) (m : Message) → NumberedRead a → Numbered (onRead w u a m)
 read-numbered w u (Good k) m f = respond-numbered w k u m
 read-numbered w u (Refused r) m f = f
-
-pub step-numbered : (stream : List ℕ) (units : List State) (own : ℕ) (bytes : List ℕ) → Numbered (stepFrom8 stream units own bytes)
-unfolding stepFrom8
-step-numbered stream units own bytes =
-    read-numbered (viewOf (instanceOf stream) (pred own)) (unitAt units (pred own)) (parseFor (unitsOf stream) (sizesIn stream) own bytes .answer) (parseFor (unitsOf stream) (sizesIn stream) own bytes .message)
-    (parse-numbered (unitsOf stream) (sizesIn stream) own bytes)

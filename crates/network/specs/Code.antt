@@ -1,4 +1,4 @@
--- A delivery in the order of its code: the checks, the step with the gathered costs, and what is stored; and making likewise.
+-- How the pieces of the code make up a delivery, in the order of its code: the checks, the step with the gathered costs, and what is stored; and making likewise.
 --     unitInRange, range-of-paid, check-..     the checks, one at a time; `opened` says what they have passed
 --     step-is, step-keeps                      the step of `unit` with the gathered costs is the definition's, and keeps its limits
 --     storedAnswer, storedPool                 what is stored, in terms of the step's outcome
@@ -7,14 +7,16 @@
 -- Each by the definitions' tests, and by the laws of `costs` and `unit` about gathered costs and steps. Assumes nothing.
 use Prim.Native.Nat.{ℕ, zero, suc, pred, _+_, _*_, _-_, _≤_, _<_}
 use mathlib.Core.Path.{_≡_, refl, sym, ap, _∙_, subst}
-use mathlib.Core.Bool.{Bool, true, false, cond, not, _&&_}
+use mathlib.Core.Bool.{Bool, true, false, cond, _&&_}
 use mathlib.Core.List.{List}
 use native.Mathlib.Omega.{arith}
 use native.Mathlib.Nat.{sub-zero}
-use lib.Dec.{ltb, leb, eqb}
+use lib.Dec.{ltb, leb}
 use lib.ListN.{length, getD, set, take, drop, replicate}
 use lib.Seq.{paste}
-use borrow.Author.Tests.{lt-ltb, le-ltb, ltb-false, le-leb, lt-leb, leb-true, leb-false, eq-eqb, ne-eqb, eqb-true, eqb-false}
+use borrow.Author.Tests.{lt-ltb, le-ltb, ltb-false, le-leb, lt-leb, leb-true, leb-false, eq-eqb}
+use Rattle.base.specs.Shape.{and-left, and-right}
+use Rattle.base.specs.Refusal.{or-left, or-right, or-first}
 use Rattle.table.specs.Stream.{unitsOf, streamRefusal, Accepted}
 use Rattle.table.specs.StreamLaws.{accepted-units}
 use Rattle.costs.specs.Instance.{viewOf, instanceOf}
@@ -22,20 +24,24 @@ use Rattle.costs.specs.Bounds.{costWith}
 use Rattle.costs.specs.Gather.{sizesIn, gathered, gatherCount, gatherInto}
 use Rattle.costs.specs.Gather.Sizes.{length-sizes, accepted-sizes-first, accepted-sizes-good}
 use Rattle.costs.specs.Gather.Laws.{gathered-view, gathered-good, gathered-most, accepted-gatherable, gather-front}
+use Rattle.message.specs.Decode.{parseFor}
 use Rattle.message.specs.Message.{Packet, isUnit, every}
 use Rattle.message.specs.Laws.{every-at}
 use Rattle.message.specs.RoundTrip.{AllBytes}
-use Rattle.unit.specs.declared.Unit.{Unit as State}
+use Rattle.unit.specs.declared.Unit.{Unit as UnitState}
 use Rattle.unit.specs.declared.Outcome.{Outcome}
 use Rattle.unit.specs.State.{noUnit, fresh, inRangePaid, inRange}
 use Rattle.unit.specs.Step as U
 use Rattle.unit.specs.Step.{Out, assign}
 use Rattle.unit.specs.Send.{packets, encodeAll}
+use Rattle.unit.specs.Units.{unitAt}
 use Rattle.unit.specs.Calls as UC
 use Rattle.unit.specs.Calls.{outcomeOf, bytesOf, stepOut, makeOut}
 use Rattle.unit.specs.Laws.Views.{unit-range}
 use Rattle.unit.specs.Laws.Range.{SizedUnit}
 use Rattle.unit.specs.Laws.Assign.{Whenever, Kept}
+use Rattle.unit.specs.Laws.Refusals.{Numbered, Accepts, assign-accepts, parse-numbered, read-numbered}
+use Rattle.unit.specs.Laws.Units.{each-of-all}
 use Rattle.unit.specs.Laws.Calls as UL
 use Rattle.unit.specs.Laws.Calls.{Passed}
 use Rattle.network.specs.declared.Network.{Network}
@@ -43,22 +49,28 @@ use Rattle.network.specs.declared.Answer.{Answer}
 use Rattle.network.specs.Count.{zeroCount, plus}
 use Rattle.network.specs.Pool.{cellOf, closeGap, poolAfter}
 use Rattle.network.specs.Pool.Laws.{sent-front, pool-stored}
-use Rattle.network.specs.Run.{unitAt}
-use Rattle.network.specs.Calls.{Result, noNetwork, made, makeRefusal, makeOf, networkInRange, deliverRefusal, receiverOf, stepFrom8, stepped, ifFits, onOut, deliverBy, deliverOf}
-use Rattle.network.specs.Follow.Cells.{encode-all-length}
-use Rattle.network.specs.Follow.Holds.{every-of-all}
-use Rattle.network.specs.Delivery.Refusals.{Numbered, Accepts, step-numbered, assign-accepts}
+use Rattle.network.specs.Calls.{Result, noNetwork, made, makeRefusal, makeOf, networkInRange, networkRefusal, deliverRefusal, receiverOf, stepFrom8, stepped, ifFits, onOut, deliverBy, deliverOf}
+use Rattle.network.specs.Pool.Stored.{encode-all-length}
 
 -- ---- the checks
 
-abbrev pub unitInRange : List ℕ → List State → ℕ → Bool
+abbrev pub unitInRange : List ℕ → List UnitState → ℕ → Bool
 unitInRange s us k = inRange (sizesIn s) (viewOf (instanceOf s) k) (unitAt us k)
 
 -- by what its own value pays
-pub range-of-paid : (s : List ℕ) (us : List State) (k : ℕ) (u : State) (v paid : ℕ) → u ≡ unitAt us k → v ≡ getD (u .values) k 0
+pub range-of-paid : (s : List ℕ) (us : List UnitState) (k : ℕ) (u : UnitState) (v paid : ℕ) → u ≡ unitAt us k → v ≡ getD (u .values) k 0
     → paid ≡ costWith (viewOf (instanceOf s) k) (u .values) k v → inRangePaid (unitsOf s) (sizesIn s) k paid u ≡ unitInRange s us k
 unfolding inRange instanceOf
 range-of-paid s us k u v paid unit own pays = rw (pays, own, unit)
+
+-- a refusal that was not given says how its test went
+if-so : (t : Bool) (r : ℕ) → cond t (suc r) 0 ≡ 0 → t ≡ false
+if-so true r e = absurd (omega arith)
+if-so false r e = refl
+
+if-not : (t : Bool) (r : ℕ) → cond t 0 (suc r) ≡ 0 → t ≡ true
+if-not true r e = refl
+if-not false r e = absurd (omega arith)
 
 -- what they say together
 pub record Open (net : Network) (s pool : List ℕ) (cell : ℕ) : Type 0 where
@@ -70,61 +82,49 @@ pub record Open (net : Network) (s pool : List ℕ) (cell : ℕ) : Type 0 where
 
 module _ (net : Network) (s pool : List ℕ) (cell : ℕ) where
   pub check-room : length pool < 65536 → 13 ≡ deliverRefusal net s pool cell
-  unfolding deliverRefusal
+  unfolding deliverRefusal networkRefusal
   check-room l = rw (lt-ltb (length pool) 65536 l)
 
   module _ (room : 65536 ≤ length pool) where
     pub check-table : (r : ℕ) → r ≡ streamRefusal s → (r ≡ 0 → ⊥) → r ≡ deliverRefusal net s pool cell
-    unfolding deliverRefusal
-    check-table r e z = rw (le-ltb (length pool) 65536 room, ← e, ne-eqb r 0 z)
+    unfolding deliverRefusal networkRefusal
+    check-table r e z = rw (le-ltb (length pool) 65536 room, ← e, or-first r _ z, or-first r _ z)
 
     module _ (table : streamRefusal s ≡ 0) where
       pub check-states : every (unitInRange s (net .core .units)) (unitsOf s) ≡ false → 5 ≡ deliverRefusal net s pool cell
-      unfolding deliverRefusal networkInRange
-      check-states e = rw (le-ltb (length pool) 65536 room, eq-eqb (streamRefusal s) 0 table, e)
+      unfolding deliverRefusal networkRefusal networkInRange
+      check-states e = rw (le-ltb (length pool) 65536 room, table, e)
 
       module _ (states : every (unitInRange s (net .core .units)) (unitsOf s) ≡ true) where
         pub check-count : 1024 < net .used → 5 ≡ deliverRefusal net s pool cell
-        unfolding deliverRefusal networkInRange
-        check-count l = rw (le-ltb (length pool) 65536 room, eq-eqb (streamRefusal s) 0 table, states, lt-leb (net .used) 1024 l)
+        unfolding deliverRefusal networkRefusal networkInRange
+        check-count l = rw (le-ltb (length pool) 65536 room, table, states, lt-leb (net .used) 1024 l)
 
         module _ (few : net .used ≤ 1024) where
           pub check-stopped : unitAt (net .core .units) 0 .stopped ≡ true → 12 ≡ deliverRefusal net s pool cell
-          unfolding deliverRefusal networkInRange
-          check-stopped e = rw (le-ltb (length pool) 65536 room, eq-eqb (streamRefusal s) 0 table, states, le-leb (net .used) 1024 few, e)
+          unfolding deliverRefusal networkRefusal networkInRange
+          check-stopped e = rw (le-ltb (length pool) 65536 room, table, states, le-leb (net .used) 1024 few, e)
 
           pub check-cell : unitAt (net .core .units) 0 .stopped ≡ false → net .used ≤ cell → 15 ≡ deliverRefusal net s pool cell
-          unfolding deliverRefusal networkInRange
-          check-cell e l = rw (le-ltb (length pool) 65536 room, eq-eqb (streamRefusal s) 0 table, states, le-leb (net .used) 1024 few, e, le-leb (net .used) cell l)
+          unfolding deliverRefusal networkRefusal networkInRange
+          check-cell e l = rw (le-ltb (length pool) 65536 room, table, states, le-leb (net .used) 1024 few, e, le-leb (net .used) cell l)
 
           pub check-none : unitAt (net .core .units) 0 .stopped ≡ false → cell < net .used → 0 ≡ deliverRefusal net s pool cell
-          unfolding deliverRefusal networkInRange
-          check-none e l = rw (le-ltb (length pool) 65536 room, eq-eqb (streamRefusal s) 0 table, states, le-leb (net .used) 1024 few, e, lt-leb (net .used) cell l)
+          unfolding deliverRefusal networkRefusal networkInRange
+          check-none e l = rw (le-ltb (length pool) 65536 room, table, states, le-leb (net .used) 1024 few, e, lt-leb (net .used) cell l)
 
   pub opened : deliverRefusal net s pool cell ≡ 0 → Open net s pool cell
-  unfolding deliverRefusal networkInRange Accepted
+  unfolding deliverRefusal networkRefusal networkInRange Accepted
   opened z =
-      go (ltb (length pool) 65536) refl (eqb (streamRefusal s) 0) refl (every (unitInRange s (net .core .units)) (unitsOf s)) refl (leb (net .used) 1024) refl (unitAt (net .core .units) 0 .stopped)
-      (leb (net .used) cell) refl z
-    where
-      never : {A : Type 0} → _≡_ {A = ℕ} 1 0 → A
-      never e = absurd (omega arith)
-
-      go : (a : Bool) → ltb (length pool) 65536 ≡ a → (b : Bool) → eqb (streamRefusal s) 0 ≡ b → (c : Bool) → every (unitInRange s (net .core .units)) (unitsOf s) ≡ c
-          → (d : Bool) → leb (net .used) 1024 ≡ d → (e : Bool) → (f : Bool) → leb (net .used) cell ≡ f
-          → cond a 13 (cond (not b) (streamRefusal s) (cond (not (c && d)) 5 (cond e 12 (cond f 15 0)))) ≡ 0 → Open net s pool cell
-      go true a b p c q d r e f t z = absurd (omega arith)
-      go false a false p c q d r e f t z = absurd (eqb-false (streamRefusal s) 0 p z)
-      go false a true p false q d r e f t z = absurd (omega arith)
-      go false a true p true q false r e f t z = absurd (omega arith)
-      go false a true p true q true r true f t z = absurd (omega arith)
-      go false a true p true q true r false true t z = absurd (omega arith)
-      go false a true p true q true r false false t z = record {
-        room = ltb-false (length pool) 65536 a;
-        table = eqb-true (streamRefusal s) 0 p;
-        states = every-at (unitInRange s (net .core .units)) (unitsOf s) q;
-        few = leb-true (net .used) 1024 r;
-        here = leb-false (net .used) cell t;
+      let a = or-left (networkRefusal net s pool) _ z in
+      let b = or-right (cond (ltb (length pool) 65536) 13 0) _ a in
+      let c = if-not _ 4 (or-left (cond (every (unitInRange s (net .core .units)) (unitsOf s) && leb (net .used) 1024) 0 5) _ (or-right (streamRefusal s) _ b)) in
+      record {
+        room = ltb-false (length pool) 65536 (if-so _ 12 (or-left (cond (ltb (length pool) 65536) 13 0) _ a));
+        table = or-left (streamRefusal s) _ b;
+        states = every-at (unitInRange s (net .core .units)) (unitsOf s) (and-left _ _ c);
+        few = leb-true (net .used) 1024 (and-right (every (unitInRange s (net .core .units)) (unitsOf s)) _ c);
+        here = leb-false (net .used) cell (if-so _ 14 (or-right (networkRefusal net s pool) _ z));
       }
 
   -- a refusal ends a delivery, and without one it goes on
@@ -161,18 +161,18 @@ module _ (s : List ℕ) (ok : Accepted s) (own : ℕ) (first : 1 ≤ own) (last 
 -- ---- the step
 
 -- a unit that can step: one of the n, in range
-pub record Stepping (s : List ℕ) (own : ℕ) (u : State) : Type 0 where
+pub record Stepping (s : List ℕ) (own : ℕ) (u : UnitState) : Type 0 where
   pub table : Accepted s
   pub first : 1 ≤ own
   pub last : own ≤ unitsOf s
   pub state : inRange (sizesIn s) (viewOf (instanceOf s) (pred own)) u ≡ true
 
 -- what a step gives and leaves in its buffer
-pub record Stepped (s : List ℕ) (own : ℕ) (u : State) (bytes before : List ℕ) (r : Outcome) (after : List ℕ) : Type 0 where
-  pub outcome : (us : List State) → unitAt us (pred own) ≡ u → r ≡ outcomeOf (unitsOf s) (pred own) u (stepFrom8 s us own bytes)
-  pub buffer : (us : List State) → unitAt us (pred own) ≡ u → after ≡ bytesOf (unitsOf s) (pred own) before (stepFrom8 s us own bytes)
+pub record Stepped (s : List ℕ) (own : ℕ) (u : UnitState) (bytes before : List ℕ) (r : Outcome) (after : List ℕ) : Type 0 where
+  pub outcome : (us : List UnitState) → unitAt us (pred own) ≡ u → r ≡ outcomeOf (unitsOf s) (pred own) u (stepFrom8 s us own bytes)
+  pub buffer : (us : List UnitState) → unitAt us (pred own) ≡ u → after ≡ bytesOf (unitsOf s) (pred own) before (stepFrom8 s us own bytes)
 
-module _ (s : List ℕ) (ok : Accepted s) (us : List State) (own : ℕ) (first : 1 ≤ own) (last : own ≤ unitsOf s) (state : unitInRange s us (pred own) ≡ true) (bytes : List ℕ) (room : ℕ) (fits : 1024 ≤ room) where
+module _ (s : List ℕ) (ok : Accepted s) (us : List UnitState) (own : ℕ) (first : 1 ≤ own) (last : own ≤ unitsOf s) (state : unitInRange s us (pred own) ≡ true) (bytes : List ℕ) (room : ℕ) (fits : 1024 ≤ room) where
   passes : Passed (unitAt us (pred own)) own (unitsOf s) (sizesIn s) (gathered s own) room
   passes = record {
     shape = accepted-sizes-good s ok;
@@ -194,8 +194,15 @@ module _ (s : List ℕ) (ok : Accepted s) (us : List State) (own : ℕ) (first :
       (rw (gathered-view s ok own first last (sizesIn s) (accepted-sizes-first s ok)) at
       (UL.step-kept own (unitsOf s) (sizesIn s) (gathered s own) room most (unitAt us (pred own)) arrays bytes all))
 
+-- a refusal of it has a number
+step-numbered : (s : List ℕ) (us : List UnitState) (own : ℕ) (bytes : List ℕ) → Numbered (stepFrom8 s us own bytes)
+unfolding stepFrom8
+step-numbered s us own bytes =
+    let p = parseFor (unitsOf s) (sizesIn s) own bytes in
+    read-numbered (viewOf (instanceOf s) (pred own)) (unitAt us (pred own)) (p .answer) (p .message) (parse-numbered (unitsOf s) (sizesIn s) own bytes)
+
 -- the step of `unit`, lent what the stream says
-pub step-told : (s : List ℕ) (own : ℕ) (u : State) → Stepping s own u → (n : ℕ) (sizes costs bytes before after : List ℕ) (r : Outcome) → n ≡ unitsOf s → sizes ≡ sizesIn s → costs ≡ gathered s own
+pub step-told : (s : List ℕ) (own : ℕ) (u : UnitState) → Stepping s own u → (n : ℕ) (sizes costs bytes before after : List ℕ) (r : Outcome) → n ≡ unitsOf s → sizes ≡ sizesIn s → costs ≡ gathered s own
     → 1024 ≤ length before → r ≡ outcomeOf n (pred own) u (stepOut u own n sizes costs bytes (length before)) → after ≡ bytesOf n (pred own) before (stepOut u own n sizes costs bytes (length before))
     → Stepped s own u bytes before r after
 step-told s own u g n sizes costs bytes before after r units array lent fits e f = record {
@@ -203,9 +210,9 @@ step-told s own u g n sizes costs bytes before after r units array lent fits e f
   buffer = λ us at. f ∙ rw (units, array, lent) (ap (λ (o : Out). bytesOf (unitsOf s) (pred own) before o) (same us at));
 }
   where
-    same : (us : List State) → unitAt us (pred own) ≡ u → stepOut u own (unitsOf s) (sizesIn s) (gathered s own) bytes (length before) ≡ stepFrom8 s us own bytes
+    same : (us : List UnitState) → unitAt us (pred own) ≡ u → stepOut u own (unitsOf s) (sizesIn s) (gathered s own) bytes (length before) ≡ stepFrom8 s us own bytes
     same us at =
-        ap (λ (x : State). stepOut x own (unitsOf s) (sizesIn s) (gathered s own) bytes (length before)) (sym at)
+        ap (λ (x : UnitState). stepOut x own (unitsOf s) (sizesIn s) (gathered s own) bytes (length before)) (sym at)
         ∙ step-is s (g .table) us own (g .first) (g .last) (rw at (g .state)) bytes (length before) fits
 
 -- ---- what is stored
@@ -229,7 +236,7 @@ abbrev pub storedPool : Network → ℕ → Outcome → List ℕ → List ℕ �
 storedPool net cell r out pool =
     cond (leb (net .used - 1 + r .sent) 1024) (paste (closeGap pool (64 * cell) (64 * net .used)) (64 * (net .used - 1)) out (64 * r .sent)) pool
 
-module _ (net : Network) (s pool : List ℕ) (cell own : ℕ) (was : State) (o : Out) (r : Outcome) (told : r ≡ outcomeOf (unitsOf s) (pred own) was o) where
+module _ (net : Network) (s pool : List ℕ) (cell own : ℕ) (was : UnitState) (o : Out) (r : Outcome) (told : r ≡ outcomeOf (unitsOf s) (pred own) was o) where
   -- a step never sends more than 16 packets
   pub few-sent : Whenever (Kept (unitsOf s) (sizesIn s) (viewOf (instanceOf s) (pred own)) 16) o → r .sent ≤ 16
   few-sent k = go o told k
@@ -263,7 +270,7 @@ module _ (net : Network) (s pool : List ℕ) (cell own : ℕ) (was : State) (o :
           bytes : take (64 * length (packets (unitsOf s) (pred own) m)) out ≡ encodeAll (packets (unitsOf s) (pred own) m)
           bytes =
               ap (take (64 * length (packets (unitsOf s) (pred own) m))) sent
-              ∙ sent-front (packets (unitsOf s) (pred own) m) was-out (encode-all-length (packets (unitsOf s) (pred own) m) (λ p i. every-of-all _ (packets (unitsOf s) (pred own) m) (k .sent) p i .arrays))
+              ∙ sent-front (packets (unitsOf s) (pred own) m) was-out (encode-all-length (packets (unitsOf s) (pred own) m) (λ p i. each-of-all _ (packets (unitsOf s) (pred own) m) (k .sent) p i .arrays))
 
           next : Result
           next = record {
@@ -292,7 +299,7 @@ module _ (net : Network) (s pool : List ℕ) (cell : ℕ) (checks : Open net s p
   pub own-most : own ≤ 16
   own-most = omega (arith, own-last, accepted-units s (checks .table) .1)
 
-  module _ (u : State) (at : u ≡ unitAt (net .core .units) (own - 1)) where
+  module _ (u : UnitState) (at : u ≡ unitAt (net .core .units) (own - 1)) where
     at-place : unitAt (net .core .units) (pred own) ≡ u
     at-place = sym (at ∙ ap (λ (k : ℕ). unitAt (net .core .units) k) (sym (pred-sub own)))
 
@@ -314,7 +321,7 @@ module _ (net : Network) (s pool : List ℕ) (cell : ℕ) (checks : Open net s p
 
       keeps : Whenever (Kept (unitsOf s) (sizesIn s) (viewOf (instanceOf s) (pred own)) 16) (stepFrom8 s (net .core .units) own (cellOf pool cell))
       keeps =
-          step-keeps s (checks .table) (net .core .units) own own-first own-last in-range (cellOf pool cell) 1024 (omega arith) (subst (λ (x : State). SizedUnit x) (sym at-place) arrays)
+          step-keeps s (checks .table) (net .core .units) own own-first own-last in-range (cellOf pool cell) 1024 (omega arith) (subst (λ (x : UnitState). SizedUnit x) (sym at-place) arrays)
           (rw size at all)
 
       pub hand-sent : r .sent ≤ 16
@@ -333,24 +340,19 @@ module _ (net : Network) (s pool : List ℕ) (cell : ℕ) (checks : Open net s p
 module _ (s pool : List ℕ) where
   pub make-table : (r : ℕ) → r ≡ streamRefusal s → (r ≡ 0 → ⊥) → r ≡ makeRefusal s pool
   unfolding makeRefusal
-  make-table r e z = rw (← e, ne-eqb r 0 z)
+  make-table r e z = rw (← e, or-first r _ z)
 
   pub make-room : streamRefusal s ≡ 0 → length pool < 65536 → 13 ≡ makeRefusal s pool
   unfolding makeRefusal
-  make-room e l = rw (eq-eqb (streamRefusal s) 0 e, lt-ltb (length pool) 65536 l)
+  make-room e l = rw (e, lt-ltb (length pool) 65536 l)
 
   pub make-none : streamRefusal s ≡ 0 → 65536 ≤ length pool → 0 ≡ makeRefusal s pool
   unfolding makeRefusal
-  make-none e l = rw (eq-eqb (streamRefusal s) 0 e, le-ltb (length pool) 65536 l)
+  make-none e l = rw (e, le-ltb (length pool) 65536 l)
 
   pub makeable : makeRefusal s pool ≡ 0 → Accepted s × (65536 ≤ length pool)
   unfolding makeRefusal Accepted
-  makeable z = go (eqb (streamRefusal s) 0) refl (ltb (length pool) 65536) refl z
-    where
-      go : (a : Bool) → eqb (streamRefusal s) 0 ≡ a → (b : Bool) → ltb (length pool) 65536 ≡ b → cond (not a) (streamRefusal s) (cond b 13 0) ≡ 0 → (streamRefusal s ≡ 0) × (65536 ≤ length pool)
-      go false p b q z = absurd (eqb-false (streamRefusal s) 0 p z)
-      go true p true q z = absurd (omega arith)
-      go true p false q z = (eqb-true (streamRefusal s) 0 p, ltb-false (length pool) 65536 q)
+  makeable z = (or-left (streamRefusal s) _ z, ltb-false (length pool) 65536 (if-so _ 12 (or-right (streamRefusal s) _ z)))
 
   pub make-refuses : (r : ℕ) → r ≡ makeRefusal s pool → (r ≡ 0 → ⊥) → (record { refusal = r; network = noNetwork } ≡ makeOf s pool .answer) × (pool ≡ makeOf s pool .pool)
   unfolding makeOf

@@ -1,0 +1,5 @@
+-- The proof of demand 3, up to its theorem: the walk over a delivery, the one invariant of a run, and that making gives it and each delivery keeps it.
+pub mod Walk
+pub mod Invariant
+pub mod Making
+pub mod Delivery

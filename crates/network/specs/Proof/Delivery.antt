@@ -1,0 +1,299 @@
+-- Each delivery keeps the invariant, whatever its cell, and gives on bytes what it gives over messages (`delivers`): the checks before 12 pass, the cell reads
+-- back as the packet that waits there, the step is the machine's and is accepted, and the pool is left holding what then waits. By the one walk.
+-- In order: packets counted; a delivery refused; a packet at its cell, and its step; its packets don't fit, or the invariant after it.
+-- Assumes nothing.
+use Prim.Native.Nat.{ℕ, suc, _+_, _*_, _^_, _≤_, _<_}
+use mathlib.Core.Path.{_≡_, refl, sym, ap, _∙_, subst}
+use mathlib.Core.Logic.{inl, inr}
+use mathlib.Core.Bool.{Bool, true, false, cond}
+use mathlib.Core.List.{List, [], _∷_, _++_, map, append-nil, map-append}
+use mathlib.Core.Option.{some}
+use native.Mathlib.Omega.{arith}
+use lib.Dec.{leb, eqb}
+use lib.ListN.{length, set, take, drop, length-append}
+use borrow.Author.Tests.{leb-true, ne-eqb}
+use Rattle.base.specs.Limits.{poolCells}
+use Rattle.table.specs.Stream.{unitsOf, Accepted}
+use Rattle.costs.specs.Instance.{viewOf, instanceOf}
+use Rattle.costs.specs.Laws.{problemOf}
+use Rattle.costs.specs.Laws.Stream.{sound-of}
+use Rattle.costs.specs.Gather.{sizesIn}
+use Rattle.costs.specs.Gather.Sizes.{accepted-sizes-good}
+use Rattle.message.specs.declared.Parsed.{Parsed}
+use Rattle.message.specs.Message.{Packet, isUnit, every}
+use Rattle.message.specs.Laws.{every-by}
+use Rattle.message.specs.Encode.{encode}
+use Rattle.message.specs.RoundTrip.{parse-encode, receiver-of-encode}
+use Rattle.unit.specs.declared.Unit.{Unit as UnitState}
+use Rattle.unit.specs.declared.Sending.{Sending}
+use Rattle.unit.specs.Step as U
+use Rattle.unit.specs.Step.{Out, Written}
+use Rattle.unit.specs.Send.{packets}
+use Rattle.unit.specs.Calls.{onRead}
+use Rattle.unit.specs.Units.{unitAt, placeOf, stepOn}
+use Rattle.unit.specs.Laws.Packets.{Sendable}
+use Rattle.unit.specs.Laws.Assign.{Whenever}
+use Rattle.unit.specs.Laws.Units.{receiver-unit, Leaves, step-in-range}
+use Rattle.protocol.specs.Machine as M
+use Rattle.protocol.specs.Machine.{to, Network}
+use Rattle.protocol.specs.Walk.{deliver-stopped, deliver-none, deliver-at}
+use Rattle.protocol.specs.Lists.{In, here, in-right, in-more, every-append}
+use Rattle.protocol.specs.Theorem.{Kept, deliver-kept}
+use Rattle.protocol.specs.Simulation.Relations.{ReadAll, read-append}
+use Rattle.protocol.specs.Simulation.Units as X
+use Rattle.protocol.specs.Simulation.Units.{read-to, read-length, Matches, Simulated, StepsTo}
+use Rattle.network.specs.Count.{valueOf}
+use Rattle.network.specs.Count.Laws.{plus-exact}
+use Rattle.network.specs.Pool.{cellOf, poolAfter}
+use Rattle.network.specs.Pool.Stored.{AllSized, StandsAt, stands-at, none-at, no-room, some-room, cell-in-use, cell-bytes, used-after, put-stored}
+use Rattle.network.specs.Run as R
+use Rattle.network.specs.Run.{History, Delivery, cells, stopped, onward, handOver}
+use Rattle.network.specs.Calls as C
+use Rattle.network.specs.Calls.{Result, deliverRefusal, receiverOf, stepFrom8, refusedDelivery, deliverBy, deliverOf}
+use Rattle.network.specs.Demand3.{Shed, shedOf, times, packetBytes, Honest}
+use Rattle.network.specs.Code.{unitInRange, check-stopped, check-cell, check-none, deliver-goes}
+use Rattle.network.specs.Proof.Walk.{hand-cases, deliver-cases}
+use Rattle.network.specs.Proof.Invariant.{laws, views, Invariant, sized, records-below, accepted-below, same-stop, cut, step-accepted}
+
+-- the number of a refusal, 0 where the delivery was accepted
+abbrev pub numberOf : Delivery → ℕ
+numberOf (R.refusedBy r) = r
+numberOf (R.delivered K) = 0
+
+-- a refusal is 12 after the stop, 14 or 15
+abbrev pub HonestDelivery : History → Delivery → Type 0
+HonestDelivery H (R.refusedBy r) = Honest (stopped H) r
+HonestDelivery H (R.delivered K) = Unit {0}
+
+-- ---- packets counted
+
+times-append : (t : Packet → Bool) (a b : List Packet) → times t (a ++ b) ≡ times t a + times t b
+unfolding times
+times-append t [] b = omega arith
+times-append t (p ∷ a) b = omega (arith, times-append t a b)
+
+times-more : (t : Packet → Bool) (p : Packet) (a : List Packet) → times t (p ∷ a) ≡ cond (t p) 1 0 + times t a
+unfolding times
+times-more t p a = refl
+
+times-none : (t : Packet → Bool) → times t [] ≡ 0
+unfolding times
+times-none t = refl
+
+module _ (s : List ℕ) (ok : Accepted s) (S : Shed) (H : History) (A : Network) (i : Invariant s ok S H A) (c : ℕ) where
+  -- what a delivery gives: over messages d, on bytes r
+  pub record Delivers (d : Delivery) (r : Result) : Type 0 where
+    pub number : r .answer .refusal ≡ numberOf d
+    pub honest : HonestDelivery H d
+    pub bytes : map packetBytes (H .handed) ++ cond (eqb (r .answer .refusal) 0) (cellOf (S .pool) c ∷ []) [] ≡ map packetBytes (onward H d .handed)
+    pub next : Invariant s ok (shedOf r) (onward H d) (M.deliver (problemOf (instanceOf s)) poolCells A c)
+
+  -- ---- a delivery refused
+
+  refuses : (x : ℕ) → Honest (stopped H) (suc x) → M.deliver (problemOf (instanceOf s)) poolCells A c ≡ A → deliverOf (S .network) s (S .pool) c ≡ refusedDelivery (S .network) (S .pool) (suc x)
+      → Delivers (R.refusedBy (suc x)) (deliverOf (S .network) s (S .pool) c)
+  refuses x h stays e =
+      subst (Delivers (R.refusedBy (suc x))) (sym e)
+      (record {
+        number = refl;
+        honest = h;
+        bytes = ap (λ t. map packetBytes (H .handed) ++ cond t (cellOf (S .pool) c ∷ []) []) (ne-eqb (suc x) 0 (λ q. omega (arith, q))) ∙ append-nil (map packetBytes (H .handed));
+        next = subst (Invariant s ok S H) (sym stays) i;
+      })
+
+  -- by a check
+  checked : (x : ℕ) → suc x ≡ deliverRefusal (S .network) s (S .pool) c → deliverOf (S .network) s (S .pool) c ≡ refusedDelivery (S .network) (S .pool) (suc x)
+  unfolding deliverOf
+  checked x e = ap (λ y. deliverBy y (S .network) s (S .pool) c) (sym e)
+
+  -- ---- the checks before 12 pass
+
+  pub units-pass : every (unitInRange s (S .network .core .units)) (unitsOf s) ≡ true
+  unfolding instanceOf
+  units-pass = every-by (unitInRange s (S .network .core .units)) (unitsOf s) (λ k l. subst (λ us. unitInRange s us k ≡ true) (sym (i .same)) (i .units .states k l))
+
+  in-use : S .network .used ≤ 1024
+  in-use = omega (arith, i .stored .count, i .few)
+
+  stop-is : unitAt (S .network .core .units) 0 .stopped ≡ stopped H
+  stop-is = ap (λ us. unitAt us 0 .stopped) (i .same)
+
+  machine-stop : A .units 0 .stopped ≡ stopped H
+  machine-stop = sym (same-stop s ok S H A i)
+
+  -- once unit 1 has stopped it is 12
+  pub after-stop : stopped H ≡ true → deliverOf (S .network) s (S .pool) c ≡ refusedDelivery (S .network) (S .pool) 12
+  unfolding Accepted
+  after-stop st = checked 11 (check-stopped (S .network) s (S .pool) c (i .stored .room) ok units-pass in-use (stop-is ∙ st))
+
+  -- ---- the packet p at the cell, and its step
+
+  module _ (st : stopped H ≡ false) (p : Packet) (e : cells .at (H .waiting) c ≡ some p) where
+    abbrev b : List Packet
+    b = take c (H .waiting)
+
+    abbrev a : List Packet
+    a = drop (suc c) (H .waiting)
+
+    here-is : StandsAt (H .waiting) c p
+    here-is = stands-at (H .waiting) c p e
+
+    waits : In p (H .waiting)
+    waits = subst (In p) (sym (here-is .whole)) (in-right b (here refl))
+
+    w : Sendable (instanceOf s .n) (sizesIn s) p
+    w = i .sendable p waits
+
+    z : AllSized (H .waiting)
+    z = sized s ok (H .waiting) (i .sendable)
+
+    pub receiver-is : receiverOf (unitsOf s) (encode (p .kind) (p .message)) ≡ p .message .receiver
+    unfolding instanceOf
+    receiver-is =
+        ap (λ r. cond (isUnit (unitsOf s) r) r 1) (receiver-of-encode (p .kind) (p .message) (w .arrays))
+        ∙ ap (λ t. cond t (p .message .receiver) 1) (receiver-unit (unitsOf s) (sizesIn s) p w)
+
+    -- the bytes of a packet that can be written read back as the packet
+    pub step-is : (us : List UnitState) → stepFrom8 s us (p .message .receiver) (encode (p .kind) (p .message)) ≡ stepOn (instanceOf s) us p
+    unfolding stepFrom8 instanceOf
+    step-is us =
+        ap (λ (q : Parsed). onRead (viewOf (instanceOf s) (placeOf p)) (unitAt us (placeOf p)) (q .answer) (q .message))
+        (parse-encode (unitsOf s) (sizesIn s) (p .kind) (p .message) (accepted-sizes-good s ok) (w .address) (w .form) (w .arrays))
+
+    pub goes-on : deliverOf (S .network) s (S .pool) c ≡ C.onOut (S .network) (S .pool) c (unitsOf s) (p .message .receiver) (stepOn (instanceOf s) (H .units) p)
+    unfolding Accepted
+    goes-on =
+        sym (deliver-goes (S .network) s (S .pool) c (sym (check-none (S .network) s (S .pool) c (i .stored .room) ok units-pass in-use (stop-is ∙ st) (cell-in-use (H .waiting) (S .network .used) (S .pool) (i .stored) z c p e))))
+        ∙ ap (λ (x : List ℕ). C.onOut (S .network) (S .pool) c (unitsOf s) (receiverOf (unitsOf s) x) (stepFrom8 s (S .network .core .units) (receiverOf (unitsOf s) x) x))
+        (cell-bytes (H .waiting) (S .network .used) (S .pool) (i .stored) z c p e)
+        ∙ ap (λ (y : ℕ). C.onOut (S .network) (S .pool) c (unitsOf s) y (stepFrom8 s (S .network .core .units) y (encode (p .kind) (p .message)))) receiver-is
+        ∙ ap (λ (o : Out). C.onOut (S .network) (S .pool) c (unitsOf s) (p .message .receiver) o) (step-is (S .network .core .units) ∙ ap (λ us. stepOn (instanceOf s) us p) (i .same))
+
+    -- the machine's pool, cut at the same cell
+    at : X.CutAt (instanceOf s) b p a (A .pool)
+    at = cut s ok S H A i st b p a (here-is .whole)
+
+    stepped : Simulated (instanceOf s) (H .units) (H .written) (A .units) (placeOf p) (M.step (problemOf (instanceOf s)) (A .units (to (at .message))) (at .message)) (stepOn (instanceOf s) (H .units) p)
+    unfolding at
+    stepped = step-accepted s ok S H A i st b p a (here-is .whole)
+
+    -- ---- it is accepted, with u, o and ws
+
+    module _ (u : UnitState) (o : Sending) (ws : List Written) (gives : stepOn (instanceOf s) (H .units) p ≡ U.accepted u o ws) where
+      abbrev ps : List Packet
+      ps = packets (instanceOf s .n) (placeOf p) o
+
+      x : StepsTo (instanceOf s) (H .units) (H .written) (A .units) (placeOf p) (M.step (problemOf (instanceOf s)) (A .units (to (at .message))) (at .message)) u o ws
+      x = subst (Simulated (instanceOf s) (H .units) (H .written) (A .units) (placeOf p) (M.step (problemOf (instanceOf s)) (A .units (to (at .message))) (at .message))) gives stepped
+
+      l : Leaves (instanceOf s) (sizesIn s) (H .units) (placeOf p) u o ws
+      l = subst (Whenever (Leaves (instanceOf s) (sizesIn s) (H .units) (placeOf p))) gives (step-in-range (instanceOf s) (sizesIn s) (sound-of s ok .n16) (views s ok) (H .units) (i .units) p w)
+
+      abbrev next-machine : Network
+      next-machine = record { units = M.put (A .units) (to (at .message)) (x .agent); pool = (at .before ++ at .behind) ++ x .sent; accepted = suc (A .accepted) }
+
+      read-on : ReadAll (instanceOf s) ((b ++ a) ++ ps) ((at .before ++ at .behind) ++ x .sent)
+      read-on = read-append (instanceOf s) (b ++ a) ps (at .before ++ at .behind) (x .sent) (read-append (instanceOf s) b a (at .before) (at .behind) (at .reads-before) (at .reads-behind)) (x .reads)
+
+      -- the machine asks the same of its room
+      machine-is : (t : Bool) → leb (length ((b ++ a) ++ ps)) poolCells ≡ t → M.deliver (problemOf (instanceOf s)) poolCells A c ≡ M.fits t next-machine A
+      machine-is t q =
+          deliver-at (problemOf (instanceOf s)) poolCells A c (machine-stop ∙ st) (at .before) (at .message) (at .behind) (at .whole) (at .many ∙ here-is .many) (x .agent) (x .sent) (x .steps)
+          ∙ ap (λ y. M.fits y next-machine A) (ap (λ n. leb n poolCells) (sym (read-length (instanceOf s) ((b ++ a) ++ ps) ((at .before ++ at .behind) ++ x .sent) read-on)) ∙ q)
+
+      abbrev stored-after : Result
+      stored-after = record {
+        answer = record { refusal = 0; network = C.stepped (S .network) (p .message .receiver) u (length (packets (instanceOf s .n) (placeOf p) o)) (length ws) };
+        pool = poolAfter (S .network .used) c (packets (instanceOf s .n) (placeOf p) o) (S .pool);
+      }
+
+      bytes-are : (t : Bool) → leb (length ((b ++ a) ++ ps)) poolCells ≡ t → deliverOf (S .network) s (S .pool) c ≡ C.ifFits t (S .network) (S .pool) stored-after
+      unfolding instanceOf
+      bytes-are t q =
+          goes-on ∙ ap (C.onOut (S .network) (S .pool) c (unitsOf s) (p .message .receiver)) gives
+          ∙ ap (λ y. C.ifFits y (S .network) (S .pool) stored-after) (ap (λ n. leb n poolCells) (used-after (H .waiting) (S .network .used) (S .pool) (i .stored) z c p e (packets (unitsOf s) (placeOf p) o)) ∙ q)
+
+      -- what it sends doesn't fit
+      too-many : leb (length ((b ++ a) ++ ps)) poolCells ≡ false → Delivers (R.refusedBy 14) (deliverOf (S .network) s (S .pool) c)
+      too-many q = refuses 13 (inr (inl refl)) (machine-is false q) (bytes-are false q)
+
+      -- or all goes on
+      module _ (q : leb (length ((b ++ a) ++ ps)) poolCells ≡ true) where
+        kept : Kept (problemOf (instanceOf s)) next-machine
+        kept = subst (Kept (problemOf (instanceOf s))) (machine-is true q) (deliver-kept (problemOf (instanceOf s)) (laws s ok) (sound-of s ok .n1) poolCells A c (i .kept))
+
+        matched : Matches (instanceOf s) (set (H .units) (placeOf p) u) (H .written ++ ws) (next-machine .units)
+        matched = subst (λ k. Matches (instanceOf s) (set (H .units) (placeOf p) u) (H .written ++ ws) (M.put (A .units) k (x .agent))) (read-to (instanceOf s) p (at .message) (at .reads)) (x .matches)
+
+        count-records : valueOf (S .network .core .records) + length ws ≡ length (H .written ++ ws)
+        count-records = ap (λ y. y + length ws) (i .records) ∙ sym (length-append (H .written) ws)
+
+        count-deliveries : valueOf (S .network .core .deliveries) + 1 ≡ length (H .handed ++ (p ∷ []))
+        count-deliveries = ap (λ y. y + 1) (i .deliveries) ∙ sym (length-append (H .handed) (p ∷ []))
+
+        count-accepted : length (H .handed ++ (p ∷ [])) ≡ suc (A .accepted)
+        count-accepted = omega (arith, length-append (H .handed) (p ∷ []), i .accepted)
+
+        invariant : Invariant s ok (shedOf stored-after) (R.after H p u ps ws ((b ++ a) ++ ps)) next-machine
+        invariant =
+            record {
+              kept = kept;
+              matches = matched;
+              reads = read-on;
+              accepted = count-accepted;
+              units = l .units;
+              sendable = every-append _ (b ++ a) ps (λ y j. i .sendable y (subst (In y) (sym (here-is .whole)) (in-more b p a j))) (l .sent);
+              few = leb-true _ poolCells q;
+              balanced = λ t.
+                  omega (
+                    arith,
+                    i .balanced t,
+                    ap (times t) (here-is .whole),
+                    times-append t b (p ∷ a),
+                    times-more t p a,
+                    times-append t (b ++ a) ps,
+                    times-append t b a,
+                    times-append t (H .sent) ps,
+                    times-append t (H .handed) (p ∷ []),
+                    times-more t p [],
+                    times-none t,
+                  );
+              same = ap (λ us. set us (placeOf p) u) (i .same);
+              stored = put-stored (H .waiting) (S .network .used) (S .pool) (i .stored) z c p e ps (sized s ok ps (l .sent)) (leb-true _ poolCells q);
+              records =
+                  plus-exact (length ws) (S .network .core .records) (subst (λ y. y < 2 ^ 64 * 2 ^ 64) (sym count-records) (records-below s ok next-machine kept (set (H .units) (placeOf p) u) (H .written ++ ws) matched))
+                  ∙ count-records;
+              deliveries =
+                  plus-exact 1 (S .network .core .deliveries) (subst (λ y. y < 2 ^ 64 * 2 ^ 64) (sym (count-deliveries ∙ count-accepted)) (accepted-below s ok next-machine kept)) ∙ count-deliveries;
+            }
+
+        goes : Delivers (R.delivered (R.after H p u ps ws ((b ++ a) ++ ps))) (deliverOf (S .network) s (S .pool) c)
+        goes =
+            subst (Delivers (R.delivered (R.after H p u ps ws ((b ++ a) ++ ps)))) (sym (bytes-are true q))
+            (record {
+              number = refl;
+              honest = tt;
+              bytes = ap (λ y. map packetBytes (H .handed) ++ (y ∷ [])) (cell-bytes (H .waiting) (S .network .used) (S .pool) (i .stored) z c p e) ∙ sym (map-append packetBytes (H .handed) (p ∷ []));
+              next = subst (Invariant s ok (shedOf stored-after) (R.after H p u ps ws ((b ++ a) ++ ps))) (sym (machine-is true q)) invariant;
+            })
+
+  -- ---- any cell
+
+  pub delivers : Delivers (handOver (instanceOf s) H c) (deliverOf (S .network) s (S .pool) c)
+  unfolding R.handOver Accepted
+  delivers =
+      deliver-cases (instanceOf s) H (λ d. Delivers d (deliverOf (S .network) s (S .pool) c)) cells c
+      (λ st. refuses 11 (inl (refl, st)) (deliver-stopped (problemOf (instanceOf s)) poolCells A c (machine-stop ∙ st)) (after-stop st))
+      (λ st e.
+      let le = none-at (H .waiting) c e in
+      refuses 14 (inr (inr refl)) (deliver-none (problemOf (instanceOf s)) poolCells A c (machine-stop ∙ st) (omega (arith, le, read-length (instanceOf s) (H .waiting) (A .pool) (i .reads))))
+      (checked 14 (check-cell (S .network) s (S .pool) c (i .stored .room) ok units-pass in-use (stop-is ∙ st) (omega (arith, le, i .stored .count)))))
+      (λ st p e.
+      hand-cases (instanceOf s) H (λ d. Delivers d (deliverOf (S .network) s (S .pool) c)) p (cells .put (cells .without (H .waiting) c))
+      (λ r gives. absurd (subst (Simulated (instanceOf s) (H .units) (H .written) (A .units) (placeOf p) (M.step (problemOf (instanceOf s)) (A .units (to (at st p e .message))) (at st p e .message))) gives (stepped st p e)))
+      (λ u o ws gives. (
+        (λ f. too-many st p e u o ws gives (no-room _ _ f)),
+        (λ ms f.
+            let q = some-room _ _ ms f in
+            subst (λ v. Delivers (R.delivered (R.after H p u (packets (instanceOf s .n) (placeOf p) o) ws v)) (deliverOf (S .network) s (S .pool) c)) (q .1) (goes st p e u o ws gives (q .0))),
+      )))
