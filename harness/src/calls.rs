@@ -69,7 +69,7 @@ pub struct Outcome {
     pub lent: Vec<u8>,
 }
 
-fn network_outcome(refusal: u8, network: &Network, lent: Vec<u8>) -> Outcome {
+pub fn network_outcome(refusal: u8, network: &Network, lent: Vec<u8>) -> Outcome {
     let words = |count: u128| [count as u64, (count >> 64) as u64];
     let mut numbers = vec![network.count];
     numbers.extend(words(network.records));
@@ -77,7 +77,7 @@ fn network_outcome(refusal: u8, network: &Network, lent: Vec<u8>) -> Outcome {
     Outcome { refusal, numbers, units: network.units.to_vec(), lent, ..Outcome::default() }
 }
 
-fn unit_outcome(answer: &unit::Answer, lent: Vec<u8>) -> Outcome {
+pub fn unit_outcome(answer: &unit::Answer, lent: Vec<u8>) -> Outcome {
     let numbers = vec![u64::from(answer.sent), answer.records];
     Outcome { refusal: answer.refusal, numbers, units: vec![answer.unit], lent, ..Outcome::default() }
 }

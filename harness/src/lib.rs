@@ -12,3 +12,4 @@ pub mod plot;
 pub mod random;
 pub mod reference;
 pub mod sample;
+pub mod tuned;

@@ -1,27 +1,33 @@
-//! How long the calls take: the reference implementation and, with the feature `linked`, the Rattle library, and their ratio.
-//! speed [WORD]: the rows alone whose name has the word, if there is one.
+//! How fast the Rattle library's calls are, beside a yardstick: the tuned run of `harness::tuned` for settle, deliver and step, the second
+//! implementation for the others. One table, a row for each call and sample.
 //!
-//! Both are built for release and get the same inputs in the same buffers, which are not cleared between rounds. Each number is the
-//! best of five measurements of a tenth of a second or more.
+//! speed [--counts FOLDER] [WORD]   times; WORD: the rows alone whose name has it. FOLDER: callgrind's dumps of a run with --once
+//! speed --once [WORD]              does the work of every row once, with a call of `riksamoe_mark` before and after, for callgrind to dump at
+//!
+//! Both are built for release and get the same inputs in the same buffers, which are not cleared between rounds. Each time is the best
+//! of five measurements of a twentieth of a second of processor time or more. scripts/speed runs it.
 
+use harness::linked;
 use harness::random::Random;
 use harness::reference::message::{self, Message};
 use harness::reference::network::{self, Network};
 use harness::reference::unit::{self, Unit};
 use harness::reference::{costs, search, table, Places};
-use harness::{generate, sample};
+use harness::{generate, sample, tuned};
+use std::cell::RefCell;
 use std::hint::black_box;
-use std::time::Instant;
+use std::path::Path;
 
-/// What is measured. Each gives a number that depends on the answer, so that none is left out.
+/// What is measured. Each gives how many deliveries, steps or calls it made.
 trait Library {
+    fn settle(&self, stream: &[u8], pool: &mut [u8]) -> u64;
+    /// Makes a network and delivers cell 0 at most this often.
+    fn deliver(&self, stream: &[u8], pool: &mut [u8], most: u64) -> u64;
+    fn step(&self, steps: &[Step], out: &mut [u8]) -> u64;
     fn table_read(&self, file: &[u8], stream: &mut [u8]) -> u64;
     fn table_write(&self, stream: &[u8], file: &mut [u8]) -> u64;
-    fn message_parse(&self, n: u8, sizes: &Places, packet: &[u8]) -> u64;
-    fn message_write(&self, n: u8, sizes: &Places, kind: u8, message: &Message, out: &mut [u8]) -> u64;
-    fn unit_step(&self, step: &Step, out: &mut [u8]) -> u64;
-    /// Makes a network and delivers cell 0 at most this often; gives the deliveries.
-    fn run(&self, stream: &[u8], pool: &mut [u8], most: u64) -> u64;
+    fn message_parse(&self, n: u8, sizes: &Places, packets: &[[u8; 64]]) -> u64;
+    fn message_write(&self, n: u8, sizes: &Places, messages: &[(u8, Message)], out: &mut [u8]) -> u64;
     fn search(&self, stream: &[u8]) -> u64;
 }
 
@@ -35,151 +41,129 @@ struct Step {
     packet: Vec<u8>,
 }
 
-struct Reference;
+struct Yardstick;
 
-impl Library for Reference {
-    fn table_read(&self, file: &[u8], stream: &mut [u8]) -> u64 {
-        table::read(file, stream).unwrap_or(0) as u64
+impl Library for Yardstick {
+    fn settle(&self, stream: &[u8], pool: &mut [u8]) -> u64 {
+        tuned::settle(stream, pool, u128::MAX).map_or(0, |network| network.deliveries as u64)
     }
 
-    fn table_write(&self, stream: &[u8], file: &mut [u8]) -> u64 {
-        table::write(stream, file).unwrap_or(0) as u64
-    }
-
-    fn message_parse(&self, n: u8, sizes: &Places, packet: &[u8]) -> u64 {
-        message::parse(n, sizes, packet).map_or(0, |(kind, _)| kind.into())
-    }
-
-    fn message_write(&self, n: u8, sizes: &Places, kind: u8, message: &Message, out: &mut [u8]) -> u64 {
-        message::write(n, sizes, kind, message, out).err().unwrap_or(0).into()
-    }
-
-    fn unit_step(&self, s: &Step, out: &mut [u8]) -> u64 {
-        unit::step(&s.unit, s.own, s.n, &s.sizes, &s.costs, &s.packet, out).sent.into()
-    }
-
-    fn run(&self, stream: &[u8], pool: &mut [u8], most: u64) -> u64 {
-        let mut shed = network::make(stream, pool).expect("an accepted table");
+    fn deliver(&self, stream: &[u8], pool: &mut [u8], most: u64) -> u64 {
+        let mut network = tuned::settle(stream, pool, 0).expect("an accepted table");
         let mut delivered = 0;
-        while delivered < most && network::deliver(&mut shed, stream, pool, 0).is_ok() {
+        while delivered < most && tuned::deliver(&mut network, stream, pool, 0).is_ok() {
             delivered += 1;
         }
         delivered
     }
 
-    fn search(&self, stream: &[u8]) -> u64 {
-        search::exhaustive(stream).map_or(0, |(total, _)| total.into())
+    fn step(&self, steps: &[Step], out: &mut [u8]) -> u64 {
+        for s in steps {
+            let mut unit = s.unit;
+            let _ = black_box(tuned::step(&mut unit, s.own, s.n, &s.sizes, &s.costs, &s.packet, out));
+        }
+        steps.len() as u64
     }
-}
 
-#[cfg(feature = "linked")]
-struct Linked;
-
-#[cfg(feature = "linked")]
-impl Library for Linked {
     fn table_read(&self, file: &[u8], stream: &mut [u8]) -> u64 {
-        harness::linked::table_read(file, stream).length as u64
+        u64::from(black_box(table::read(file, stream)).is_ok())
     }
 
     fn table_write(&self, stream: &[u8], file: &mut [u8]) -> u64 {
-        harness::linked::table_write(stream, file).length as u64
+        u64::from(black_box(table::write(stream, file)).is_ok())
     }
 
-    fn message_parse(&self, n: u8, sizes: &Places, packet: &[u8]) -> u64 {
-        harness::linked::message_parse(n, sizes, packet).kind.into()
+    fn message_parse(&self, n: u8, sizes: &Places, packets: &[[u8; 64]]) -> u64 {
+        packets.iter().map(|packet| u64::from(black_box(message::parse(n, sizes, packet)).is_ok())).sum()
     }
 
-    fn message_write(&self, n: u8, sizes: &Places, kind: u8, message: &Message, out: &mut [u8]) -> u64 {
-        harness::linked::message_write(n, sizes, kind, message.into(), out).into()
+    fn message_write(&self, n: u8, sizes: &Places, messages: &[(u8, Message)], out: &mut [u8]) -> u64 {
+        messages.iter().map(|(kind, m)| u64::from(black_box(message::write(n, sizes, *kind, m, out)).is_ok())).sum()
     }
 
-    fn unit_step(&self, s: &Step, out: &mut [u8]) -> u64 {
-        let unit = (&s.unit).into();
-        harness::linked::unit_step(unit, s.own, s.n, &s.sizes, &s.costs, &s.packet, out).sent.into()
+    fn search(&self, stream: &[u8]) -> u64 {
+        u64::from(black_box(search::exhaustive(stream)).is_ok())
+    }
+}
+
+struct Rattle;
+
+impl Library for Rattle {
+    fn settle(&self, stream: &[u8], pool: &mut [u8]) -> u64 {
+        linked::network_settle(stream, pool).network.core.deliveries.low
     }
 
-    fn run(&self, stream: &[u8], pool: &mut [u8], most: u64) -> u64 {
-        let mut shed = harness::linked::network_make(stream, pool).network;
+    fn deliver(&self, stream: &[u8], pool: &mut [u8], most: u64) -> u64 {
+        let mut network = linked::network_make(stream, pool).network;
         let mut delivered = 0;
         while delivered < most {
-            let answer = harness::linked::network_deliver(shed, stream, pool, 0);
+            let answer = linked::network_deliver(network, stream, pool, 0);
             if answer.refusal != 0 {
                 break;
             }
-            shed = answer.network;
+            network = answer.network;
             delivered += 1;
         }
         delivered
     }
 
-    fn search(&self, stream: &[u8]) -> u64 {
-        harness::linked::search(stream).total.into()
-    }
-}
-
-fn libraries() -> Vec<(&'static str, Box<dyn Library>)> {
-    #[allow(unused_mut)]
-    let mut all: Vec<(&'static str, Box<dyn Library>)> = vec![("reference", Box::new(Reference))];
-    #[cfg(feature = "linked")]
-    all.push(("Rattle", Box::new(Linked)));
-    all
-}
-
-/// What is measured, and how: printed above the numbers.
-const HEAD: &str = "\
-Both built for release, on the same inputs in the same buffers, which are not cleared between calls; the best of five measurements.
-Nanoseconds for each call, and the Rattle library's over the reference's:
-";
-
-/// Nanoseconds for each call: the best of five measurements. `work` gives how many calls it made.
-fn nanoseconds(mut work: impl FnMut() -> u64) -> f64 {
-    let mut best = f64::INFINITY;
-    for _ in 0..5 {
-        let start = Instant::now();
-        let mut calls = 0;
-        while start.elapsed().as_millis() < 100 {
-            calls += work();
+    fn step(&self, steps: &[Step], out: &mut [u8]) -> u64 {
+        for s in steps {
+            let mut unit = (&s.unit).into();
+            black_box(linked::unit_step_in_place(&mut unit, s.own, s.n, &s.sizes, &s.costs, &s.packet, out));
         }
-        best = best.min(start.elapsed().as_nanos() as f64 / calls as f64);
+        steps.len() as u64
     }
-    best
+
+    fn table_read(&self, file: &[u8], stream: &mut [u8]) -> u64 {
+        u64::from(linked::table_read(file, stream).refusal == 0)
+    }
+
+    fn table_write(&self, stream: &[u8], file: &mut [u8]) -> u64 {
+        u64::from(linked::table_write(stream, file).refusal == 0)
+    }
+
+    fn message_parse(&self, n: u8, sizes: &Places, packets: &[[u8; 64]]) -> u64 {
+        packets.iter().map(|packet| u64::from(linked::message_parse(n, sizes, packet).refusal == 0)).sum()
+    }
+
+    fn message_write(&self, n: u8, sizes: &Places, messages: &[(u8, Message)], out: &mut [u8]) -> u64 {
+        let write = |(kind, m): &(u8, Message)| linked::message_write(n, sizes, *kind, m.into(), out);
+        messages.iter().map(write).map(|refusal| u64::from(refusal == 0)).sum()
+    }
+
+    fn search(&self, stream: &[u8]) -> u64 {
+        u64::from(linked::search(stream).refusal == 0)
+    }
 }
 
-fn print_row(name: &str, work: impl Fn(&dyn Library) -> f64) -> Vec<f64> {
-    if !name.contains(&std::env::args().nth(1).unwrap_or_default()) {
-        return Vec::new();
-    }
-    let times: Vec<f64> = libraries().iter().map(|(_, library)| work(library.as_ref())).collect();
-    print!("{name:32}");
-    for time in &times {
-        print!(" {time:>14.1}");
-    }
-    match times[..] {
-        [reference, rattle] => println!(" {:>8.2}", rattle / reference),
-        _ => println!(),
-    }
-    times
+// Rows
+
+struct Row {
+    name: String,
+    /// What the yardstick is, and what is counted.
+    beside: &'static str,
+    counted: &'static str,
+    work: Box<dyn Fn(&dyn Library) -> u64>,
 }
 
-/// The same numbers the other way round.
-fn print_a_second(name: &str, times: &[f64]) {
-    if times.is_empty() {
-        return;
-    }
-    print!("{name:32}");
-    for time in times {
-        print!(" {:>14.0}", 1e9 / time);
-    }
-    println!();
+fn row(name: String, counted: &'static str, work: impl Fn(&dyn Library) -> u64 + 'static) -> Row {
+    let beside = if counted == "call" { "second" } else { "tuned" };
+    Row { name, beside, counted, work: Box::new(work) }
 }
 
-/// A random table of n units of d values, costs 0 to 60,000.
-fn stream(n: usize, d: u8) -> Vec<u8> {
-    let mut random = Random::new(n as u64);
-    let sizes = vec![d; n];
-    let count = costs::pairs_in_table(n, &[d; 16]);
-    let costs: Vec<u16> = (0..count).map(|_| random.between(0, 60_000) as u16).collect();
-    sample::stream(&sizes, &costs)
+/// The sample sheds: name, stream, and whether its run is short enough to be done whole.
+fn sheds() -> Vec<(String, Vec<u8>, bool)> {
+    let folder = Path::new(env!("CARGO_MANIFEST_DIR")).join("vectors");
+    let mut files: Vec<_> = std::fs::read_dir(folder).expect("vectors").map(|entry| entry.unwrap().path()).collect();
+    files.retain(|path| path.extension().is_some_and(|end| end == "table"));
+    files.sort();
+    let shed = |path: &std::path::PathBuf| {
+        let stream = sample::read(&std::fs::read(path).unwrap()).expect("an accepted table");
+        let name = path.file_stem().unwrap().to_string_lossy().into_owned();
+        (name, stream, path.with_extension("listing").exists())
+    };
+    files.iter().map(shed).filter(|(_, stream, _)| stream[0] > 1).collect()
 }
 
 /// The first steps of a run, cell 0 each time.
@@ -198,84 +182,173 @@ fn steps(stream: &[u8], most: usize) -> Vec<Step> {
     steps
 }
 
-fn table_rows() {
-    let stream = stream(16, 16);
-    let file = generate::blocks(&stream);
-    let lent = std::cell::RefCell::new(vec![0; table::MAX_FILE]);
-    print_row("table read, 122 blocks", |library| {
-        nanoseconds(|| black_box(library.table_read(black_box(&file), &mut lent.borrow_mut())).min(1))
-    });
-    print_row("table write, 122 blocks", |library| {
-        nanoseconds(|| black_box(library.table_write(black_box(&stream), &mut lent.borrow_mut())).min(1))
-    });
+fn run_rows() -> Vec<Row> {
+    let pool = || RefCell::new(vec![0; network::POOL]);
+    let mut rows = Vec::new();
+    for (name, stream, _) in sheds().into_iter().filter(|(_, _, whole)| *whole) {
+        let pool = pool();
+        let work = move |library: &dyn Library| library.settle(black_box(&stream), &mut pool.borrow_mut());
+        rows.push(row(format!("settle {name}"), "delivery", work));
+    }
+    for (name, stream, _) in sheds() {
+        let pool = pool();
+        let work = move |library: &dyn Library| library.deliver(black_box(&stream), &mut pool.borrow_mut(), 500);
+        rows.push(row(format!("deliver {name}"), "delivery", work));
+    }
+    for (name, stream, _) in sheds() {
+        let (steps, out) = (steps(&stream, 500), RefCell::new([0; unit::OUT]));
+        let work = move |library: &dyn Library| library.step(black_box(&steps), &mut *out.borrow_mut());
+        rows.push(row(format!("step {name}"), "step", work));
+    }
+    rows
 }
 
-fn message_rows() {
+/// A random table of n units of d values, costs 0 to 60,000.
+fn stream(n: usize, d: u8) -> Vec<u8> {
+    let mut random = Random::new(n as u64);
+    let sizes = vec![d; n];
+    let count = costs::pairs_in_table(n, &[d; 16]);
+    let costs: Vec<u16> = (0..count).map(|_| random.between(0, 60_000) as u16).collect();
+    sample::stream(&sizes, &costs)
+}
+
+fn other_rows() -> Vec<Row> {
+    let (whole, lent) = (stream(16, 16), || RefCell::new(vec![0; table::MAX_FILE]));
+    let file = generate::blocks(&whole);
     let mut random = Random::new(3);
     let sizes = [4; 16];
     let messages: Vec<(u8, Message)> = (0..64).map(|_| generate::message(&mut random, 16, &sizes)).collect();
     let packets: Vec<[u8; 64]> = messages.iter().map(|(kind, m)| message::encode(*kind, m)).collect();
-    print_row("message read, 16 units", |library| {
-        nanoseconds(|| {
-            packets.iter().map(|packet| black_box(library.message_parse(16, &sizes, black_box(packet))).min(1)).sum()
-        })
-    });
-    print_row("message write, 16 units", |library| {
-        let mut out = [0; 64];
-        nanoseconds(|| {
-            for (kind, message) in &messages {
-                black_box(library.message_write(16, &sizes, *kind, black_box(message), &mut out));
-            }
-            messages.len() as u64
-        })
-    });
-}
-
-fn step_rows() {
-    for n in [4, 8, 16] {
-        let steps = steps(&stream(n, 4), 2_000);
-        print_row(&format!("step, {n} units of 4 values"), |library| {
-            let mut out = [0; unit::OUT];
-            nanoseconds(|| {
-                for step in &steps {
-                    black_box(library.unit_step(black_box(step), &mut out));
-                }
-                steps.len() as u64
-            })
-        });
-    }
-}
-
-fn delivery_rows() {
-    for n in [4, 8, 16] {
-        let stream = stream(n, 4);
-        let times = print_row(&format!("delivery, {n} units of 4 values"), |library| {
-            let mut pool = vec![0; network::POOL];
-            nanoseconds(|| black_box(library.run(black_box(&stream), &mut pool, 500)))
-        });
-        print_a_second("  deliveries a second", &times);
-    }
-}
-
-/// The largest shapes that the limit of 1,048,576 assignments allows, and all that binary sheds have.
-fn search_rows() {
+    let (read, written, out) = (lent(), lent(), RefCell::new([0; 64]));
+    let mut rows = vec![
+        row("table read, 122 blocks".into(), "call", move |library| {
+            library.table_read(black_box(&file), &mut read.borrow_mut())
+        }),
+        row("table write, 122 blocks".into(), "call", move |library| {
+            library.table_write(black_box(&whole), &mut written.borrow_mut())
+        }),
+        row("message read, 16 units".into(), "call", move |library| {
+            library.message_parse(16, &sizes, black_box(&packets))
+        }),
+        row("message write, 16 units".into(), "call", move |library| {
+            library.message_write(16, &sizes, black_box(&messages), &mut *out.borrow_mut())
+        }),
+    ];
+    // the largest shapes that the limit of 1,048,576 assignments allows, and all that binary sheds have
     for (n, values) in [(10, 4), (5, 16), (16, 2)] {
         let stream = stream(n, values);
-        print_row(&format!("search, {n} units of {values} values"), |library| {
-            nanoseconds(|| black_box(library.search(black_box(&stream))).min(1))
-        });
+        let name = format!("search, {n} units of {values}");
+        rows.push(row(name, "call", move |library| library.search(black_box(&stream))));
+    }
+    rows
+}
+
+// Measuring
+
+extern "C" {
+    /// The C library's: processor time of this process, in millionths of a second.
+    fn clock() -> i64;
+}
+
+/// How many a second of processor time: the best of five measurements.
+fn a_second(work: impl Fn() -> u64) -> f64 {
+    let now = || unsafe { clock() };
+    let mut best: f64 = 0.0;
+    for _ in 0..5 {
+        let start = now();
+        let mut done = 0;
+        while now() - start < 50_000 {
+            done += work();
+        }
+        best = best.max(done as f64 * 1e6 / (now() - start) as f64);
+    }
+    best
+}
+
+/// Callgrind dumps here.
+#[no_mangle]
+#[inline(never)]
+pub extern "C" fn riksamoe_mark() {
+    black_box(());
+}
+
+/// The instructions between the marks of the k-th work, as callgrind dumped them.
+fn instructions(folder: Option<&str>, k: usize) -> Option<u64> {
+    let dump = std::fs::read_to_string(Path::new(folder?).join(format!("dump.{}", 2 * k + 2))).ok()?;
+    dump.lines().find_map(|line| line.strip_prefix("totals: "))?.trim().parse().ok()
+}
+
+const LIBRARIES: [&dyn Library; 2] = [&Rattle, &Yardstick];
+
+fn once(rows: &[Row]) {
+    for row in rows {
+        for library in LIBRARIES {
+            riksamoe_mark();
+            black_box((row.work)(library));
+            riksamoe_mark();
+        }
     }
 }
 
+const HEAD: &str = "\
+Rattle library beside a yardstick: tuned, the harness's tuned run (settle checks its table once; deliver and step check all that they are lent), or second,
+its second implementation. A second: how many deliveries, steps or calls. Instructions: for each of them, by callgrind, - without it.
+";
+
 fn main() {
-    print!("{HEAD}{:32}", "");
-    for (name, _) in libraries() {
-        print!(" {name:>14}");
+    let mut words: Vec<String> = std::env::args().skip(1).collect();
+    let counts = words.iter().position(|word| word == "--counts").map(|at| words.drain(at..at + 2).nth(1).unwrap());
+    let only_once = words.iter().position(|word| word == "--once").map(|at| words.remove(at)).is_some();
+    let mut rows = run_rows();
+    rows.extend(other_rows());
+    rows.retain(|row| row.name.contains(words.first().map_or("", String::as_str)));
+    if only_once {
+        return once(&rows);
     }
-    println!("{}", if libraries().len() > 1 { format!(" {:>8}", "ratio") } else { String::new() });
-    table_rows();
-    message_rows();
-    step_rows();
-    delivery_rows();
-    search_rows();
+    println!("{HEAD}");
+    print!("{:<26} {:<9} {:<9}", "call and sample", "yardstick", "counted");
+    print!(" {:>14} {:>14} {:>7}", "Rattle/second", "yardstick/sec", "slower");
+    println!(" {:>14} {:>14} {:>7}", "Rattle instr.", "yardst. instr.", "more");
+    let mut means: Vec<(String, Vec<f64>, Vec<f64>)> = Vec::new();
+    for (k, row) in rows.iter().enumerate() {
+        let speed = LIBRARIES.map(|library| a_second(|| black_box((row.work)(library))));
+        let done = LIBRARIES.map(|library| (row.work)(library).max(1));
+        let cost = [0, 1]
+            .map(|side| instructions(counts.as_deref(), 2 * k + side).map(|number| number as f64 / done[side] as f64));
+        let slower = speed[1] / speed[0];
+        print!("{:<26} {:<9} {:<9}", row.name, row.beside, row.counted);
+        print!(" {:>14.0} {:>14.0} {slower:>7.1}", speed[0], speed[1]);
+        let more = match cost {
+            [Some(rattle), Some(yardstick)] => {
+                println!(" {rattle:>14.0} {yardstick:>14.0} {:>7.1}", rattle / yardstick);
+                Some(rattle / yardstick)
+            }
+            _ => {
+                println!(" {:>14} {:>14} {:>7}", "-", "-", "-");
+                None
+            }
+        };
+        let call = row.name.split([' ', ',']).next().unwrap_or_default().to_string();
+        if means.last().is_none_or(|(last, ..)| *last != call) {
+            means.push((call, Vec::new(), Vec::new()));
+        }
+        let (_, times, numbers) = means.last_mut().expect("just put there");
+        times.push(slower);
+        numbers.extend(more);
+    }
+    for (call, times, numbers) in means {
+        let mean = |of: &[f64]| (of.iter().map(|x| x.ln()).sum::<f64>() / of.len() as f64).exp();
+        let more = if numbers.is_empty() { "-".to_string() } else { format!("{:.1}", mean(&numbers)) };
+        let what = format!("{call}, mean of all");
+        println!(
+            "{what:<26} {:<9} {:<9} {:>14} {:>14} {:>7.1} {:>14} {:>14} {more:>7}",
+            "",
+            "",
+            "",
+            "",
+            mean(&times),
+            "",
+            ""
+        );
+    }
 }
