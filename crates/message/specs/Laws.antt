@@ -18,7 +18,7 @@ use lib.ListN.{getD, replicate}
 use Rattle.base.specs.Shape.{and-left, and-right}
 use Rattle.message.specs.declared.Kind.{Kind}
 use Rattle.message.specs.declared.Message.{Message}
-use Rattle.message.specs.Message.{NONE, totalLimit, every, placeGood, placeAt, filledTo, boundGood, noneOrBound, noBound, stampCount, valueCount, costLimit, boundFits, directionGood, isUnit, addressGood, wellFormed}
+use Rattle.message.specs.Message.{NONE, totalLimit, every, placeGood, placeAt, filledTo, boundGood, noneOrBound, noBound, carriedOf, boundFits, directionGood, isUnit, addressGood, wellFormed}
 
 -- ------------------------------------------------------------------------------------------------------------------
 -- `every`, index by index.
@@ -128,22 +128,22 @@ addressed n m e =
 -- check 9, part by part
 pub record Formed (n : ℕ) (sizes : List ℕ) (k : Kind) (m : Message) : Type 0 where
   pub direction : directionGood n k (m .sender) (m .receiver) ≡ true
-  pub stamps : filledTo (stampCount k m) sizes (m .stamp) ≡ true
-  pub values : filledTo (valueCount k m) sizes (m .values) ≡ true
-  pub cost : m .cost ≤ costLimit k m
+  pub stamps : filledTo (carriedOf k m .stamps) sizes (m .stamp) ≡ true
+  pub values : filledTo (carriedOf k m .values) sizes (m .values) ≡ true
+  pub cost : m .cost ≤ carriedOf k m .cost
   pub bound : boundFits n sizes k (m .bound) (m .best) ≡ true
 
 pub formed-by : (n : ℕ) (sizes : List ℕ) (k : Kind) (m : Message) → Formed n sizes k m → wellFormed n sizes k m ≡ true
 unfolding wellFormed
-formed-by n sizes k m f = rw (f .direction, f .stamps, f .values, le-leb (m .cost) (costLimit k m) (f .cost)) (f .bound)
+formed-by n sizes k m f = rw (f .direction, f .stamps, f .values, le-leb (m .cost) (carriedOf k m .cost) (f .cost)) (f .bound)
 
 pub formed : (n : ℕ) (sizes : List ℕ) (k : Kind) (m : Message) → wellFormed n sizes k m ≡ true → Formed n sizes k m
 unfolding wellFormed
 formed n sizes k m e =
     let a : Bool = directionGood n k (m .sender) (m .receiver) in
-    let b : Bool = filledTo (stampCount k m) sizes (m .stamp) in
-    let c : Bool = filledTo (valueCount k m) sizes (m .values) in
-    let d : Bool = leb (m .cost) (costLimit k m) in
+    let b : Bool = filledTo (carriedOf k m .stamps) sizes (m .stamp) in
+    let c : Bool = filledTo (carriedOf k m .values) sizes (m .values) in
+    let d : Bool = leb (m .cost) (carriedOf k m .cost) in
     let e4 : (a && b && c && d) ≡ true = and-left _ _ e in
     let e3 : (a && b && c) ≡ true = and-left _ _ e4 in
     let e2 : (a && b) ≡ true = and-left _ _ e3 in
@@ -151,6 +151,6 @@ formed n sizes k m e =
       direction = and-left _ _ e2;
       stamps = and-right a b e2;
       values = and-right (a && b) c e3;
-      cost = leb-true (m .cost) (costLimit k m) (and-right (a && b && c) d e4);
+      cost = leb-true (m .cost) (carriedOf k m .cost) (and-right (a && b && c) d e4);
       bound = and-right (a && b && c && d) _ e;
     }

@@ -1,5 +1,5 @@
 -- What a message holds, and which fields go together. Document 01, 'Radio message, 64 bytes'.
---     kindCode, refusalOf     01's number for each case of the two enums
+--     kindCode, kindOf, refusalOf     01's number for each case of the two enums
 --     Packet, noMessage       a message with its kind; the message whose fields are all zero
 --     Sized                   arrays of 16 places, numbers of 32 bits
 --     NONE, totalLimit, prefixLimit     the limits, each here alone
@@ -18,6 +18,7 @@ use Rattle.message.specs.declared.Kind.the-variants.{Cpa, Request, Estim
 use Rattle.message.specs.declared.Read.{Read}
 use Rattle.message.specs.declared.Read.the-variants.{Good, Refused}
 use Rattle.message.specs.declared.Message.{Message}
+use Rattle.message.specs.declared.Carried.{Carried}
 
 -- 01: "1 paper, 2 copy, 3 estimate, 4 news, 5 stop"
 abbrev pub kindCode : Kind → ℕ
@@ -26,6 +27,10 @@ kindCode Request = 2
 kindCode Estimate = 3
 kindCode Solution = 4
 kindCode Stop = 5
+
+-- the kind of a number; 01, refusal 9: no kind has another
+abbrev pub kindOf : ℕ → Read
+kindOf b = cond (eqb b 1) (Good Cpa) (cond (eqb b 2) (Good Request) (cond (eqb b 3) (Good Estimate) (cond (eqb b 4) (Good Solution) (cond (eqb b 5) (Good Stop) (Refused 9)))))
 
 -- the refusal's number, 0 for a good message
 abbrev pub refusalOf : Read → ℕ
@@ -95,29 +100,18 @@ noBound sizes bound best = eqb bound 0 && filledTo 0 sizes best
 abbrev pub cpaCount : ℕ → ℕ → ℕ
 cpaCount s r = cond (ltb s r) (r - 1) r
 
--- how many units' stamps are filled; 01: "units 1 to sender filled", "stamp filled for units 1 to receiver"
-abbrev pub stampCount : Kind → Message → ℕ
-stampCount Cpa m = cpaCount (m .sender) (m .receiver)
-stampCount Request m = m .sender
-stampCount Estimate m = m .receiver
-stampCount Solution m = 0
-stampCount Stop m = 0
+-- units 1 to k filled, in stamp and values
+abbrev pub prefixOf : ℕ → Carried
+prefixOf k = record { stamps = k; values = k; cost = prefixLimit k }
 
--- the values are filled as far as the stamp; an estimate has none
-abbrev pub valueCount : Kind → Message → ℕ
-valueCount Cpa m = cpaCount (m .sender) (m .receiver)
-valueCount Request m = m .sender
-valueCount Estimate m = 0
-valueCount Solution m = 0
-valueCount Stop m = 0
-
--- the most that the cost may be; 0 where the kind has none
-abbrev pub costLimit : Kind → Message → ℕ
-costLimit Cpa m = prefixLimit (cpaCount (m .sender) (m .receiver))
-costLimit Request m = prefixLimit (m .sender)
-costLimit Estimate m = totalLimit
-costLimit Solution m = 0
-costLimit Stop m = 0
+-- what a kind carries besides a bound. 01: "units 1 to receiver - 1, or 1 to receiver going back, are filled"; "units 1 to sender filled";
+-- "stamp filled for units 1 to receiver, cost is the estimate, all else zero"; "only bound and best"
+abbrev pub carriedOf : Kind → Message → Carried
+carriedOf Cpa m = prefixOf (cpaCount (m .sender) (m .receiver))
+carriedOf Request m = prefixOf (m .sender)
+carriedOf Estimate m = record { stamps = m .receiver; values = 0; cost = totalLimit }
+carriedOf Solution m = prefixOf 0
+carriedOf Stop m = prefixOf 0
 
 -- which bounds a kind may carry
 abbrev pub boundFits : ℕ → List ℕ → Kind → ℕ → List ℕ → Bool
@@ -154,5 +148,5 @@ addressGood n m = isUnit n (m .sender) && isUnit n (m .receiver)
 -- 01, refusal 9: "a message field against its kind"
 unfoldable pub wellFormed : ℕ → List ℕ → Kind → Message → Bool
 wellFormed n sizes k m =
-    directionGood n k (m .sender) (m .receiver) && filledTo (stampCount k m) sizes (m .stamp) && filledTo (valueCount k m) sizes (m .values)
-    && leb (m .cost) (costLimit k m) && boundFits n sizes k (m .bound) (m .best)
+    directionGood n k (m .sender) (m .receiver) && filledTo (carriedOf k m .stamps) sizes (m .stamp) && filledTo (carriedOf k m .values) sizes (m .values)
+    && leb (m .cost) (carriedOf k m .cost) && boundFits n sizes k (m .bound) (m .best)

@@ -1,19 +1,19 @@
 -- Reading and writing are inverse. A message that writing accepts reads back as itself, and accepted bytes are written again as
 -- the same bytes, so reading is injective on them.
 --     Fields in bytes           a field laid at its place is read there, and read bytes are laid again
---     parse-encode, parse-encode-any, parse-written     a message written and read
---     Accepted, accepted        what is known of accepted bytes
---     encode-parse, parse-injective     accepted bytes read and written
+--     parse-encode, parse-written     a message written and read
+--     ParsedGood, parsed-good   what is known of bytes that reading accepts
+--     encode-parse, writes-again, parse-injective     accepted bytes read and written
 --     refused-blank             beside a refusal every field is zero
 -- Assumes nothing.
 use Prim.Native.Nat.{ℕ, suc, _+_, _≤_, _<_}
 use mathlib.Core.Path.{_≡_, refl, sym, ap, _∙_}
-use mathlib.Core.Bool.{Bool, true, false, _&&_, _||_}
+use mathlib.Core.Bool.{Bool, true, false}
 use mathlib.Core.List.{List, [], _∷_, _++_, append-assoc}
 use native.Mathlib.Omega.{arith}
 use native.Mathlib.Nat.{add-zero}
-use borrow.Author.Tests.{eq-eqb, eqb-true, ltb-false}
-use lib.Dec.{eqb, ltb}
+use borrow.Author.Tests.{eq-eqb, eqb-true, leb-true, le-leb}
+use lib.Dec.{leb, eqb}
 use lib.ListN.{length, take, drop, getD, length-append, length-take, length-drop}
 use lib.Seq.{take-at, drop-at, take-all, take-add, drop-cons, getD-append-add}
 use Rattle.base.specs.Bytes.{u16At, u32At, le16, le32, u16-of-le16, u32-of-le32, le16-of-u16, le32-of-u32}
@@ -25,9 +25,11 @@ use Rattle.message.specs.declared.Read.{Read}
 use Rattle.message.specs.declared.Read.the-variants.{Good, Refused}
 use Rattle.message.specs.declared.Message.{Message}
 use Rattle.message.specs.declared.Parsed.{Parsed}
-use Rattle.message.specs.Message.{kindCode, noMessage, Sized, addressGood, wellFormed}
-use Rattle.message.specs.Encode.{body, encode, head, putAt, length-body, length-encode, put-fits}
-use Rattle.message.specs.Decode.{messageIn, kindOf, checkGood, restZero, forUnit, parseKind, parseFor, check-length, parse-5, parse-8, parse-10, parse-on, kind-refused, kind-rest, kind-unfit, kind-good, refused, writeRefusal, writeOf, write-done}
+use Rattle.message.specs.Message.{kindCode, kindOf, noMessage, Sized, addressGood, wellFormed}
+use Rattle.message.specs.Encode.{body, encode, putAt, putRefusal}
+use Rattle.message.specs.EncodeLaws.{head, length-body, length-encode}
+use Rattle.message.specs.Decode.{messageIn, checkGood, restZero, addressedTo, parseKind, parseFor, parseOf, refused, writeRefusal, packetInto}
+use Rattle.message.specs.DecodeLaws.{check-length, parse-5, parse-8, parse-10, parse-on, kind-refused, kind-rest, kind-unfit, kind-good, write-done}
 
 -- ------------------------------------------------------------------------------------------------------------------
 -- Fields in bytes.
@@ -107,10 +109,6 @@ last k m = le16 (sumOf (body k m))
 abbrev zeros : List ℕ
 zeros = 0 ∷ 0 ∷ []
 
-or-right : (a : Bool) {b : Bool} → b ≡ true → (a || b) ≡ true
-or-right true e = refl
-or-right false e = e
-
 module _ (k : Kind) (m : Message) (z : Sized m) where
   check-of-encode : checkGood (encode k m) ≡ true
   unfolding checkGood encode
@@ -188,22 +186,14 @@ module _ (k : Kind) (m : Message) (z : Sized m) where
       go Solution = refl
       go Stop = refl
 
--- a message that fits its kind, written and read; own is 0 or the receiver
-module _ (n : ℕ) (sizes : List ℕ) (k : Kind) (m : Message) (shape : shapeGood n sizes ≡ true) (address : addressGood n m ≡ true) (formed : wellFormed n sizes k m ≡ true) (z : Sized m) where
-  parse-encode-for : (own : ℕ) → forUnit own m ≡ true → parseFor n sizes own (encode k m) ≡ record { answer = Good k; message = m }
-  parse-encode-for own f =
-      let e : messageIn (encode k m) ≡ m = message-of-encode k m z in
-      let h : (addressGood n (messageIn (encode k m)) && forUnit own (messageIn (encode k m))) ≡ true = rw (e, address, f) in
-      parse-on n sizes own (encode k m) shape (check-of-encode k m z) h
-      ∙ rw e (kind-good n sizes (encode k m) m (kindOf (getD (encode k m) 0 0)) k (kind-of-encode k m z) (rest-of-encode k m z) formed)
-
-  pub parse-encode : parseFor n sizes (m .receiver) (encode k m) ≡ record { answer = Good k; message = m }
-  unfolding forUnit
-  parse-encode = parse-encode-for (m .receiver) (or-right (eqb (m .receiver) 0) (eq-eqb (m .receiver) (m .receiver) refl))
-
-  pub parse-encode-any : parseFor n sizes 0 (encode k m) ≡ record { answer = Good k; message = m }
-  unfolding forUnit
-  parse-encode-any = parse-encode-for 0 refl
+-- a message that fits its kind, written, and read by its receiver
+pub parse-encode : (n : ℕ) (sizes : List ℕ) (k : Kind) (m : Message) → shapeGood n sizes ≡ true → addressGood n m ≡ true → wellFormed n sizes k m ≡ true → Sized m
+    → parseFor n sizes (m .receiver) (encode k m) ≡ record { answer = Good k; message = m }
+parse-encode n sizes k m shape address formed z =
+    let e : messageIn (encode k m) ≡ m = message-of-encode k m z in
+    let h : addressedTo n (m .receiver) (messageIn (encode k m)) ≡ true = rw (e, address) (eq-eqb (m .receiver) (m .receiver) refl) in
+    parse-on n sizes (m .receiver) (encode k m) shape (check-of-encode k m z) h
+    ∙ rw e (kind-good n sizes (encode k m) m (kindOf (getD (encode k m) 0 0)) k (kind-of-encode k m z) (rest-of-encode k m z) formed)
 
 -- ------------------------------------------------------------------------------------------------------------------
 -- What `write` accepts.
@@ -215,37 +205,40 @@ pub record Writable (n : ℕ) (sizes : List ℕ) (k : Kind) (m : Message) (room 
   pub fits : 64 ≤ room
 
 pub writable : (n : ℕ) (sizes : List ℕ) (k : Kind) (m : Message) (room : ℕ) → writeRefusal n sizes k m room ≡ 0 → Writable n sizes k m room
-unfolding writeRefusal
-writable n sizes k m room e = go (shapeGood n sizes) refl (addressGood n m) refl (wellFormed n sizes k m) refl (ltb room 64) refl
+unfolding writeRefusal putRefusal
+writable n sizes k m room e = go (shapeGood n sizes) refl (addressGood n m) refl (wellFormed n sizes k m) refl (leb (0 + 64) room) refl
   where
     never : (r : ℕ) → 0 < r → r ≡ 0 → Writable n sizes k m room
     never r h q = absurd (omega arith)
 
-    go : (a : Bool) → shapeGood n sizes ≡ a → (b : Bool) → addressGood n m ≡ b → (c : Bool) → wellFormed n sizes k m ≡ c → (d : Bool) → ltb room 64 ≡ d → Writable n sizes k m room
+    go : (a : Bool) → shapeGood n sizes ≡ a → (b : Bool) → addressGood n m ≡ b → (c : Bool) → wellFormed n sizes k m ≡ c → (d : Bool) → leb (0 + 64) room ≡ d → Writable n sizes k m room
     go false p b q c t d u = never 5 (omega arith) (rw p at e)
     go true p false q c t d u = never 10 (omega arith) (rw (p, q) at e)
     go true p true q false t d u = never 9 (omega arith) (rw (p, q, t) at e)
-    go true p true q true t true u = never 13 (omega arith) (rw (p, q, t, u) at e)
-    go true p true q true t false u = record { shape = p; address = q; formed = t; fits = ltb-false room 64 u }
+    go true p true q true t false u = never 13 (omega arith) (rw (p, q, t, u) at e)
+    go true p true q true t true u = record { shape = p; address = q; formed = t; fits = leb-true (0 + 64) room u }
+
+pub writable-by : (n : ℕ) (sizes : List ℕ) (k : Kind) (m : Message) (room : ℕ) → Writable n sizes k m room → writeRefusal n sizes k m room ≡ 0
+unfolding writeRefusal putRefusal
+writable-by n sizes k m room w = rw (w .shape, w .address, w .formed, le-leb (0 + 64) room (w .fits))
 
 -- what `write` accepts and puts first in the output reads back as the same message and kind
 pub parse-written : (n : ℕ) (sizes : List ℕ) (k : Kind) (m : Message) (out : List ℕ) → Sized m → writeRefusal n sizes k m (length out) ≡ 0
-    → parseFor n sizes 0 (take 64 (writeOf n sizes k m out)) ≡ record { answer = Good k; message = m }
+    → parseOf n sizes (take 64 (packetInto n sizes k m out)) ≡ record { answer = Good k; message = m }
 parse-written n sizes k m out z e =
     let a : Writable n sizes k m (length out) = writable n sizes k m (length out) e in
-    let f : writeOf n sizes k m out ≡ putAt out 0 (encode k m) = write-done n sizes k m out e ∙ put-fits k m out 0 (omega arith) in
-    let g : take 64 (writeOf n sizes k m out) ≡ encode k m = ap (λ (l : List ℕ). take 64 l) f ∙ take-at (encode k m) (drop (0 + length (encode k m)) out) 64 (length-encode k m z) in
-    rw g (parse-encode-any n sizes k m (a .shape) (a .address) (a .formed) z)
+    let g : take 64 (packetInto n sizes k m out) ≡ encode k m = ap (λ (l : List ℕ). take 64 l) (write-done n sizes k m out e) ∙ take-at (encode k m) (drop (0 + length (encode k m)) out) 64 (length-encode k m z) in
+    rw (g, receiver-of-encode k m z) (parse-encode n sizes k m (a .shape) (a .address) (a .formed) z)
 
 -- ------------------------------------------------------------------------------------------------------------------
 -- Accepted bytes, read and written.
 
 -- what is known of bytes that reading accepts
-pub record Accepted (n : ℕ) (sizes : List ℕ) (own : ℕ) (s : List ℕ) (k : Kind) : Type 0 where
+pub record ParsedGood (n : ℕ) (sizes : List ℕ) (own : ℕ) (s : List ℕ) (k : Kind) : Type 0 where
   pub shape : shapeGood n sizes ≡ true
   pub check : checkGood s ≡ true
   pub address : addressGood n (messageIn s) ≡ true
-  pub receiver : forUnit own (messageIn s) ≡ true
+  pub receiver : messageIn s .receiver ≡ own
   pub kind : kindOf (getD s 0 0) ≡ Good k
   pub rest : restZero s ≡ true
   pub formed : wellFormed n sizes k (messageIn s) ≡ true
@@ -257,11 +250,11 @@ module _ (n : ℕ) (sizes : List ℕ) (own : ℕ) (s : List ℕ) (k : Kind) (goo
   never-refused r e = let h = ap (λ (x : Parsed). x .answer) e in let c : _≡_ {A = ℕ} 0 1 = cc in omega arith
 
   -- past check 10, by the kind read and the two parts of check 9
-  module _ (p : shapeGood n sizes ≡ true) (q : checkGood s ≡ true) (t : (addressGood n (messageIn s) && forUnit own (messageIn s)) ≡ true) where
+  module _ (p : shapeGood n sizes ≡ true) (q : checkGood s ≡ true) (t : addressedTo n own (messageIn s) ≡ true) where
     on : parseFor n sizes own s ≡ parseKind n sizes s (messageIn s) (kindOf (getD s 0 0))
     on = parse-on n sizes own s p q t
 
-    by-fields : (j : Kind) → kindOf (getD s 0 0) ≡ Good j → (r : Bool) → restZero s ≡ r → (w : Bool) → wellFormed n sizes j (messageIn s) ≡ w → Accepted n sizes own s k
+    by-fields : (j : Kind) → kindOf (getD s 0 0) ≡ Good j → (r : Bool) → restZero s ≡ r → (w : Bool) → wellFormed n sizes j (messageIn s) ≡ w → ParsedGood n sizes own s k
     by-fields j e false f w g = absurd (never-refused 9 (on ∙ kind-rest n sizes s (messageIn s) _ j e f))
     by-fields j e true f false g = absurd (never-refused 9 (on ∙ kind-unfit n sizes s (messageIn s) _ j e f g))
     by-fields j e true f true g =
@@ -272,21 +265,21 @@ module _ (n : ℕ) (sizes : List ℕ) (own : ℕ) (s : List ℕ) (k : Kind) (goo
           shape = p;
           check = q;
           address = and-left _ _ t;
-          receiver = and-right (addressGood n (messageIn s)) _ t;
+          receiver = eqb-true (messageIn s .receiver) own (and-right (addressGood n (messageIn s)) _ t);
           kind = rw i at e;
           rest = f;
           formed = rw i at g;
           whole = rw i at h;
         }
 
-    by-kind : (a : Read) → kindOf (getD s 0 0) ≡ a → Accepted n sizes own s k
+    by-kind : (a : Read) → kindOf (getD s 0 0) ≡ a → ParsedGood n sizes own s k
     by-kind (Good j) e = by-fields j e (restZero s) refl (wellFormed n sizes j (messageIn s)) refl
     by-kind (Refused r) e = absurd (never-refused r (on ∙ kind-refused n sizes s (messageIn s) _ r e))
 
-  pub accepted : Accepted n sizes own s k
-  accepted = go (shapeGood n sizes) refl (checkGood s) refl (addressGood n (messageIn s) && forUnit own (messageIn s)) refl
+  pub parsed-good : ParsedGood n sizes own s k
+  parsed-good = go (shapeGood n sizes) refl (checkGood s) refl (addressedTo n own (messageIn s)) refl
     where
-      go : (a : Bool) → shapeGood n sizes ≡ a → (b : Bool) → checkGood s ≡ b → (d : Bool) → (addressGood n (messageIn s) && forUnit own (messageIn s)) ≡ d → Accepted n sizes own s k
+      go : (a : Bool) → shapeGood n sizes ≡ a → (b : Bool) → checkGood s ≡ b → (d : Bool) → addressedTo n own (messageIn s) ≡ d → ParsedGood n sizes own s k
       go false p b q d t = absurd (never-refused 5 (parse-5 n sizes own s p))
       go true p false q d t = absurd (never-refused 8 (parse-8 n sizes own s p q))
       go true p true q false t = absurd (never-refused 10 (parse-10 n sizes own s p q t))
@@ -354,8 +347,19 @@ sized-in s l bytes = record {
 -- accepted bytes, read and written again, are the same bytes
 pub encode-parse : (n : ℕ) (sizes : List ℕ) (own : ℕ) (s : List ℕ) (k : Kind) → AllBytes s → parseFor n sizes own s .answer ≡ Good k → encode k (parseFor n sizes own s .message) ≡ s
 encode-parse n sizes own s k b e =
-    let a : Accepted n sizes own s k = accepted n sizes own s k e in
+    let a : ParsedGood n sizes own s k = parsed-good n sizes own s k e in
     ap (λ (p : Parsed). encode k (p .message)) (a .whole) ∙ encode-again s (check-length s (a .check)) b k (a .kind) (a .rest) (a .check)
+
+-- so writing them again, into any buffer that is long enough, is accepted and leaves the same bytes in front of what was there
+pub writes-again : (n : ℕ) (sizes : List ℕ) (own : ℕ) (s : List ℕ) (k : Kind) → AllBytes s → parseFor n sizes own s .answer ≡ Good k → (out : List ℕ) → 64 ≤ length out
+    → (writeRefusal n sizes k (parseFor n sizes own s .message) (length out) ≡ 0) × (packetInto n sizes k (parseFor n sizes own s .message) out ≡ s ++ drop 64 out)
+writes-again n sizes own s k b e out h =
+    let a : ParsedGood n sizes own s k = parsed-good n sizes own s k e in
+    let l : length s ≡ 64 = check-length s (a .check) in
+    let m : Message = parseFor n sizes own s .message in
+    let f : m ≡ messageIn s = ap (λ (p : Parsed). p .message) (a .whole) in
+    let w : writeRefusal n sizes k m (length out) ≡ 0 = writable-by n sizes k m (length out) record { shape = a .shape; address = rw f (a .address); formed = rw f (a .formed); fits = h } in
+    (w, write-done n sizes k m out w ∙ rw (encode-parse n sizes own s k b e, l))
 
 -- so no two of them read alike
 pub parse-injective : (n : ℕ) (sizes : List ℕ) (own : ℕ) (s t : List ℕ) (k : Kind) → AllBytes s → AllBytes t
@@ -384,9 +388,9 @@ module _ (n : ℕ) (sizes : List ℕ) (own : ℕ) (s : List ℕ) (r : ℕ) (bad 
           absurd (omega arith)
 
   pub refused-blank : parseFor n sizes own s .message ≡ noMessage
-  refused-blank = go (shapeGood n sizes) refl (checkGood s) refl (addressGood n (messageIn s) && forUnit own (messageIn s)) refl
+  refused-blank = go (shapeGood n sizes) refl (checkGood s) refl (addressedTo n own (messageIn s)) refl
     where
-      go : (a : Bool) → shapeGood n sizes ≡ a → (b : Bool) → checkGood s ≡ b → (d : Bool) → (addressGood n (messageIn s) && forUnit own (messageIn s)) ≡ d → parseFor n sizes own s .message ≡ noMessage
+      go : (a : Bool) → shapeGood n sizes ≡ a → (b : Bool) → checkGood s ≡ b → (d : Bool) → addressedTo n own (messageIn s) ≡ d → parseFor n sizes own s .message ≡ noMessage
       go false p b q d t = blank 5 (parse-5 n sizes own s p)
       go true p false q d t = blank 8 (parse-8 n sizes own s p q)
       go true p true q false t = blank 10 (parse-10 n sizes own s p q t)

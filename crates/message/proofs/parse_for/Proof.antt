@@ -1,12 +1,14 @@
 -- `parse_for` meets its contract: each refusal is the first check of 01's order that fails; past them check 9 decides.
 -- Assumes nothing.
-use mathlib.Core.Path.{_≡_, sym, ap, _∙_}
-use mathlib.Core.Bool.{true, false, _&&_}
-use borrow.Author.Tests.{not-true, not-false}
+use mathlib.Core.Path.{_≡_, sym, _∙_}
+use mathlib.Core.Bool.{true, false}
+use borrow.Author.Tests.{not-true, not-false, eq-eqb, ne-eqb}
+use lib.Dec.{eqb}
 use borrow.Author.Needs.{needs}
 use Rattle.base.specs.Shape.{shapeGood}
 use Rattle.message.specs.Message.{addressGood}
-use Rattle.message.specs.Decode.{messageIn, checkGood, forUnit, kindOf, parseKind, check-length, parse-5, parse-8, parse-10, parse-on}
+use Rattle.message.specs.Decode.{messageIn, checkGood}
+use Rattle.message.specs.DecodeLaws.{check-length, parse-5, parse-8, parse-10, parse-on}
 use Rattle.message.proofs.parse_for.Statement.{statement}
 use Rattle.message.proofs.parse_for.Tie as tie
 
@@ -53,26 +55,25 @@ returns-3 c =
     let e : addressGood (a .n) (messageIn (a .bytes .now)) ≡ false = rw (← c .before .before .before .message-in .ensures) (sym (c .before .before .address-good .ensures) ∙ not-true _ (c .before .if3 .taken)) in
     c .refused3 .ensures ∙ sym (parse-10 (a .n) (a .sizes) (a .own) (a .bytes .now) (shaped (c .before .before .before .before .before .before)) (checked (c .before .before .before .before)) (rw e))
 
-for-unit-requires : tie.Need-for-unit-requires
-for-unit-requires c κs = search needs
-
 refused-requires-4 : tie.Need-refused-requires-4
 refused-requires-4 c κs = search needs
 
 returns-4 : tie.Need-returns-4
 returns-4 c =
-    let a = c .before .before .before .before .before .before .before .before .before .before .before .args in
-    let e : forUnit (a .own) (messageIn (a .bytes .now)) ≡ false = rw (← c .before .before .before .before .before .message-in .ensures) (sym (c .before .before .for-unit .ensures) ∙ not-true _ (c .before .if4 .taken)) in
-    c .refused4 .ensures ∙ sym (parse-10 (a .n) (a .sizes) (a .own) (a .bytes .now) (shaped (c .before .before .before .before .before .before .before .before)) (checked (c .before .before .before .before .before .before)) (rw (addressed (c .before .before .before), e)))
+    let e = c .before .before .before in
+    let a = e .before .before .before .before .before .before .before .before .args in
+    let t : eqb (messageIn (a .bytes .now) .receiver) (a .own) ≡ false = rw (← e .before .before .message-in .ensures) (ne-eqb _ _ (c .before .if4 .taken)) in
+    c .refused4 .ensures ∙ sym (parse-10 (a .n) (a .sizes) (a .own) (a .bytes .now) (shaped (e .before .before .before .before .before)) (checked (e .before .before .before)) (rw (addressed e, t)))
 
 parse-kind-requires : tie.Need-parse-kind-requires
 parse-kind-requires c κs = search needs
 
 returns-5 : tie.Need-returns-5
 returns-5 c =
-    let a = c .before .before .before .before .before .before .before .before .before .before .before .args in
-    let e : forUnit (a .own) (messageIn (a .bytes .now)) ≡ true = rw (← c .before .before .before .before .before .message-in .ensures) (sym (c .before .before .for-unit .ensures) ∙ not-false _ (c .before .if4 .left)) in
-    c .parse-kind .ensures ∙ rw (c .before .before .before .before .before .message-in .ensures) (sym (parse-on (a .n) (a .sizes) (a .own) (a .bytes .now) (shaped (c .before .before .before .before .before .before .before .before)) (checked (c .before .before .before .before .before .before)) (rw (addressed (c .before .before .before), e))))
+    let e = c .before .before .before in
+    let a = e .before .before .before .before .before .before .before .before .args in
+    let t : eqb (messageIn (a .bytes .now) .receiver) (a .own) ≡ true = rw (← e .before .before .message-in .ensures) (eq-eqb _ _ (c .before .if4 .left)) in
+    c .parse-kind .ensures ∙ rw (e .before .before .message-in .ensures) (sym (parse-on (a .n) (a .sizes) (a .own) (a .bytes .now) (shaped (e .before .before .before .before .before)) (checked (e .before .before .before)) (rw (addressed e, t))))
 
 pub parse-for-spec : {M : Type 1} → statement M
 parse-for-spec =
@@ -88,7 +89,6 @@ parse-for-spec =
     address-good-requires
     refused-requires-3
     returns-3
-    for-unit-requires
     refused-requires-4
     returns-4
     parse-kind-requires

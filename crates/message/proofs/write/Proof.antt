@@ -1,14 +1,14 @@
--- `write` meets its contract: each refusal is the first test of 01's order that fails; past them all the 64 bytes are put.
+-- `write` meets its contract: each refusal is the first test of 01's order that fails; past them it is `put`.
 -- Assumes nothing.
 use mathlib.Core.Path.{_≡_, sym, _∙_}
 use mathlib.Core.Bool.{true}
 use native.Mathlib.Omega.{arith}
-use borrow.Author.Tests.{not-true, not-false, lt-ltb, le-ltb}
-use lib.ListN.{length}
+use borrow.Author.Tests.{not-true, not-false}
 use borrow.Author.Needs.{needs}
 use Rattle.base.specs.Shape.{shapeGood}
 use Rattle.message.specs.Message.{addressGood, wellFormed}
-use Rattle.message.specs.Decode.{writeRefusal, write-stops, write-done}
+use Rattle.message.specs.Decode.{writeRefusal}
+use Rattle.message.specs.DecodeLaws.{write-stops, write-last, write-puts}
 use Rattle.message.proofs.write.Statement.{statement}
 use Rattle.message.proofs.write.Tie as tie
 
@@ -43,22 +43,20 @@ returns-3 : tie.Need-returns-3
 unfolding writeRefusal
 returns-3 c = let a = c .before .before .before .before .before .before .before .args in write-stops (a .n) (a .sizes) (a .kind) (a .m) (a .out .now) 9 (rw (shaped (c .before .before .before .before), addressed (c .before .before), sym (c .before .well-formed .ensures) ∙ not-true _ (c .if3 .taken))) (omega arith)
 
-returns-4 : tie.Need-returns-4
-unfolding writeRefusal
-returns-4 c = let a = c .before .before .before .before .before .before .before .before .args in write-stops (a .n) (a .sizes) (a .kind) (a .m) (a .out .now) 13 (rw (shaped (c .before .before .before .before .before), addressed (c .before .before .before), formed (c .before), lt-ltb _ _ (c .if4 .taken))) (omega arith)
-
 put-requires : tie.Need-put-requires
 put-requires c κs = search needs
 
 same-length : tie.Need-same-length
 same-length c = search needs
 
-returns-5 : tie.Need-returns-5
-unfolding writeRefusal
-returns-5 c =
-    let a = c .before .before .before .before .before .before .before .before .before .before .before .before .args in
-    let e : writeRefusal (a .n) (a .sizes) (a .kind) (a .m) (length (a .out .now)) ≡ 0 = rw (shaped (c .before .before .before .before .before .before .before .before .before), addressed (c .before .before .before .before .before .before .before), formed (c .before .before .before .before .before), le-ltb _ _ (c .before .before .before .before .if4 .left)) in
-    (sym e, c .before .before .put .ensures ∙ sym (write-done (a .n) (a .sizes) (a .kind) (a .m) (a .out .now) e))
+returns-4 : tie.Need-returns-4
+returns-4 c =
+    let e = c .before .before .before .before in
+    let a = e .before .before .before .before .before .before .before .args in
+    let p = shaped (e .before .before .before .before) in
+    let q = addressed (e .before .before) in
+    let r = formed e in
+    (c .before .before .put .ensures .0 ∙ sym (write-last (a .n) (a .sizes) (a .kind) (a .m) (a .out .now) p q r), c .before .before .put .ensures .1 ∙ sym (write-puts (a .n) (a .sizes) (a .kind) (a .m) (a .out .now) p q r))
 
 pub write-spec : {M : Type 1} → statement M
 write-spec =
@@ -70,7 +68,6 @@ write-spec =
     returns-2
     well-formed-requires
     returns-3
-    returns-4
     put-requires
     same-length
-    returns-5)
+    returns-4)

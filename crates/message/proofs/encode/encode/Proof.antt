@@ -1,0 +1,65 @@
+-- `encode` meets its contract: the checksum of the first 62 bytes is laid after them.
+-- Assumes nothing.
+use mathlib.Core.Path.{_≡_, ap, _∙_}
+use mathlib.Core.List.{[], _∷_}
+use lib.ListN.{length}
+use lib.Seq.{take-at}
+use borrow.Author.Needs.{needs}
+use Rattle.checksum.specs.Sum.{sumOf}
+use Rattle.message.specs.Message.{Sized}
+use Rattle.message.specs.Encode.{body, encode}
+use Rattle.message.specs.EncodeLaws.{length-body, sum-laid}
+use Rattle.message.proofs.encode.encode.Statement.{statement}
+use Rattle.message.proofs.encode.encode.Tie as tie
+
+body-requires : tie.Need-body-requires
+body-requires c κs = search needs
+
+sub-sum : tie.Need-sub-sum
+sub-sum c = search needs
+
+part-sum-start : tie.Need-part-sum-start
+part-sum-start c = search needs
+
+part-sum-end : tie.Need-part-sum-end
+part-sum-end c = search needs
+
+sum-requires : tie.Need-sum-requires
+sum-requires c κs = search needs
+
+cast-r : tie.Need-cast-r
+cast-r c = search needs
+
+array-write-r : tie.Need-array-write-r
+array-write-r c = search needs
+
+cast-r-2 : tie.Need-cast-r-2
+cast-r-2 c = search needs
+
+array-write-r-2 : tie.Need-array-write-r-2
+array-write-r-2 c = search needs
+
+returns : tie.Need-returns
+unfolding encode
+returns c =
+    let a = c .before .before .before .before .args in
+    let z : Sized (a .m) = record { stamp = search needs; values = search needs; best = search needs; cost = search needs; bound = search needs } in
+    let b = body (a .kind) (a .m) in
+    let h : length b ≡ 62 = length-body (a .kind) (a .m) z in
+    let e : c .sum .result ≡ sumOf b = c .sum .ensures ∙ ap sumOf (rw (c .before .before .before .body .ensures) (take-at b (0 ∷ 0 ∷ []) 62 h)) in
+    rw (c .before .before .before .body .ensures, ← e) (sum-laid b (c .sum .result) h)
+
+pub encode-spec : {M : Type 1} → statement M
+encode-spec =
+    tie.close
+    (tie.spec
+    body-requires
+    sub-sum
+    part-sum-start
+    part-sum-end
+    sum-requires
+    cast-r
+    array-write-r
+    cast-r-2
+    array-write-r-2
+    returns)

@@ -1,0 +1,74 @@
+-- `well_formed` meets its contract: each test that held is one part of the definition, and the first that fails, or the last, decides.
+-- Assumes nothing.
+use mathlib.Core.Path.{_≡_, sym, _∙_}
+use mathlib.Core.Bool.{true, _&&_}
+use borrow.Author.Tests.{not-true, not-false, le-leb, lt-leb}
+use borrow.Author.Needs.{needs}
+use Rattle.message.specs.Message.{directionGood, carriedOf, filledTo, wellFormed}
+use Rattle.message.proofs.fields.well_formed.Statement.{statement}
+use Rattle.message.proofs.fields.well_formed.Tie as tie
+
+-- the parts, each where its test held
+directed : (c : tie.Else1) → let a = c .before .before .args in directionGood (a .n) (a .kind) (a .m .sender) (a .m .receiver) ≡ true
+directed c = sym (c .before .direction-good .ensures) ∙ not-false _ (c .if1 .left)
+
+stamped : (c : tie.Else2) → let a = c .before .before .before .before .before .before .args in filledTo (carriedOf (a .kind) (a .m) .stamps) (a .sizes) (a .m .stamp) ≡ true
+stamped c = rw (← c .before .before .before .carried .ensures) (sym (c .before .filled-to .ensures) ∙ not-false _ (c .if2 .left))
+
+valued : (c : tie.Else3) → let a = c .before .before .before .before .before .before .before .before .before .args in filledTo (carriedOf (a .kind) (a .m) .values) (a .sizes) (a .m .values) ≡ true
+valued c = rw (← c .before .before .before .before .before .before .carried .ensures) (sym (c .before .filled-to2 .ensures) ∙ not-false _ (c .if3 .left))
+
+-- the first three parts together
+held : (c : tie.Else3) → let a = c .before .before .before .before .before .before .before .before .before .args in
+    (directionGood (a .n) (a .kind) (a .m .sender) (a .m .receiver) && filledTo (carriedOf (a .kind) (a .m) .stamps) (a .sizes) (a .m .stamp) && filledTo (carriedOf (a .kind) (a .m) .values) (a .sizes) (a .m .values)) ≡ true
+held c = rw (directed (c .before .before .before .before .before .before .before), stamped (c .before .before .before)) (valued c)
+
+direction-good-requires : tie.Need-direction-good-requires
+direction-good-requires c κs = search needs
+
+returns : tie.Need-returns
+unfolding wellFormed
+returns c = rw (sym (c .before .direction-good .ensures) ∙ not-true _ (c .if1 .taken))
+
+carried-requires : tie.Need-carried-requires
+carried-requires c κs = search needs
+
+filled-to-requires : tie.Need-filled-to-requires
+filled-to-requires c κs = search needs
+
+returns-2 : tie.Need-returns-2
+unfolding wellFormed
+returns-2 c = rw (directed (c .before .before .before .before), ← c .before .before .before .carried .ensures, sym (c .before .filled-to .ensures) ∙ not-true _ (c .if2 .taken))
+
+filled-to-requires-2 : tie.Need-filled-to-requires-2
+filled-to-requires-2 c κs = search needs
+
+returns-3 : tie.Need-returns-3
+unfolding wellFormed
+returns-3 c = rw (directed (c .before .before .before .before .before .before .before), stamped (c .before .before .before), ← c .before .before .before .before .before .before .carried .ensures, sym (c .before .filled-to2 .ensures) ∙ not-true _ (c .if3 .taken))
+
+returns-4 : tie.Need-returns-4
+unfolding wellFormed
+returns-4 c = rw (held (c .before .before .before), ← c .before .before .before .before .before .before .before .before .before .carried .ensures, lt-leb _ _ (c .if4 .taken))
+
+bound-fits-requires : tie.Need-bound-fits-requires
+bound-fits-requires c κs = search needs
+
+returns-5 : tie.Need-returns-5
+unfolding wellFormed
+returns-5 c = rw (held (c .before .before .before .before .before), ← c .before .before .before .before .before .before .before .before .before .before .before .carried .ensures, le-leb _ _ (c .before .before .if4 .left)) (c .bound-fits .ensures)
+
+pub well-formed-spec : {M : Type 1} → statement M
+well-formed-spec =
+    tie.close
+    (tie.spec
+    direction-good-requires
+    returns
+    carried-requires
+    filled-to-requires
+    returns-2
+    filled-to-requires-2
+    returns-3
+    returns-4
+    bound-fits-requires
+    returns-5)

@@ -1,0 +1,101 @@
+// Bytes read into kind and fields: checks 8 and 9.
+
+use crate::Message;
+use crate::Parsed;
+use crate::Read;
+use crate::kind_of;
+use crate::refusal_of;
+use crate::well_formed;
+ghost use mathlib.Core.Path.{_≡_};
+ghost use Prim.Native.Nat.{_+_, _≤_};
+ghost use lib.ListN.{length, take, drop, getD};
+ghost use Rattle.message.specs.Message.{kindOf};
+ghost use Rattle.message.specs.Decode.{messageIn, checkGood, restZero, refused, parseKind};
+
+// Check 8: 64 bytes, and the checksum is right.
+pub(crate) fn check_good(bytes: &[u8]) -> bool
+    ensures { λ r. ⌜ r ≡ checkGood (now (bytes .entry)) ⌝ }
+{
+    if bytes.len() != 64 {
+        return false;
+    }
+    base::u16_at(bytes, 62) == checksum::sum(&bytes[0..62])
+}
+
+// Check 9, on the bytes and on the fields read from them.
+pub(crate) fn parse_kind(n: u8, sizes: [u8; 16], bytes: &[u8], m: Message) -> Parsed
+    ensures { λ r. ⌜ r ≡ parseKind n sizes (now (bytes .entry)) m (kindOf (getD (now (bytes .entry)) 0 0)) ⌝ }
+{
+    let answer = kind_of(base::byte_at(bytes, 0));
+    let Read::Good(kind) = answer else {
+        return refused(refusal_of(answer));
+    };
+    if !rest_zero(bytes) {
+        return refused(9);
+    }
+    if !well_formed(n, sizes, kind, m) {
+        return refused(9);
+    }
+    Parsed { answer, message: m }
+}
+
+// Whether bytes 3, 60 and 61 are zero.
+fn rest_zero(bytes: &[u8]) -> bool
+    ensures { λ r. ⌜ r ≡ restZero (now (bytes .entry)) ⌝ }
+{
+    if base::byte_at(bytes, 3) != 0 {
+        return false;
+    }
+    base::u16_at(bytes, 60) == 0
+}
+
+// A refusal: every field beside its number is zero.
+pub(crate) fn refused(r: u8) -> Parsed
+    ensures { λ p. ⌜ p ≡ refused r ⌝ }
+{
+    Parsed {
+        answer: Read::Refused(r),
+        message: Message {
+            sender: 0,
+            receiver: 0,
+            stamp: [0u8; 16],
+            values: [0u8; 16],
+            cost: 0,
+            bound: 0,
+            best: [0u8; 16],
+        },
+    }
+}
+
+// The fields of a message's bytes.
+pub(crate) fn message_in(bytes: &[u8]) -> Message
+    requires { ⌜ length (now bytes) ≡ 64 ⌝ }
+    ensures { λ r. ⌜ r ≡ messageIn (now (bytes .entry)) ⌝ }
+{
+    let stamp = bytes16(bytes, 4);
+    let values = bytes16(bytes, 20);
+    let best = bytes16(bytes, 44);
+    Message {
+        sender: base::byte_at(bytes, 1),
+        receiver: base::byte_at(bytes, 2),
+        stamp,
+        values,
+        cost: base::u32_at(bytes, 36),
+        bound: base::u32_at(bytes, 40),
+        best,
+    }
+}
+
+// 16 bytes from `at` on.
+fn bytes16(bytes: &[u8], at: usize) -> [u8; 16]
+    requires { ⌜ at + 16 ≤ length (now bytes) ⌝ }
+    ensures { λ r. ⌜ r ≡ take 16 (drop at (now (bytes .entry))) ⌝ }
+{
+    let mut r = [0u8; 16];
+    let mut i = 0;
+    while i < 16 {
+        r[i] = bytes[at + i];
+        i += 1;
+    }
+    r
+}

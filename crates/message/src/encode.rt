@@ -1,0 +1,93 @@
+// The 64 bytes of a message, laid into a lent buffer.
+
+use crate::Kind;
+use crate::Message;
+use crate::kind_code;
+ghost use mathlib.Core.Path.{_≡_};
+ghost use Prim.Native.Nat.{_+_, _≤_};
+ghost use mathlib.Core.List.{_++_, _∷_, []};
+ghost use lib.ListN.{length};
+ghost use Rattle.base.specs.Bytes.{le32};
+ghost use Rattle.message.specs.Encode.{body, encode, putAt, putRefusal, putInto};
+
+// The 64 bytes of a message laid at `at`, its fields unchecked; 0, or 13 where they don't fit.
+pub fn put(kind: Kind, m: Message, out: &mut [u8], at: usize) -> u8
+    ensures { λ r. ⌜ (r ≡ putRefusal (length (now (out .entry))) at) × (now (out .exit) ≡ putInto kind m (now (out .entry)) at) ⌝ }
+{
+    if out.len() < 64 {
+        return 13;
+    }
+    if out.len() - 64 < at {
+        return 13;
+    }
+    let bytes = encode(kind, m);
+    lay(&bytes, out, at);
+    0
+}
+
+// The 64 bytes.
+fn encode(kind: Kind, m: Message) -> [u8; 64]
+    ensures { λ r. ⌜ r ≡ encode kind m ⌝ }
+{
+    let mut r = body(kind, m);
+    let sum = checksum::sum(&r[0..62]);
+    r[62] = (sum % 256) as u8;
+    r[63] = (sum / 256 % 256) as u8;
+    r
+}
+
+// Bytes 0 to 61, and zeros for the checksum.
+fn body(kind: Kind, m: Message) -> [u8; 64]
+    ensures { λ r. ⌜ r ≡ body kind m ++ 0 ∷ 0 ∷ [] ⌝ }
+{
+    let mut r0 = [0u8; 64];
+    r0[0] = kind_code(kind);
+    r0[1] = m.sender;
+    r0[2] = m.receiver;
+    let stamp = m.stamp;
+    let r1 = with_places(r0, 4, stamp);
+    let values = m.values;
+    let r2 = with_places(r1, 20, values);
+    let r3 = with_number(r2, 36, m.cost);
+    let r4 = with_number(r3, 40, m.bound);
+    let best = m.best;
+    with_places(r4, 44, best)
+}
+
+// 16 places laid at `at`.
+fn with_places(r: [u8; 64], at: usize, places: [u8; 16]) -> [u8; 64]
+    requires { ⌜ at + 16 ≤ 64 ⌝ }
+    ensures { λ q. ⌜ q ≡ putAt r at places ⌝ }
+{
+    let mut q = r;
+    lay(&places, &mut q, at);
+    q
+}
+
+// A number laid at `at`, as four bytes.
+fn with_number(r: [u8; 64], at: usize, x: u32) -> [u8; 64]
+    requires { ⌜ at + 4 ≤ 64 ⌝ }
+    ensures { λ q. ⌜ q ≡ putAt r at (le32 x) ⌝ }
+{
+    let bytes = [
+        (x % 256) as u8,
+        (x / 256 % 256) as u8,
+        (x / 65536 % 256) as u8,
+        (x / 16777216 % 256) as u8,
+    ];
+    let mut q = r;
+    lay(&bytes, &mut q, at);
+    q
+}
+
+// Bytes laid at `at` of the lent ones.
+fn lay(bytes: &[u8], out: &mut [u8], at: usize)
+    requires { ⌜ at + length (now bytes) ≤ length (now out) ⌝ }
+    ensures { λ r. ⌜ now (out .exit) ≡ putAt (now (out .entry)) at (now (bytes .entry)) ⌝ }
+{
+    let mut i = 0;
+    while i < bytes.len() {
+        out[at + i] = bytes[i];
+        i += 1;
+    }
+}

@@ -1,0 +1,209 @@
+// Which fields go together: checks 10 and 9.
+
+use crate::Carried;
+use crate::Kind;
+use crate::Message;
+use crate::NONE;
+ghost use mathlib.Core.Path.{_≡_};
+ghost use Rattle.message.specs.Message.{prefixLimit, placeGood, filledTo, boundGood, noneOrBound, noBound, cpaCount, prefixOf, carriedOf, boundFits, beside, fromTo, directionGood, isUnit, addressGood, wellFormed};
+
+// The most that a bound or an estimate may be.
+const TOTAL_LIMIT: u32 = 7200000;
+
+// Check 10: sender and receiver are units.
+pub fn address_good(n: u8, m: Message) -> bool
+    ensures { λ r. ⌜ r ≡ addressGood n m ⌝ }
+{
+    if !is_unit(n, m.sender) {
+        return false;
+    }
+    is_unit(n, m.receiver)
+}
+
+// Whether i is 1 to n.
+pub fn is_unit(n: u8, i: u8) -> bool
+    ensures { λ r. ⌜ r ≡ isUnit n i ⌝ }
+{
+    if i < 1 {
+        return false;
+    }
+    i <= n
+}
+
+// Check 9: the fields go with the kind.
+pub fn well_formed(n: u8, sizes: [u8; 16], kind: Kind, m: Message) -> bool
+    ensures { λ r. ⌜ r ≡ wellFormed n sizes kind m ⌝ }
+{
+    if !direction_good(n, kind, m.sender, m.receiver) {
+        return false;
+    }
+    let most = carried(kind, m);
+    let stamp = m.stamp;
+    if !filled_to(most.stamps, sizes, stamp) {
+        return false;
+    }
+    let values = m.values;
+    if !filled_to(most.values, sizes, values) {
+        return false;
+    }
+    if most.cost < m.cost {
+        return false;
+    }
+    let best = m.best;
+    bound_fits(n, sizes, kind, m.bound, best)
+}
+
+// Who may send a message of this kind to whom.
+fn direction_good(n: u8, kind: Kind, sender: u8, receiver: u8) -> bool
+    ensures { λ r. ⌜ r ≡ directionGood n kind sender receiver ⌝ }
+{
+    match kind {
+        Kind::Cpa => beside(sender, receiver),
+        Kind::Request => sender < receiver,
+        Kind::Estimate => receiver < sender,
+        Kind::Solution => from_to(n, sender, receiver),
+        Kind::Stop => from_to(1, sender, receiver),
+    }
+}
+
+// One is the unit after the other.
+fn beside(sender: u8, receiver: u8) -> bool
+    ensures { λ r. ⌜ r ≡ beside sender receiver ⌝ }
+{
+    let s = sender as u32;
+    let r = receiver as u32;
+    if r == s + 1 {
+        return true;
+    }
+    s == r + 1
+}
+
+// From this unit to another.
+fn from_to(home: u8, sender: u8, receiver: u8) -> bool
+    ensures { λ r. ⌜ r ≡ fromTo home sender receiver ⌝ }
+{
+    if sender != home {
+        return false;
+    }
+    receiver != sender
+}
+
+// What a kind carries besides a bound.
+fn carried(kind: Kind, m: Message) -> Carried
+    ensures { λ r. ⌜ r ≡ carriedOf kind m ⌝ }
+{
+    match kind {
+        Kind::Cpa => prefix(cpa_count(m.sender, m.receiver)),
+        Kind::Request => prefix(m.sender),
+        Kind::Estimate => Carried {
+            stamps: m.receiver,
+            values: 0,
+            cost: TOTAL_LIMIT,
+        },
+        Kind::Solution => prefix(0),
+        Kind::Stop => prefix(0),
+    }
+}
+
+// Units 1 to k filled.
+fn prefix(k: u8) -> Carried
+    ensures { λ r. ⌜ r ≡ prefixOf k ⌝ }
+{
+    Carried {
+        stamps: k,
+        values: k,
+        cost: prefix_limit(k),
+    }
+}
+
+// How many units a cpa has filled, going down or back.
+fn cpa_count(sender: u8, receiver: u8) -> u8
+    ensures { λ r. ⌜ r ≡ cpaCount sender receiver ⌝ }
+{
+    if sender < receiver {
+        return receiver - 1;
+    }
+    receiver
+}
+
+// Whether units 1 to k of the 16 have one of their values, and the others 0.
+pub fn filled_to(k: u8, sizes: [u8; 16], places: [u8; 16]) -> bool
+    ensures { λ r. ⌜ r ≡ filledTo k sizes places ⌝ }
+{
+    let count = k as usize;
+    let mut i = 0;
+    while i < 16 {
+        if !place_good(i < count, sizes[i], places[i]) {
+            return false;
+        }
+        i += 1;
+    }
+    true
+}
+
+// A filled place holds 1 to d, another 0.
+fn place_good(filled: bool, d: u8, x: u8) -> bool
+    ensures { λ r. ⌜ r ≡ placeGood filled d x ⌝ }
+{
+    if !filled {
+        return x == 0;
+    }
+    if x < 1 {
+        return false;
+    }
+    x <= d
+}
+
+// The most that k filled units can cost.
+pub fn prefix_limit(k: u8) -> u32
+    ensures { λ r. ⌜ r ≡ prefixLimit k ⌝ }
+{
+    if k < 1 {
+        return 0;
+    }
+    let wide = k as u32;
+    30000 * wide * (wide - 1)
+}
+
+// Whether a kind may carry this bound and best assignment.
+fn bound_fits(n: u8, sizes: [u8; 16], kind: Kind, bound: u32, best: [u8; 16]) -> bool
+    ensures { λ r. ⌜ r ≡ boundFits n sizes kind bound best ⌝ }
+{
+    match kind {
+        Kind::Cpa => none_or_bound(n, sizes, bound, best),
+        Kind::Request => no_bound(sizes, bound, best),
+        Kind::Estimate => no_bound(sizes, bound, best),
+        Kind::Solution => bound_good(n, sizes, bound, best),
+        Kind::Stop => none_or_bound(n, sizes, bound, best),
+    }
+}
+
+// *None* with no assignment, or a bound with its full one.
+pub fn none_or_bound(n: u8, sizes: [u8; 16], bound: u32, best: [u8; 16]) -> bool
+    ensures { λ r. ⌜ r ≡ noneOrBound n sizes bound best ⌝ }
+{
+    if bound == NONE {
+        return filled_to(0, sizes, best);
+    }
+    bound_good(n, sizes, bound, best)
+}
+
+// A bound with its full assignment.
+pub fn bound_good(n: u8, sizes: [u8; 16], bound: u32, best: [u8; 16]) -> bool
+    ensures { λ r. ⌜ r ≡ boundGood n sizes bound best ⌝ }
+{
+    if TOTAL_LIMIT < bound {
+        return false;
+    }
+    filled_to(n, sizes, best)
+}
+
+// Bound and best both zero.
+fn no_bound(sizes: [u8; 16], bound: u32, best: [u8; 16]) -> bool
+    ensures { λ r. ⌜ r ≡ noBound sizes bound best ⌝ }
+{
+    if bound != 0 {
+        return false;
+    }
+    filled_to(0, sizes, best)
+}
