@@ -13,8 +13,8 @@ use Rattle.message.specs.declared.Message.{Message}
 use Rattle.message.specs.declared.Parsed.{Parsed as Reading}
 use Rattle.message.specs.declared.Read.{Read}
 use Rattle.message.specs.declared.Read.the-variants.{Good, Refused}
-use Rattle.message.specs.Message.{kindCode, refusalOf, addressGood}
-use Rattle.message.specs.Decode.{kindOf, writeRefusal, writeOf}
+use Rattle.message.specs.Message.{kindCode, kindOf, refusalOf, addressGood}
+use Rattle.message.specs.Decode.{writeRefusal, packetInto}
 use Rattle.unit.specs.declared.Outcome.{Outcome}
 use Rattle.unit.specs.declared.Report.{Report}
 use Rattle.unit.specs.declared.Unit.{Unit}
@@ -60,7 +60,7 @@ writeAs (Good k) n sizes m room = writeRefusal n sizes k m room
 writeAs (Refused r) n sizes m room = unknownKind n sizes m
 
 abbrev pub writtenAs : Read → ℕ → List ℕ → Message → List ℕ → List ℕ
-writtenAs (Good k) n sizes m out = writeOf n sizes k m out
+writtenAs (Good k) n sizes m out = packetInto n sizes k m out
 writtenAs (Refused r) n sizes m out = out
 
 unfoldable pub writeByCode : ℕ → List ℕ → ℕ → Message → ℕ → ℕ
@@ -116,7 +116,7 @@ module _ (n : ℕ) (sizes : List ℕ) (code : ℕ) (m : Message) where
   unfolding writeByCode
   write-known k room e = rw e
 
-  pub written-known : (k : Kind) (out : List ℕ) → kindOf code ≡ Good k → writtenByCode n sizes code m out ≡ writeOf n sizes k m out
+  pub written-known : (k : Kind) (out : List ℕ) → kindOf code ≡ Good k → writtenByCode n sizes code m out ≡ packetInto n sizes k m out
   unfolding writtenByCode
   written-known k out e = rw e
 

@@ -3,7 +3,6 @@
 
 mod lent; // a state and a network as C lends them
 
-use message::Kind;
 use message::Message;
 use message::Read;
 use network::Answer;
@@ -19,7 +18,7 @@ ghost use Rattle.checksum.specs.Sum.{sumOf};
 ghost use Rattle.table.specs.Block.{blockRefusal};
 ghost use Rattle.table.specs.File.{readOf, readInto, writeOf, writeInto};
 ghost use Rattle.costs.specs.Gather.{sizesIn, gatherCount, gatherInto};
-ghost use Rattle.message.specs.Decode.{parseFor, kindOf};
+ghost use Rattle.message.specs.Decode.{parseOf};
 ghost use Rattle.unit.specs.State.{noUnit};
 ghost use Rattle.unit.specs.Calls.{outcomeOf, bytesOf, makeOut};
 ghost use Rattle.network.specs.Calls.{makeOf};
@@ -160,7 +159,7 @@ pub extern "C" fn riksamoe_costs(stream: &[u8], own: u8, out: &mut [u8]) -> usiz
 
 #[no_mangle]
 pub extern "C" fn riksamoe_message_parse(n: u8, sizes: Sizes, bytes: &[u8]) -> Parsed
-    ensures { λ r. ⌜ r ≡ parsedOf (parseFor n (sizes .places) 0 (now (bytes .entry))) ⌝ }
+    ensures { λ r. ⌜ r ≡ parsedOf (parseOf n (sizes .places) (now (bytes .entry))) ⌝ }
 {
     let places = sizes.places;
     let p = message::parse(n, places, bytes);
@@ -185,7 +184,7 @@ pub extern "C" fn riksamoe_message_write(
     ensures { λ r. ⌜ (r ≡ writeByCode n (sizes .places) kind m (length (now (out .entry)))) × (now (out .exit) ≡ writtenByCode n (sizes .places) kind m (now (out .entry))) ⌝ }
 {
     let places = sizes.places;
-    let answer = kind_of(kind);
+    let answer = message::kind_of(kind);
     let Read::Good(known) = answer else {
         return unknown_kind(n, places, m);
     };
@@ -299,28 +298,8 @@ fn code_of(r: Read) -> u8
     ensures { λ x. ⌜ x ≡ codeOf r ⌝ }
 {
     match r {
-        Read::Good(kind) => match kind {
-            Kind::Cpa => 1,
-            Kind::Request => 2,
-            Kind::Estimate => 3,
-            Kind::Solution => 4,
-            Kind::Stop => 5,
-        },
+        Read::Good(kind) => message::kind_code(kind),
         Read::Refused(_) => 0,
-    }
-}
-
-// The kind of a number.
-fn kind_of(code: u8) -> Read
-    ensures { λ r. ⌜ r ≡ kindOf code ⌝ }
-{
-    match code {
-        1 => Read::Good(Kind::Cpa),
-        2 => Read::Good(Kind::Request),
-        3 => Read::Good(Kind::Estimate),
-        4 => Read::Good(Kind::Solution),
-        5 => Read::Good(Kind::Stop),
-        _ => Read::Refused(9),
     }
 }
 

@@ -1,7 +1,14 @@
 // Reads the packets of data/packets for 4 units of 2, 3, 4 and 5 values, and says of each what reading it gives. A record of the
-// file has 96 bytes: 31 of name, a unit number (0: for any receiver), and the 64 bytes of a message. The last is a byte short.
+// file has 96 bytes: 31 of name, a unit number (0: read by no unit, for any receiver), and the 64 bytes of a message. The last is a
+// byte short. A message that is read is written again: into 65 bytes, for 3 units, into 63 bytes, and for no unit.
 use libc::STDOUT_FILENO;
+use message::Kind;
+use message::Message;
+use message::Parsed;
 use message::Read;
+
+// 4 units' domain sizes.
+const SIZES: [u8; 16] = [2, 3, 4, 5, 0, 0, 0, 0, 0, 0, 0, 0, 0, 0, 0, 0];
 
 fn main() {
     let mut file = [0u8; 16384];
@@ -39,10 +46,9 @@ fn show(records: &[u8]) {
     say(own, &records[32..96]);
 }
 
-// What reading a packet gives, for unit `own` or for any.
+// What reading a packet gives, and what writing it again does.
 fn say(own: u8, packet: &[u8]) {
-    let sizes = [2u8, 3, 4, 5, 0, 0, 0, 0, 0, 0, 0, 0, 0, 0, 0, 0];
-    let p = message::parse_for(4, sizes, own, packet);
+    let p = parse(own, packet);
     let answer = p.answer;
     let Read::Good(kind) = answer else {
         print::print_refusal(message::refusal_of(answer));
@@ -51,4 +57,69 @@ fn say(own: u8, packet: &[u8]) {
     io::write_all(STDOUT_FILENO, b" ");
     let m = p.message;
     print::print_message(kind, m);
+    again(kind, m, packet);
+}
+
+// Read by unit `own`, or for any receiver.
+fn parse(own: u8, packet: &[u8]) -> Parsed {
+    let sizes = SIZES;
+    if own == 0 {
+        return message::parse(4, sizes, packet);
+    }
+    message::parse_for(4, sizes, own, packet)
+}
+
+// The message written again.
+fn again(kind: Kind, m: Message, packet: &[u8]) {
+    io::write_all(STDOUT_FILENO, b"  written");
+    write(4, kind, m, packet);
+    io::write_all(STDOUT_FILENO, b"; for 3 units");
+    write(3, kind, m, packet);
+    io::write_all(STDOUT_FILENO, b"; for none");
+    write(0, kind, m, packet);
+    io::write_all(STDOUT_FILENO, b"; into 63 bytes");
+    let sizes = SIZES;
+    let mut short = [255u8; 63];
+    outcome(
+        message::write(4, sizes, kind, m, &mut short),
+        &short,
+        packet,
+    );
+    io::write_all(STDOUT_FILENO, b"\n");
+}
+
+// The same for n units, into 65 bytes of 255.
+fn write(n: u8, kind: Kind, m: Message, packet: &[u8]) {
+    let sizes = SIZES;
+    let mut out = [255u8; 65];
+    outcome(message::write(n, sizes, kind, m, &mut out), &out, packet);
+}
+
+// What writing gave, and whether the output is then the packet and a byte of 255.
+fn outcome(refusal: u8, out: &[u8], packet: &[u8]) {
+    if refusal != 0 {
+        io::write_all(STDOUT_FILENO, b" refused ");
+        io::print_decimal(STDOUT_FILENO, refusal as u64);
+        return;
+    }
+    if same(packet, out) {
+        io::write_all(STDOUT_FILENO, b" the same");
+        return;
+    }
+    io::write_all(STDOUT_FILENO, b" otherwise");
+}
+
+// Whether `out` is the packet and a byte of 255.
+fn same(packet: &[u8], out: &[u8]) -> bool {
+    if out.len() != packet.len() + 1 {
+        return false;
+    }
+    let mut i = 0;
+    while i < packet.len() {
+        if out[i] != packet[i] {
+            return false;
+        }
+        i += 1;
+    }
+    out[i] == 255
 }

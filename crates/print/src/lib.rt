@@ -1,40 +1,88 @@
-// Messages and their parts as the sample programs print them, in 01's words.
+// Messages and their parts as the sample programs print them, in 01's words. What is printed no contract can say; each call gives back
+// what it was handed to print.
 use libc::STDOUT_FILENO;
 use message::Kind;
 use message::Message;
+ghost use mathlib.Core.Path.{_≡_};
 
-// A message's kind, sender, receiver and cpa; ends the line.
-pub fn print_message(kind: Kind, m: Message) {
+// A message's kind, sender, receiver and fields; ends the line.
+pub fn print_message(kind: Kind, m: Message) -> Message
+    ensures { λ r. ⌜ r ≡ m ⌝ }
+{
     print_kind(kind);
     io::print_decimal(STDOUT_FILENO, m.sender as u64);
     io::write_all(STDOUT_FILENO, b" to ");
     io::print_decimal(STDOUT_FILENO, m.receiver as u64);
-    let stamp = m.stamp;
-    let values = m.values;
-    let best = m.best;
-    print_cpa(stamp, values, m.cost, m.bound, best);
+    print_fields(m)
 }
 
-// A cpa with a bound and the best assignment; ends the line.
-pub fn print_cpa(stamp: [u8; 16], values: [u8; 16], cost: u32, bound: u32, best: [u8; 16]) {
+// Stamp, values and cost, a bound and the best assignment; ends the line.
+pub fn print_fields(m: Message) -> Message
+    ensures { λ r. ⌜ r ≡ m ⌝ }
+{
     io::write_all(STDOUT_FILENO, b" stamp");
+    let stamp = m.stamp;
     print_bytes(stamp);
     io::write_all(STDOUT_FILENO, b" values");
+    let values = m.values;
     print_bytes(values);
     io::write_all(STDOUT_FILENO, b" cost ");
-    io::print_decimal(STDOUT_FILENO, cost as u64);
+    io::print_decimal(STDOUT_FILENO, m.cost as u64);
     io::write_all(STDOUT_FILENO, b" bound ");
-    io::print_decimal(STDOUT_FILENO, bound as u64);
+    io::print_decimal(STDOUT_FILENO, m.bound as u64);
     io::write_all(STDOUT_FILENO, b" best");
+    let best = m.best;
     print_bytes(best);
     io::write_all(STDOUT_FILENO, b"\n");
+    m
 }
 
 // A refusal's number; ends the line.
-pub fn print_refusal(number: u8) {
+pub fn print_refusal(number: u8) -> u8
+    ensures { λ r. ⌜ r ≡ number ⌝ }
+{
     io::write_all(STDOUT_FILENO, b" refused ");
     io::print_decimal(STDOUT_FILENO, number as u64);
     io::write_all(STDOUT_FILENO, b"\n");
+    number
+}
+
+// 16 bytes, each after a space.
+pub fn print_bytes(l: [u8; 16]) -> [u8; 16]
+    ensures { λ r. ⌜ r ≡ l ⌝ }
+{
+    let words = [
+        wide(l[0]),
+        wide(l[1]),
+        wide(l[2]),
+        wide(l[3]),
+        wide(l[4]),
+        wide(l[5]),
+        wide(l[6]),
+        wide(l[7]),
+        wide(l[8]),
+        wide(l[9]),
+        wide(l[10]),
+        wide(l[11]),
+        wide(l[12]),
+        wide(l[13]),
+        wide(l[14]),
+        wide(l[15]),
+    ];
+    print_words(words);
+    l
+}
+
+// 16 numbers, each after a space.
+pub fn print_words(l: [u32; 16]) -> [u32; 16]
+    ensures { λ r. ⌜ r ≡ l ⌝ }
+{
+    let mut i = 0;
+    while i < 16 {
+        print_place(l[i]);
+        i += 1;
+    }
+    l
 }
 
 // 01's word for a kind.
@@ -55,38 +103,6 @@ fn print_kind(kind: Kind) {
         Kind::Stop => {
             io::write_all(STDOUT_FILENO, b"stop ");
         }
-    }
-}
-
-// 16 bytes, each after a space.
-pub fn print_bytes(l: [u8; 16]) {
-    let words = [
-        wide(l[0]),
-        wide(l[1]),
-        wide(l[2]),
-        wide(l[3]),
-        wide(l[4]),
-        wide(l[5]),
-        wide(l[6]),
-        wide(l[7]),
-        wide(l[8]),
-        wide(l[9]),
-        wide(l[10]),
-        wide(l[11]),
-        wide(l[12]),
-        wide(l[13]),
-        wide(l[14]),
-        wide(l[15]),
-    ];
-    print_words(words);
-}
-
-// 16 numbers, each after a space.
-pub fn print_words(l: [u32; 16]) {
-    let mut i = 0;
-    while i < 16 {
-        print_place(l[i]);
-        i += 1;
     }
 }
 

@@ -15,8 +15,8 @@ use Rattle.message.specs.declared.Parsed.{Parsed}
 use Rattle.message.specs.declared.Kind.{Kind}
 use Rattle.message.specs.declared.Read.the-variants.{Good, Refused}
 use Rattle.message.specs.Message.{Sized, isUnit, refusalOf}
-use Rattle.message.specs.Decode.{messageIn, forUnit, parseFor}
-use Rattle.message.specs.RoundTrip as trip
+use Rattle.message.specs.Decode.{messageIn, parseFor}
+use Rattle.message.specs.RoundTrip.{ParsedGood, parsed-good}
 use Rattle.unit.specs.declared.Unit.{Unit}
 use Rattle.unit.specs.declared.Decided.{Decided}
 use Rattle.unit.specs.declared.Outcome.{Outcome}
@@ -166,17 +166,14 @@ module _ (u : Unit) (own n : ℕ) (sizes costs out : List ℕ) (q : Passed u own
   step-room = room-of own n sizes out (q .shape) (q .unit) (q .fits)
 
   module _ (long : n ≤ length sizes) (bytes : List ℕ) (p : Parsed) (read : p ≡ parseFor n sizes own bytes) (k : Kind) (good : p .answer ≡ Good k) where
-    known : trip.Accepted n sizes own bytes k
-    known = trip.accepted n sizes own bytes k (ap (λ (x : Parsed). x .answer) (sym read) ∙ good)
+    known : ParsedGood n sizes own bytes k
+    known = parsed-good n sizes own bytes k (ap (λ (x : Parsed). x .answer) (sym read) ∙ good)
 
     fields : p .message ≡ messageIn bytes
     fields = ap (λ (x : Parsed). x .message) (read ∙ known .whole)
 
     to-own : p .message .receiver ≡ own
-    unfolding forUnit
-    to-own =
-        let z : eqb own 0 ≡ false = ne-eqb own 0 (λ x. omega (arith, unit-range n own (q .unit) .0)) in
-        rw fields (eqb-true (messageIn bytes .receiver) own (rw z at (known .receiver)))
+    to-own = rw fields (known .receiver)
 
     pub step-asks : Shaped own n sizes × Ready own u × Heard own (p .message)
     step-asks = (

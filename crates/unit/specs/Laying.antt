@@ -16,7 +16,8 @@ use Rattle.message.specs.declared.Message.{Message}
 use Rattle.message.specs.declared.Kind.{Kind}
 use Rattle.message.specs.declared.Kind.the-variants.{Cpa, Request, Estimate, Solution, Stop}
 use Rattle.message.specs.Message.{Packet, Sized}
-use Rattle.message.specs.Encode.{encode, putAt, putOf, length-encode, put-fits}
+use Rattle.message.specs.Encode.{encode, putAt, putInto}
+use Rattle.message.specs.EncodeLaws.{length-encode, put-fits}
 use Rattle.unit.specs.State.{zeros}
 use Rattle.unit.specs.declared.Sending.{Sending}
 use Rattle.unit.specs.declared.Plan.{Plan}
@@ -112,7 +113,7 @@ spread-none k m l lo sent = paste-zero l (64 * sent) []
 
 -- the next of several messages is put behind those put
 pub spread-more : (k : Kind) (m : Message) → Sized m → (l r : List ℕ) (lo sent i : ℕ) → r ≡ putAt l (64 * sent) (encodeAll (each (addressed k m) lo i)) → length r ≡ length l → 64 * (sent + (i + 1)) ≤ length l
-    → putOf k (withReceiver (lo + i + 1) m) r (64 * (sent + i)) ≡ putAt l (64 * sent) (encodeAll (each (addressed k m) lo (i + 1)))
+    → putInto k (withReceiver (lo + i + 1) m) r (64 * (sent + i)) ≡ putAt l (64 * sent) (encodeAll (each (addressed k m) lo (i + 1)))
 unfolding encodeAll
 spread-more k m z l r lo sent i e len h =
     let g : ℕ → Packet = addressed k m in
@@ -121,7 +122,7 @@ spread-more k m z l r lo sent i e len h =
     let one : encodeAll (g (lo + i) ∷ []) ≡ encode k (withReceiver (lo + i + 1) m) = rw add-one (append-nil (encode k (withReceiver (suc (lo + i)) m))) in
     let b : encodeAll (each g lo (i + 1)) ≡ encodeAll (each g lo i) ++ encode k (withReceiver (lo + i + 1) m) =
     ap (λ (c : ℕ). encodeAll (each g lo c)) (add-one i) ∙ ap encodeAll (each-more g lo i) ∙ encode-append (each g lo i) (g (lo + i) ∷ []) ∙ ap (λ (x : List ℕ). encodeAll (each g lo i) ++ x) one in
-    rw (put-fits k (withReceiver (lo + i + 1) m) r (64 * (sent + i)) (omega (arith, len, h)), e, at, b)
+    rw (put-fits k (withReceiver (lo + i + 1) m) r (64 * (sent + i)) (omega (arith, len, h)) .1, e, at, b)
     (put-more l (encodeAll (each g lo i)) (encode k (withReceiver (lo + i + 1) m)) (64 * sent) (64 * i) w (omega arith))
 
 -- several messages put behind those laid
@@ -206,9 +207,9 @@ pub back-quiet : (n k : ℕ) (m : Message) (b : Bool) (r : ℕ) (l t : List ℕ)
     → (r ≡ length (byPlan n k Back b m)) × (t ≡ laid (byPlan n k Back b m) l)
 back-quiet n k m b r l t e h = rw (e, append-nil (handBack n k m)) h
 
-pub reply-laid : (m : Message) (l : List ℕ) → Sized m → 64 ≤ length l → putOf Estimate m l 0 ≡ laid (packet Estimate m ∷ []) l
+pub reply-laid : (m : Message) (l : List ℕ) → Sized m → 64 ≤ length l → putInto Estimate m l 0 ≡ laid (packet Estimate m ∷ []) l
 unfolding encodeAll
-reply-laid m l z h = put-fits Estimate m l 0 h ∙ rw (← append-nil (encode Estimate m)) (laid-first (packet Estimate m ∷ []) l (wide-one Estimate m z))
+reply-laid m l z h = put-fits Estimate m l 0 h .1 ∙ rw (← append-nil (encode Estimate m)) (laid-first (packet Estimate m ∷ []) l (wide-one Estimate m z))
 
 -- what is sent goes by the plan
 pub sent-by : (n k : ℕ) (s : Sending) (p : Plan) (r : ℕ) (l t : List ℕ) → s .plan ≡ p → (r ≡ length (byPlan n k p (s .improved) (s .message))) × (t ≡ laid (byPlan n k p (s .improved) (s .message)) l)

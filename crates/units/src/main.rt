@@ -5,6 +5,7 @@
 // Each step goes on from the state that the record before left. What is sent is printed, and goes to no unit.
 ghost use Prim.Native.Nat.{_+_, _<_};
 use libc::STDOUT_FILENO;
+use message::Message;
 use message::Read;
 use unit::Outcome;
 use unit::Unit;
@@ -124,7 +125,16 @@ fn state(u: Unit) {
     let stamp = u.stamp;
     let values = u.values;
     let best = u.best;
-    print::print_cpa(stamp, values, u.cost, u.bound, best);
+    let m = Message {
+        sender: 0,
+        receiver: 0,
+        stamp,
+        values,
+        cost: u.cost,
+        bound: u.bound,
+        best,
+    };
+    print::print_fields(m);
 }
 
 // The messages at the front of the output.

@@ -12,7 +12,8 @@ use lib.ListN.{length, take, drop, take-append-drop, length-append, length-drop}
 use lib.Seq.{take-at, drop-at}
 use Rattle.base.specs.Limits.{poolCells}
 use Rattle.message.specs.Message.{Packet, Sized}
-use Rattle.message.specs.Encode.{encode, length-encode}
+use Rattle.message.specs.Encode.{encode}
+use Rattle.message.specs.EncodeLaws.{length-encode}
 use Rattle.unit.specs.Send.{encodeAll, laid}
 use Rattle.unit.specs.Laying.{encode-append}
 use Rattle.protocol.specs.Lists.{In, here, there, in-left, in-right, Every, every-append}

@@ -17,9 +17,9 @@ use Rattle.message.specs.declared.Read.{Read}
 use Rattle.message.specs.declared.Read.the-variants.{Good, Refused}
 use Rattle.message.specs.Message.{Packet, isUnit}
 use Rattle.message.specs.Encode.{encode}
-use Rattle.message.specs.Decode.{messageIn, forUnit, parseFor, check-length}
-use Rattle.message.specs.RoundTrip.{AllBytes, sized-in, parse-encode}
-use Rattle.message.specs.RoundTrip as trip
+use Rattle.message.specs.Decode.{messageIn, parseFor}
+use Rattle.message.specs.DecodeLaws.{check-length}
+use Rattle.message.specs.RoundTrip.{AllBytes, sized-in, parse-encode, parsed-good}
 use Rattle.unit.specs.declared.Unit.{Unit as State}
 use Rattle.unit.specs.State.{inRange}
 use Rattle.unit.specs.Step.{Out, refused, respond}
@@ -111,17 +111,13 @@ module _ (own n : ℕ) (sizes costs : List ℕ) (room : ℕ) (long : n ≤ lengt
   -- ---- a step
 
   module _ (u : State) (arrays : SizedUnit u) (bytes : List ℕ) (all : AllBytes bytes) where
-    receiver-is : isUnit n own ≡ true → (m : Message) → forUnit own m ≡ true → m .receiver ≡ suc (view .place)
-    unfolding forUnit
-    receiver-is i m e =
-        let z : eqb own 0 ≡ false = ne-eqb own 0 (λ q. omega (arith, unit-range n own i .0)) in
-        let r : m .receiver ≡ own = eqb-true (m .receiver) own (rw z at e) in
-        omega (arith, unit-range n own i .0, place-is)
+    receiver-is : isUnit n own ≡ true → (m : Message) → m .receiver ≡ own → m .receiver ≡ suc (view .place)
+    receiver-is i m e = omega (arith, unit-range n own i .0, place-is)
 
     read-kept : Passed u own n sizes costs room → (a : Read) → parseFor n sizes own bytes .answer ≡ a → Whenever (Kept n sizes view 16) (onRead view u a (parseFor n sizes own bytes .message))
     read-kept p (Refused r) e = tt
     read-kept p (Good k) e =
-        let a = trip.accepted n sizes own bytes k e in
+        let a = parsed-good n sizes own bytes k e in
         let m : Message = messageIn bytes in
         subst (λ (x : Message). Whenever (Kept n sizes view 16) (respond view k u x)) (sym (ap (λ (x : Parsed). x .message) (a .whole)))
         (respond-kept n sizes view (lent-good own n sizes costs (p .shape) long (p .unit) (p .lent)) k u m (p .state) arrays

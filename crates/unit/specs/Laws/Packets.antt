@@ -10,7 +10,7 @@ use borrow.Author.Tests.{lt-ltb, le-ltb, eq-eqb, ne-eqb}
 use Rattle.message.specs.declared.Message.{Message}
 use Rattle.message.specs.declared.Kind.{Kind}
 use Rattle.message.specs.declared.Kind.the-variants.{Cpa, Request, Estimate, Solution, Stop}
-use Rattle.message.specs.Message.{Packet, Sized, prefixLimit, filledTo, boundGood, noneOrBound, cpaCount, stampCount, valueCount, boundFits, directionGood, addressGood, wellFormed}
+use Rattle.message.specs.Message.{Packet, Sized, prefixLimit, filledTo, boundGood, noneOrBound, cpaCount, carriedOf, boundFits, directionGood, addressGood, wellFormed}
 use Rattle.message.specs.Laws.{blank-filled, no-bound-by, address-by, formed-by}
 use Rattle.unit.specs.declared.Plan.the-variants.{Forward, Back, Reply}
 use Rattle.unit.specs.State.{zeros}
@@ -90,7 +90,7 @@ module _ (n : ℕ) (sizes : List ℕ) (k c : ℕ) (m : Message) (k<n : k < n) (h
       }
 
   -- a stop or a solution to another unit
-  bound-sendable : (t : Kind) (j : ℕ) → j < n → directionGood n t (suc k) (suc j) ≡ true → stampCount t (boundTo t m j .message) ≡ 0 → valueCount t (boundTo t m j .message) ≡ 0
+  bound-sendable : (t : Kind) (j : ℕ) → j < n → directionGood n t (suc k) (suc j) ≡ true → carriedOf t (boundTo t m j .message) .stamps ≡ 0 → carriedOf t (boundTo t m j .message) .values ≡ 0
       → boundFits n sizes t (m .bound) (m .best) ≡ true → Sendable n sizes (boundTo t m j)
   bound-sendable t j l d e f b =
       record {

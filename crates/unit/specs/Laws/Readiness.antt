@@ -13,7 +13,7 @@ use Rattle.costs.specs.Instance.{lentView}
 use Rattle.message.specs.declared.Message.{Message}
 use Rattle.message.specs.declared.Kind.{Kind}
 use Rattle.message.specs.declared.Kind.the-variants.{Cpa, Request, Estimate, Solution, Stop}
-use Rattle.message.specs.Message.{cpaCount, stampCount, valueCount, isUnit, addressGood, wellFormed}
+use Rattle.message.specs.Message.{cpaCount, carriedOf, isUnit, addressGood, wellFormed}
 use Rattle.message.specs.Laws.{filled-past, Addressed, addressed, formed}
 use Rattle.unit.specs.declared.Unit.{Unit}
 use Rattle.unit.specs.State.{fresh, zeros, ownValue, inRange}
@@ -63,7 +63,7 @@ module _ (own n : ℕ) (sizes : List ℕ) (m : Message) (to : m .receiver ≡ ow
   cpa-down : m .sender < own → cpaCount (m .sender) (m .receiver) ≡ own - 1
   cpa-down l = simp (lt-ltb (m .sender) (m .receiver) (omega arith)) (ap (λ (k : ℕ). k - 1) to)
 
-  stamps-most : (k : Kind) → stampCount k m ≤ n
+  stamps-most : (k : Kind) → carriedOf k m .stamps ≤ n
   stamps-most Cpa = omega (arith, cpa-most, a .toMost)
   stamps-most Request = a .fromMost
   stamps-most Estimate = a .toMost
@@ -71,7 +71,7 @@ module _ (own n : ℕ) (sizes : List ℕ) (m : Message) (to : m .receiver ≡ ow
   stamps-most Stop = omega arith
 
   -- from a lower unit, no value of this one
-  values-before : (k : Kind) → m .sender < own → valueCount k m ≤ own - 1
+  values-before : (k : Kind) → m .sender < own → carriedOf k m .values ≤ own - 1
   values-before Cpa l = omega (arith, cpa-down l)
   values-before Request l = omega arith
   values-before Estimate l = omega arith
@@ -86,6 +86,6 @@ heard-of own n sizes k m s long e to w =
     let b = shape-n n sizes s .1 in
     record {
       sender = record { first = a .from; last = omega arith };
-      stamp = omega (arith, filled-most n (stampCount k m) sizes (m .stamp) (stamps-most own n sizes m to a k) (λ j l. shape-size n sizes s long j l .1) (f .stamps) (own - 1) (omega arith));
-      bare = λ l. filled-past (valueCount k m) sizes (m .values) (f .values) (own - 1) (values-before own n sizes m to a k l) (omega arith);
+      stamp = omega (arith, filled-most n (carriedOf k m .stamps) sizes (m .stamp) (stamps-most own n sizes m to a k) (λ j l. shape-size n sizes s long j l .1) (f .stamps) (own - 1) (omega arith));
+      bare = λ l. filled-past (carriedOf k m .values) sizes (m .values) (f .values) (own - 1) (values-before own n sizes m to a k l) (omega arith);
     }

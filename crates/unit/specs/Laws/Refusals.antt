@@ -15,8 +15,8 @@ use Rattle.message.specs.declared.Kind.the-variants.{Cpa, Request, Estimate, So
 use Rattle.message.specs.declared.Parsed.{Parsed}
 use Rattle.message.specs.declared.Read.{Read}
 use Rattle.message.specs.declared.Read.the-variants.{Good, Refused}
-use Rattle.message.specs.Message.{addressGood, wellFormed}
-use Rattle.message.specs.Decode.{messageIn, kindOf, checkGood, restZero, forUnit, parseKind, parseFor}
+use Rattle.message.specs.Message.{kindOf, wellFormed}
+use Rattle.message.specs.Decode.{messageIn, checkGood, restZero, addressedTo, parseKind, parseFor}
 use Rattle.unit.specs.declared.Unit.{Unit as State}
 use Rattle.unit.specs.declared.Order.{Order}
 use Rattle.unit.specs.declared.Order.the-variants.{Smaller, Equal, Bigger}
@@ -169,7 +169,7 @@ unfolding parseFor
 parse-numbered n sizes own s =
     either NumberedParse (not (shapeGood n sizes)) _ _ (omega arith)
     (either NumberedParse (not (checkGood s)) _ _ (omega arith)
-    (either NumberedParse (not (addressGood n (messageIn s) && forUnit own (messageIn s))) _ _ (omega arith)
+    (either NumberedParse (not (addressedTo n own (messageIn s))) _ _ (omega arith)
     (parsed-kind n sizes s (messageIn s) (kindOf (getD s 0 0)) (kind-read (getD s 0 0)))))
 
 -- ---- both

@@ -53,7 +53,7 @@ returns-4 : tie.Need-returns-4
 returns-4 c =
     let a = c .before .before .before .before .before .before .before .before .args in
     let z : Sized (a .s .message) = record { stamp = search needs; values = search needs; best = search needs; cost = search needs; bound = search needs } in
-    sent-by (a .n) (a .own - 1) (a .s) Reply _ (a .out .now) _ (c .before .before .before .before .enum-told4 .given .1) (refl, c .before .before .put .ensures ∙ reply-laid (a .s .message) (a .out .now) z (omega arith))
+    sent-by (a .n) (a .own - 1) (a .s) Reply _ (a .out .now) _ (c .before .before .before .before .enum-told4 .given .1) (refl, c .before .before .put .ensures .1 ∙ reply-laid (a .s .message) (a .out .now) z (omega arith))
 
 pub send-spec : {M : Type 1} → statement M
 send-spec =

@@ -53,7 +53,7 @@ loop-again c =
     let a = c .before .before .before .before .before .before .before .before .args in
     let l = c .before .before .before .before .before .before .loop in
     let z : Sized (a .m) = record { stamp = search needs; values = search needs; best = search needs; cost = search needs; bound = search needs } in
-    (omega arith, search needs, c .before .before .put .ensures ∙ rw (c .before .before .before .before .address .ensures) (spread-more (a .kind) (a .m) z (a .out .now) (l .out) (a .lo) (a .sent) (l .i) (l .inv .2) (l .inv .1) (omega arith)))
+    (omega arith, search needs, c .before .before .put .ensures .1 ∙ rw (c .before .before .before .before .address .ensures) (spread-more (a .kind) (a .m) z (a .out .now) (l .out) (a .lo) (a .sent) (l .i) (l .inv .2) (l .inv .1) (omega arith)))
 
 add-result : tie.Need-add-result Inv-loop μ-loop
 add-result c = search needs
