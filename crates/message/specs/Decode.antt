@@ -7,6 +7,8 @@ use mathlib.Core.List.{List}
 use lib.Dec.{eqb}
 use lib.ListN.{length, take, drop, getD}
 use Rattle.base.specs.Bytes.{u16At, u32At}
+use Rattle.base.specs.Limits.{places, messageSize}
+use Rattle.base.specs.Put.{putAt}
 use Rattle.base.specs.Shape.{shapeGood}
 use Rattle.checksum.specs.Sum.{sumOf}
 use Rattle.message.specs.declared.Kind.{Kind}
@@ -15,23 +17,23 @@ use Rattle.message.specs.declared.Read.the-variants.{Good, Refused}
 use Rattle.message.specs.declared.Message.{Message}
 use Rattle.message.specs.declared.Parsed.{Parsed}
 use Rattle.message.specs.Message.{kindOf, noMessage, addressGood, wellFormed}
-use Rattle.message.specs.Encode.{encode, putAt, putRefusal}
+use Rattle.message.specs.Encode.{encode, putRefusal}
 
 -- the fields of 64 bytes
 unfoldable pub messageIn : List ℕ → Message
 messageIn s = record {
   sender = getD s 1 0;
   receiver = getD s 2 0;
-  stamp = take 16 (drop 4 s);
-  values = take 16 (drop 20 s);
+  stamp = take places (drop 4 s);
+  values = take places (drop 20 s);
   cost = u32At s 36;
   bound = u32At s 40;
-  best = take 16 (drop 44 s);
+  best = take places (drop 44 s);
 }
 
 -- 01, refusal 8: "message not 64 bytes, or check wrong"
 unfoldable pub checkGood : List ℕ → Bool
-checkGood s = eqb (length s) 64 && eqb (u16At s 62) (sumOf (take 62 s))
+checkGood s = eqb (length s) messageSize && eqb (u16At s 62) (sumOf (take 62 s))
 
 -- 01: "3 zero", "60-61 zero"
 unfoldable pub restZero : List ℕ → Bool

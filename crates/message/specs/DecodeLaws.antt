@@ -1,36 +1,30 @@
 -- Laws of reading and writing: what each check, in 01's order, makes of the answer, where those before it held.
 -- By the definitions, test by test. Assumes nothing.
-use Prim.Native.Nat.{ℕ, suc, _+_, _<_}
-use mathlib.Core.Path.{_≡_, refl, sym, ap, _∙_}
+use Prim.Native.Nat.{ℕ, _+_, _<_}
+use mathlib.Core.Path.{_≡_, refl, sym, _∙_}
 use mathlib.Core.Bool.{Bool, true, false}
-use mathlib.Core.List.{List, _++_, append-assoc}
+use mathlib.Core.List.{List}
 use native.Mathlib.Omega.{arith}
-use native.Mathlib.Numerals.{add-one}
 use borrow.Author.Tests.{eqb-true, ne-eqb}
 use lib.Dec.{leb}
-use lib.ListN.{length, take, drop, getD, set}
-use lib.Seq.{drop-cons, take-suc, set-at, length-take-le}
+use lib.ListN.{length, getD}
+use Rattle.base.specs.Limits.{messageSize}
+use Rattle.base.specs.Put.{putAt}
 use Rattle.base.specs.Shape.{shapeGood, and-left}
 use Rattle.message.specs.declared.Kind.{Kind}
 use Rattle.message.specs.declared.Read.{Read}
 use Rattle.message.specs.declared.Read.the-variants.{Good, Refused}
 use Rattle.message.specs.declared.Message.{Message}
 use Rattle.message.specs.Message.{kindOf, addressGood, wellFormed}
-use Rattle.message.specs.Encode.{encode, putAt, putRefusal, putInto}
+use Rattle.message.specs.Encode.{encode, putRefusal, putInto}
 use Rattle.message.specs.Decode.{messageIn, checkGood, restZero, addressedTo, refused, parseKind, parseFor, writeRefusal, packetInto}
 
 -- ------------------------------------------------------------------------------------------------------------------
 -- Reading.
 
--- one byte more of s is copied over t
-pub copy-more : (i : ℕ) (s t : List ℕ) → i < length s → i < length t → set (take i s ++ drop i t) i (getD s i 0) ≡ take (i + 1) s ++ drop (i + 1) t
-copy-more i s t hs ht =
-    let e : length (take i s) ≡ i = length-take-le i s (omega arith) in
-    rw (drop-cons t i 0 ht, set-at (take i s) (getD t i 0) (drop (suc i) t) (getD s i 0) i e, add-one, take-suc s i 0 hs, append-assoc)
-
-pub check-length : (s : List ℕ) → checkGood s ≡ true → length s ≡ 64
+pub check-length : (s : List ℕ) → checkGood s ≡ true → length s ≡ messageSize
 unfolding checkGood
-check-length s e = eqb-true (length s) 64 (and-left _ _ e)
+check-length s e = eqb-true (length s) messageSize (and-left _ _ e)
 
 -- the way out of reading at each check, where those before it held
 module _ (n : ℕ) (sizes : List ℕ) (own : ℕ) (s : List ℕ) where
@@ -90,8 +84,8 @@ module _ (n : ℕ) (sizes : List ℕ) (k : Kind) (m : Message) (out : List ℕ) 
 
     pub write-puts : packetInto n sizes k m out ≡ putInto k m out 0
     unfolding putRefusal putInto
-    write-puts = go (leb (0 + 64) (length out)) refl
+    write-puts = go (leb (0 + messageSize) (length out)) refl
       where
-        go : (t : Bool) → leb (0 + 64) (length out) ≡ t → packetInto n sizes k m out ≡ putInto k m out 0
+        go : (t : Bool) → leb (0 + messageSize) (length out) ≡ t → packetInto n sizes k m out ≡ putInto k m out 0
         go true e = write-done (write-last ∙ rw e) ∙ sym (rw e)
         go false e = sym (write-stops 13 (write-last ∙ rw e) (omega arith) .1) ∙ sym (rw e)

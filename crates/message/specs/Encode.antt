@@ -4,7 +4,9 @@ use Prim.Native.Nat.{ℕ, _+_}
 use mathlib.Core.Bool.{cond}
 use mathlib.Core.List.{List, [], _∷_, _++_}
 use lib.Dec.{leb}
-use lib.ListN.{length, take, drop}
+use lib.ListN.{length}
+pub use Rattle.base.specs.Put.{putAt}
+use Rattle.base.specs.Limits.{messageSize}
 use Rattle.base.specs.Bytes.{le16, le32}
 use Rattle.checksum.specs.Sum.{sumOf}
 use Rattle.message.specs.declared.Kind.{Kind}
@@ -19,14 +21,10 @@ body k m = (kindCode k ∷ m .sender ∷ m .receiver ∷ 0 ∷ []) ++ m .stamp +
 unfoldable pub encode : Kind → Message → List ℕ
 encode k m = body k m ++ le16 (sumOf (body k m))
 
--- the bytes s written over l from `at` on
-abbrev pub putAt : List ℕ → ℕ → List ℕ → List ℕ
-putAt l at s = take at l ++ s ++ drop (at + length s) l
-
 -- 01, refusal 13: "lent output too short: .. 64 for a message", from `at` on in `room` bytes; 0 where they fit
 unfoldable pub putRefusal : ℕ → ℕ → ℕ
-putRefusal room at = cond (leb (at + 64) room) 0 13
+putRefusal room at = cond (leb (at + messageSize) room) 0 13
 
 -- what putting leaves in the lent buffer: the 64 bytes from `at` on where they fit, else all as it was
 unfoldable pub putInto : Kind → Message → List ℕ → ℕ → List ℕ
-putInto k m l at = cond (leb (at + 64) (length l)) (putAt l at (encode k m)) l
+putInto k m l at = cond (leb (at + messageSize) (length l)) (putAt l at (encode k m)) l

@@ -1,7 +1,7 @@
 -- Laws of a message's fields: what a filled stamp or assignment holds place by place, and the parts of checks 9 and 10.
 --     every-at, every-by, every-not     `every`, index by index
 --     filled-at, filled-past, filled-by     `filledTo`, place by place
---     bound-by, bound-parts, none-is, not-none-is, bound-small, no-bound-by, blank-filled     a bound with its best assignment
+--     bound-by, bound-parts, not-none-is, no-bound-by, blank-filled     a bound with its best assignment
 --     address-by, addressed; formed-by, formed     checks 10 and 9 from their parts, and their parts
 -- Assumes nothing.
 use Prim.Native.Nat.{ℕ, zero, suc, _+_, _≤_, _<_}
@@ -15,7 +15,8 @@ use native.Mathlib.Numerals.{add-one}
 use borrow.Author.Tests.{leb-true, le-leb, ltb-true, ltb-false, lt-ltb, le-ltb, eqb-true, eq-eqb, ne-eqb}
 use lib.Dec.{ltb, leb, eqb}
 use lib.ListN.{getD, replicate}
-use Rattle.base.specs.Shape.{and-left, and-right}
+use Rattle.base.specs.Limits.{places}
+use Rattle.base.specs.Shape.{and-left, and-right, isValue, value-range, range-value}
 use Rattle.message.specs.declared.Kind.{Kind}
 use Rattle.message.specs.declared.Message.{Message}
 use Rattle.message.specs.Message.{NONE, totalLimit, every, placeGood, placeAt, filledTo, boundGood, noneOrBound, noBound, carriedOf, boundFits, directionGood, isUnit, addressGood, wellFormed}
@@ -44,28 +45,28 @@ every-not p m i h e = go (every p m) refl
 -- ------------------------------------------------------------------------------------------------------------------
 -- `filledTo`, place by place.
 
-pub filled-at : (k : ℕ) (sizes l : List ℕ) → filledTo k sizes l ≡ true → (j : ℕ) → j < k → j < 16 → (1 ≤ getD l j 0) × (getD l j 0 ≤ getD sizes j 0)
+pub filled-at : (k : ℕ) (sizes l : List ℕ) → filledTo k sizes l ≡ true → (j : ℕ) → j < k → j < places → (1 ≤ getD l j 0) × (getD l j 0 ≤ getD sizes j 0)
 unfolding filledTo
 filled-at k sizes l e j a b =
-    let h : (leb 1 (getD l j 0) && leb (getD l j 0) (getD sizes j 0)) ≡ true = rw (lt-ltb j k a) at (every-at (placeAt k sizes l) 16 e j b) in
-    (leb-true _ _ (and-left _ _ h), leb-true _ _ (and-right (leb 1 (getD l j 0)) _ h))
+    let h : isValue (getD sizes j 0) (getD l j 0) ≡ true = rw (lt-ltb j k a) at (every-at (placeAt k sizes l) places e j b) in
+    value-range (getD sizes j 0) (getD l j 0) h
 
-pub filled-past : (k : ℕ) (sizes l : List ℕ) → filledTo k sizes l ≡ true → (j : ℕ) → k ≤ j → j < 16 → getD l j 0 ≡ 0
+pub filled-past : (k : ℕ) (sizes l : List ℕ) → filledTo k sizes l ≡ true → (j : ℕ) → k ≤ j → j < places → getD l j 0 ≡ 0
 unfolding filledTo
 filled-past k sizes l e j a b =
-    let h : eqb (getD l j 0) 0 ≡ true = rw (le-ltb j k a) at (every-at (placeAt k sizes l) 16 e j b) in
+    let h : eqb (getD l j 0) 0 ≡ true = rw (le-ltb j k a) at (every-at (placeAt k sizes l) places e j b) in
     eqb-true _ _ h
 
-pub filled-by : (k : ℕ) (sizes l : List ℕ) → ((j : ℕ) → j < k → j < 16 → (1 ≤ getD l j 0) × (getD l j 0 ≤ getD sizes j 0)) → ((j : ℕ) → k ≤ j → j < 16 → getD l j 0 ≡ 0)
+pub filled-by : (k : ℕ) (sizes l : List ℕ) → ((j : ℕ) → j < k → j < places → (1 ≤ getD l j 0) × (getD l j 0 ≤ getD sizes j 0)) → ((j : ℕ) → k ≤ j → j < places → getD l j 0 ≡ 0)
     → filledTo k sizes l ≡ true
 unfolding filledTo
-filled-by k sizes l f g = every-by (placeAt k sizes l) 16 place
+filled-by k sizes l f g = every-by (placeAt k sizes l) places place
   where
-    go : (j : ℕ) (b : Bool) → ltb j k ≡ b → j < 16 → placeGood b (getD sizes j 0) (getD l j 0) ≡ true
-    go j true q h = let u : j < k = ltb-true j k q in rw (le-leb 1 (getD l j 0) (f j u h .0), le-leb (getD l j 0) (getD sizes j 0) (f j u h .1))
+    go : (j : ℕ) (b : Bool) → ltb j k ≡ b → j < places → placeGood b (getD sizes j 0) (getD l j 0) ≡ true
+    go j true q h = let u : j < k = ltb-true j k q in range-value (getD sizes j 0) (getD l j 0) (f j u h .0) (f j u h .1)
     go j false q h = eq-eqb _ _ (g j (ltb-false j k q) h)
 
-    place : (j : ℕ) → j < 16 → placeAt k sizes l j ≡ true
+    place : (j : ℕ) → j < places → placeAt k sizes l j ≡ true
     place j h = go j (ltb j k) refl h
 
 -- ------------------------------------------------------------------------------------------------------------------
@@ -79,17 +80,9 @@ pub bound-parts : (n : ℕ) (sizes : List ℕ) (bound : ℕ) (best : List ℕ) �
 unfolding boundGood
 bound-parts n sizes bound best e = (leb-true bound totalLimit (and-left _ _ e), and-right (leb bound totalLimit) _ e)
 
-pub none-is : (n : ℕ) (sizes best : List ℕ) → noneOrBound n sizes NONE best ≡ filledTo 0 sizes best
-unfolding noneOrBound
-none-is n sizes best = refl
-
 pub not-none-is : (n : ℕ) (sizes : List ℕ) (bound : ℕ) (best : List ℕ) → bound < NONE → noneOrBound n sizes bound best ≡ boundGood n sizes bound best
 unfolding noneOrBound
 not-none-is n sizes bound best h = rw (ne-eqb bound NONE (λ q. omega arith))
-
--- a bound that is not none is within the limit
-pub bound-small : (n : ℕ) (sizes : List ℕ) (bound : ℕ) (best : List ℕ) → noneOrBound n sizes bound best ≡ true → bound < NONE → (bound ≤ totalLimit) × (filledTo n sizes best ≡ true)
-bound-small n sizes bound best e h = bound-parts n sizes bound best (sym (not-none-is n sizes bound best h) ∙ e)
 
 pub no-bound-by : (sizes : List ℕ) (bound : ℕ) (best : List ℕ) → bound ≡ 0 → filledTo 0 sizes best ≡ true → noBound sizes bound best ≡ true
 unfolding noBound
@@ -105,7 +98,7 @@ blank-filled sizes = refl
 
 pub address-by : (n : ℕ) (m : Message) → 1 ≤ m .sender → m .sender ≤ n → 1 ≤ m .receiver → m .receiver ≤ n → addressGood n m ≡ true
 unfolding addressGood
-address-by n m a b c d = rw (le-leb 1 (m .sender) a, le-leb (m .sender) n b, le-leb 1 (m .receiver) c, le-leb (m .receiver) n d)
+address-by n m a b c d = rw (range-value n (m .sender) a b, range-value n (m .receiver) c d)
 
 pub record Addressed (n : ℕ) (m : Message) : Type 0 where
   pub from : 1 ≤ m .sender
@@ -116,14 +109,9 @@ pub record Addressed (n : ℕ) (m : Message) : Type 0 where
 pub addressed : (n : ℕ) (m : Message) → addressGood n m ≡ true → Addressed n m
 unfolding addressGood
 addressed n m e =
-    let f : isUnit n (m .sender) ≡ true = and-left _ _ e in
-    let g : isUnit n (m .receiver) ≡ true = and-right (isUnit n (m .sender)) _ e in
-    record {
-      from = leb-true 1 (m .sender) (and-left _ _ f);
-      fromMost = leb-true (m .sender) n (and-right (leb 1 (m .sender)) _ f);
-      to = leb-true 1 (m .receiver) (and-left _ _ g);
-      toMost = leb-true (m .receiver) n (and-right (leb 1 (m .receiver)) _ g);
-    }
+    let f = value-range n (m .sender) (and-left _ _ e) in
+    let g = value-range n (m .receiver) (and-right (isUnit n (m .sender)) _ e) in
+    record { from = f .0; fromMost = f .1; to = g .0; toMost = g .1 }
 
 -- check 9, part by part
 pub record Formed (n : ℕ) (sizes : List ℕ) (k : Kind) (m : Message) : Type 0 where

@@ -1,18 +1,20 @@
--- What a message holds, and which fields go together. Document 01, 'Radio message, 64 bytes'.
---     kindCode, kindOf, refusalOf     01's number for each case of the two enums
---     Packet, noMessage       a message with its kind; the message whose fields are all zero
---     Sized                   arrays of 16 places, numbers of 32 bits
---     NONE, totalLimit, prefixLimit     the limits, each here alone
---     filledTo                which places of a stamp or an assignment are filled
+-- What a message holds, and which fields go together. Document 01, 'Radio message, 64 bytes'; the limits are base's.
+--     kindCode, kindOf, refusalOf       01's number for each case of the two enums
+--     Packet, noMessage, Sized          a message with its kind; one whose fields are all zero; what the types of the code say
+--     filledTo                          which places of a stamp or an assignment are filled
 --     boundGood, noneOrBound, noBound   a bound with its best assignment
+--     carriedOf, boundFits, directionGood     what each kind carries, from whom to whom
 --     addressGood, wellFormed           01's checks 10 and 9 on the fields
 -- Assumes nothing.
-use Prim.Native.Nat.{ℕ, zero, suc, _+_, _*_, _-_, _<_}
+use Prim.Native.Nat.{ℕ, zero, suc, _+_, _-_, _<_}
 use mathlib.Core.Path.{_≡_}
 use mathlib.Core.Bool.{Bool, true, false, cond, not, _&&_, _||_}
-use mathlib.Core.List.{List, [], _∷_}
+use mathlib.Core.List.{List}
 use lib.Dec.{ltb, leb, eqb}
 use lib.ListN.{length, getD, replicate}
+pub use Rattle.base.specs.Limits.{totalLimit, prefixLimit, NONE}
+use Rattle.base.specs.Limits.{places, estimateLimit}
+use Rattle.base.specs.Shape.{isValue}
 use Rattle.message.specs.declared.Kind.{Kind}
 use Rattle.message.specs.declared.Kind.the-variants.{Cpa, Request, Estimate, Solution, Stop}
 use Rattle.message.specs.declared.Read.{Read}
@@ -44,45 +46,33 @@ pub record Packet : Type 0 where
 
 -- the message beside a refusal
 abbrev pub noMessage : Message
-noMessage = record { sender = 0; receiver = 0; stamp = replicate 16 0; values = replicate 16 0; cost = 0; bound = 0; best = replicate 16 0 }
+noMessage = record { sender = 0; receiver = 0; stamp = replicate places 0; values = replicate places 0; cost = 0; bound = 0; best = replicate places 0 }
 
--- what the types of the code say of a message: arrays of 16 places, numbers of 32 bits
+-- what the types of the code say of a message
 pub record Sized (m : Message) : Type 0 where
-  pub stamp : length (m .stamp) ≡ 16
-  pub values : length (m .values) ≡ 16
-  pub best : length (m .best) ≡ 16
+  pub stamp : length (m .stamp) ≡ places
+  pub values : length (m .values) ≡ places
+  pub best : length (m .best) ≡ places
   pub cost : m .cost < 4294967296
   pub bound : m .bound < 4294967296
-
--- 01: "None as a bound is 4,294,967,295"
-abbrev pub NONE : ℕ
-NONE = 4294967295
-
--- 01: "an estimate at most 7,200,000", "A bound is at most 7,200,000"
-abbrev pub totalLimit : ℕ
-totalLimit = 7200000
-
--- 01: "A paper or copy with k filled units costs at most 30,000 × k × (k-1)"
-abbrev pub prefixLimit : ℕ → ℕ
-prefixLimit k = 30000 * k * (k - 1)
 
 -- whether p holds of 0, 1, .., m - 1
 abbrev pub every : (ℕ → Bool) → ℕ → Bool
 every p zero = true
 every p (suc m) = every p m && p m
 
--- a place of a stamp or an assignment: 1 to the domain size where it is filled, else 0
+-- 01: "Filled stamp and value bytes are 1 to d(k), others 0"
 abbrev pub placeGood : Bool → ℕ → ℕ → Bool
-placeGood true d x = leb 1 x && leb x d
+placeGood true d x = isValue d x
 placeGood false d x = eqb x 0
 
 -- place j of l, where the first k are filled
 abbrev pub placeAt : ℕ → List ℕ → List ℕ → ℕ → Bool
 placeAt k sizes l j = placeGood (ltb j k) (getD sizes j 0) (getD l j 0)
 
--- 01: "Filled stamp and value bytes are 1 to d(k), others 0": units 1 to k are filled, and no others of the 16
+-- units 1 to k are filled, and no others of the 16
 unfoldable pub filledTo : ℕ → List ℕ → List ℕ → Bool
-filledTo k sizes l = every (placeAt k sizes l) 16
+filledTo k sizes l = every (placeAt k sizes l) places
 
 -- 01: "A bound is at most 7,200,000 with best filled for all n and zero after"
 unfoldable pub boundGood : ℕ → List ℕ → ℕ → List ℕ → Bool
@@ -100,16 +90,16 @@ noBound sizes bound best = eqb bound 0 && filledTo 0 sizes best
 abbrev pub cpaCount : ℕ → ℕ → ℕ
 cpaCount s r = cond (ltb s r) (r - 1) r
 
--- units 1 to k filled, in stamp and values
+-- units 1 to k filled, in stamp and values, at the cost that they can have
 abbrev pub prefixOf : ℕ → Carried
 prefixOf k = record { stamps = k; values = k; cost = prefixLimit k }
 
--- what a kind carries besides a bound. 01: "units 1 to receiver - 1, or 1 to receiver going back, are filled"; "units 1 to sender filled";
--- "stamp filled for units 1 to receiver, cost is the estimate, all else zero"; "only bound and best"
+-- what a kind carries besides a bound. 01: copy: "units 1 to sender filled"; estimate: "stamp filled for units 1 to receiver, cost is
+-- the estimate, all else zero"; news and stop: "only bound and best"
 abbrev pub carriedOf : Kind → Message → Carried
 carriedOf Cpa m = prefixOf (cpaCount (m .sender) (m .receiver))
 carriedOf Request m = prefixOf (m .sender)
-carriedOf Estimate m = record { stamps = m .receiver; values = 0; cost = totalLimit }
+carriedOf Estimate m = record { stamps = m .receiver; values = 0; cost = estimateLimit }
 carriedOf Solution m = prefixOf 0
 carriedOf Stop m = prefixOf 0
 
@@ -139,7 +129,7 @@ directionGood n Stop s r = fromTo 1 s r
 
 -- a unit number, 1 to n
 abbrev pub isUnit : ℕ → ℕ → Bool
-isUnit n i = leb 1 i && leb i n
+isUnit = isValue
 
 -- 01, refusal 10: "sender or receiver not 1 to n"
 unfoldable pub addressGood : ℕ → Message → Bool

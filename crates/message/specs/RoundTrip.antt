@@ -6,7 +6,7 @@
 --     encode-parse, writes-again, parse-injective     accepted bytes read and written
 --     refused-blank             beside a refusal every field is zero
 -- Assumes nothing.
-use Prim.Native.Nat.{ℕ, suc, _+_, _≤_, _<_}
+use Prim.Native.Nat.{ℕ, _+_, _≤_, _<_}
 use mathlib.Core.Path.{_≡_, refl, sym, ap, _∙_}
 use mathlib.Core.Bool.{Bool, true, false}
 use mathlib.Core.List.{List, [], _∷_, _++_, append-assoc}
@@ -15,8 +15,10 @@ use native.Mathlib.Nat.{add-zero}
 use borrow.Author.Tests.{eq-eqb, eqb-true, leb-true, le-leb}
 use lib.Dec.{leb, eqb}
 use lib.ListN.{length, take, drop, getD, length-append, length-take, length-drop}
-use lib.Seq.{take-at, drop-at, take-all, take-add, drop-cons, getD-append-add}
-use Rattle.base.specs.Bytes.{u16At, u32At, le16, le32, u16-of-le16, u32-of-le32, le16-of-u16, le32-of-u32}
+use lib.Seq.{take-at, drop-at, take-all, take-add, getD-append-add}
+pub use Rattle.base.specs.Bytes.{AllBytes}
+use Rattle.base.specs.Bytes.{u16At, u32At, le16, le32, u16-of-le16, u32-of-le32, four-bytes, le16-again, le32-again}
+use Rattle.base.specs.Limits.{messageSize}
 use Rattle.base.specs.Shape.{shapeGood, and-left, and-right}
 use Rattle.checksum.specs.Sum.{sumOf, sum-small}
 use Rattle.message.specs.declared.Kind.{Kind}
@@ -26,7 +28,7 @@ use Rattle.message.specs.declared.Read.the-variants.{Good, Refused}
 use Rattle.message.specs.declared.Message.{Message}
 use Rattle.message.specs.declared.Parsed.{Parsed}
 use Rattle.message.specs.Message.{kindCode, kindOf, noMessage, Sized, addressGood, wellFormed}
-use Rattle.message.specs.Encode.{body, encode, putAt, putRefusal}
+use Rattle.message.specs.Encode.{body, encode, putRefusal}
 use Rattle.message.specs.EncodeLaws.{head, length-body, length-encode}
 use Rattle.message.specs.Decode.{messageIn, checkGood, restZero, addressedTo, parseKind, parseFor, parseOf, refused, writeRefusal, packetInto}
 use Rattle.message.specs.DecodeLaws.{check-length, parse-5, parse-8, parse-10, parse-on, kind-refused, kind-rest, kind-unfit, kind-good, write-done}
@@ -50,31 +52,6 @@ u32-after : (p q : List ℕ) (at : ℕ) → length p ≡ at → u32At (p ++ q) a
 u32-after p q at e =
     let f : at + 2 + 1 ≡ at + 3 = omega arith in
     rw (u16-after p q at e, byte-after p q at 2 e, f, byte-after p q at 3 e)
-
--- bytes of a list by their place
-two-bytes : (s : List ℕ) (at : ℕ) → at + 2 ≤ length s → take 2 (drop at s) ≡ getD s at 0 ∷ getD s (at + 1) 0 ∷ []
-two-bytes s at h =
-    let e1 : at + 1 ≡ suc at = omega arith in
-    rw (e1, drop-cons s at 0 (omega arith), drop-cons s (suc at) 0 (omega arith))
-
-four-bytes : (s : List ℕ) (at : ℕ) → at + 4 ≤ length s → take 4 (drop at s) ≡ getD s at 0 ∷ getD s (at + 1) 0 ∷ getD s (at + 2) 0 ∷ getD s (at + 3) 0 ∷ []
-four-bytes s at h =
-    let e1 : at + 1 ≡ suc at = omega arith in
-    let e2 : at + 2 ≡ suc (suc at) = omega arith in
-    let e3 : at + 3 ≡ suc (suc (suc at)) = omega arith in
-    rw (e1, e2, e3, drop-cons s at 0 (omega arith), drop-cons s (suc at) 0 (omega arith), drop-cons s (suc (suc at)) 0 (omega arith), drop-cons s (suc (suc (suc at))) 0 (omega arith))
-
--- a list of bytes
-abbrev pub AllBytes : List ℕ → Type 0
-AllBytes s = (j : ℕ) → getD s j 0 < 256
-
-le16-again : (s : List ℕ) (at : ℕ) → at + 2 ≤ length s → AllBytes s → le16 (u16At s at) ≡ take 2 (drop at s)
-le16-again s at h b = le16-of-u16 (getD s at 0) (getD s (at + 1) 0) (b at) (b (at + 1)) ∙ sym (two-bytes s at h)
-
-le32-again : (s : List ℕ) (at : ℕ) → at + 4 ≤ length s → AllBytes s → le32 (u32At s at) ≡ take 4 (drop at s)
-le32-again s at h b =
-    let f : at + 2 + 1 ≡ at + 3 = omega arith in
-    rw f (le32-of-u32 (getD s at 0) (getD s (at + 1) 0) (getD s (at + 2) 0) (getD s (at + 3) 0) (b at) (b (at + 1)) (b (at + 2)) (b (at + 3))) ∙ sym (four-bytes s at h)
 
 -- eight pieces in a row, grouped around one of them
 module _ (a b c d e f g w : List ℕ) where
@@ -202,32 +179,32 @@ pub record Writable (n : ℕ) (sizes : List ℕ) (k : Kind) (m : Message) (room 
   pub shape : shapeGood n sizes ≡ true
   pub address : addressGood n m ≡ true
   pub formed : wellFormed n sizes k m ≡ true
-  pub fits : 64 ≤ room
+  pub fits : messageSize ≤ room
 
 pub writable : (n : ℕ) (sizes : List ℕ) (k : Kind) (m : Message) (room : ℕ) → writeRefusal n sizes k m room ≡ 0 → Writable n sizes k m room
 unfolding writeRefusal putRefusal
-writable n sizes k m room e = go (shapeGood n sizes) refl (addressGood n m) refl (wellFormed n sizes k m) refl (leb (0 + 64) room) refl
+writable n sizes k m room e = go (shapeGood n sizes) refl (addressGood n m) refl (wellFormed n sizes k m) refl (leb (0 + messageSize) room) refl
   where
     never : (r : ℕ) → 0 < r → r ≡ 0 → Writable n sizes k m room
     never r h q = absurd (omega arith)
 
-    go : (a : Bool) → shapeGood n sizes ≡ a → (b : Bool) → addressGood n m ≡ b → (c : Bool) → wellFormed n sizes k m ≡ c → (d : Bool) → leb (0 + 64) room ≡ d → Writable n sizes k m room
+    go : (a : Bool) → shapeGood n sizes ≡ a → (b : Bool) → addressGood n m ≡ b → (c : Bool) → wellFormed n sizes k m ≡ c → (d : Bool) → leb (0 + messageSize) room ≡ d → Writable n sizes k m room
     go false p b q c t d u = never 5 (omega arith) (rw p at e)
     go true p false q c t d u = never 10 (omega arith) (rw (p, q) at e)
     go true p true q false t d u = never 9 (omega arith) (rw (p, q, t) at e)
     go true p true q true t false u = never 13 (omega arith) (rw (p, q, t, u) at e)
-    go true p true q true t true u = record { shape = p; address = q; formed = t; fits = leb-true (0 + 64) room u }
+    go true p true q true t true u = record { shape = p; address = q; formed = t; fits = leb-true (0 + messageSize) room u }
 
-pub writable-by : (n : ℕ) (sizes : List ℕ) (k : Kind) (m : Message) (room : ℕ) → Writable n sizes k m room → writeRefusal n sizes k m room ≡ 0
+writable-by : (n : ℕ) (sizes : List ℕ) (k : Kind) (m : Message) (room : ℕ) → Writable n sizes k m room → writeRefusal n sizes k m room ≡ 0
 unfolding writeRefusal putRefusal
-writable-by n sizes k m room w = rw (w .shape, w .address, w .formed, le-leb (0 + 64) room (w .fits))
+writable-by n sizes k m room w = rw (w .shape, w .address, w .formed, le-leb (0 + messageSize) room (w .fits))
 
 -- what `write` accepts and puts first in the output reads back as the same message and kind
 pub parse-written : (n : ℕ) (sizes : List ℕ) (k : Kind) (m : Message) (out : List ℕ) → Sized m → writeRefusal n sizes k m (length out) ≡ 0
-    → parseOf n sizes (take 64 (packetInto n sizes k m out)) ≡ record { answer = Good k; message = m }
+    → parseOf n sizes (take messageSize (packetInto n sizes k m out)) ≡ record { answer = Good k; message = m }
 parse-written n sizes k m out z e =
     let a : Writable n sizes k m (length out) = writable n sizes k m (length out) e in
-    let g : take 64 (packetInto n sizes k m out) ≡ encode k m = ap (λ (l : List ℕ). take 64 l) (write-done n sizes k m out e) ∙ take-at (encode k m) (drop (0 + length (encode k m)) out) 64 (length-encode k m z) in
+    let g : take messageSize (packetInto n sizes k m out) ≡ encode k m = ap (λ (l : List ℕ). take 64 l) (write-done n sizes k m out e) ∙ take-at (encode k m) (drop (0 + length (encode k m)) out) 64 (length-encode k m z) in
     rw (g, receiver-of-encode k m z) (parse-encode n sizes k m (a .shape) (a .address) (a .formed) z)
 
 -- ------------------------------------------------------------------------------------------------------------------
@@ -307,7 +284,7 @@ cut s = rw (take-add 60 2 s, take-add 44 16 s, take-add 40 4 s, take-add 36 4 s,
 same-pieces : {a a′ c c′ d d′ g g′ : List ℕ} (x y w : List ℕ) → a ≡ a′ → c ≡ c′ → d ≡ d′ → g ≡ g′ → a ++ x ++ y ++ c ++ d ++ w ++ g ≡ a′ ++ x ++ y ++ c′ ++ d′ ++ w ++ g′
 same-pieces x y w p q r t = cc
 
-module _ (s : List ℕ) (l : length s ≡ 64) (bytes : AllBytes s) (k : Kind) (kind : kindOf (getD s 0 0) ≡ Good k) (rest : restZero s ≡ true) (check : checkGood s ≡ true) where
+module _ (s : List ℕ) (l : length s ≡ messageSize) (bytes : AllBytes s) (k : Kind) (kind : kindOf (getD s 0 0) ≡ Good k) (rest : restZero s ≡ true) (check : checkGood s ≡ true) where
   first-again : head (kindCode k) (messageIn s) ≡ take 4 s
   unfolding messageIn restZero
   first-again =
@@ -329,12 +306,12 @@ module _ (s : List ℕ) (l : length s ≡ 64) (bytes : AllBytes s) (k : Kind) (k
   pub encode-again : encode k (messageIn s) ≡ s
   unfolding encode checkGood
   encode-again =
-      let c : u16At s 62 ≡ sumOf (take 62 s) = eqb-true (u16At s 62) (sumOf (take 62 s)) (and-right (eqb (length s) 64) _ check) in
+      let c : u16At s 62 ≡ sumOf (take 62 s) = eqb-true (u16At s 62) (sumOf (take 62 s)) (and-right (eqb (length s) messageSize) _ check) in
       let e : le16 (sumOf (body k (messageIn s))) ≡ take 2 (drop 62 s) = ap (λ (b : List ℕ). le16 (sumOf b)) body-again ∙ ap le16 (sym c) ∙ le16-again s 62 (omega arith) bytes in
       ap (λ (b : List ℕ). b ++ le16 (sumOf (body k (messageIn s)))) body-again ∙ ap (λ (w : List ℕ). take 62 s ++ w) e ∙ sym (take-add 62 2 s) ∙ take-all 64 s (omega arith)
 
 -- the fields of 64 bytes are sized as the types of the code say
-pub sized-in : (s : List ℕ) → length s ≡ 64 → AllBytes s → Sized (messageIn s)
+pub sized-in : (s : List ℕ) → length s ≡ messageSize → AllBytes s → Sized (messageIn s)
 unfolding messageIn
 sized-in s l bytes = record {
   stamp = simp (length-take, length-drop) (omega arith);
@@ -351,11 +328,11 @@ encode-parse n sizes own s k b e =
     ap (λ (p : Parsed). encode k (p .message)) (a .whole) ∙ encode-again s (check-length s (a .check)) b k (a .kind) (a .rest) (a .check)
 
 -- so writing them again, into any buffer that is long enough, is accepted and leaves the same bytes in front of what was there
-pub writes-again : (n : ℕ) (sizes : List ℕ) (own : ℕ) (s : List ℕ) (k : Kind) → AllBytes s → parseFor n sizes own s .answer ≡ Good k → (out : List ℕ) → 64 ≤ length out
-    → (writeRefusal n sizes k (parseFor n sizes own s .message) (length out) ≡ 0) × (packetInto n sizes k (parseFor n sizes own s .message) out ≡ s ++ drop 64 out)
+pub writes-again : (n : ℕ) (sizes : List ℕ) (own : ℕ) (s : List ℕ) (k : Kind) → AllBytes s → parseFor n sizes own s .answer ≡ Good k → (out : List ℕ) → messageSize ≤ length out
+    → (writeRefusal n sizes k (parseFor n sizes own s .message) (length out) ≡ 0) × (packetInto n sizes k (parseFor n sizes own s .message) out ≡ s ++ drop messageSize out)
 writes-again n sizes own s k b e out h =
     let a : ParsedGood n sizes own s k = parsed-good n sizes own s k e in
-    let l : length s ≡ 64 = check-length s (a .check) in
+    let l : length s ≡ messageSize = check-length s (a .check) in
     let m : Message = parseFor n sizes own s .message in
     let f : m ≡ messageIn s = ap (λ (p : Parsed). p .message) (a .whole) in
     let w : writeRefusal n sizes k m (length out) ≡ 0 = writable-by n sizes k m (length out) record { shape = a .shape; address = rw f (a .address); formed = rw f (a .formed); fits = h } in

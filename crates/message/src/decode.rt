@@ -9,6 +9,7 @@ use crate::well_formed;
 ghost use mathlib.Core.Path.{_≡_};
 ghost use Prim.Native.Nat.{_+_, _≤_};
 ghost use lib.ListN.{length, take, drop, getD};
+ghost use Rattle.base.specs.Limits.{messageSize};
 ghost use Rattle.message.specs.Message.{kindOf};
 ghost use Rattle.message.specs.Decode.{messageIn, checkGood, restZero, refused, parseKind};
 
@@ -16,7 +17,7 @@ ghost use Rattle.message.specs.Decode.{messageIn, checkGood, restZero, r
 pub(crate) fn check_good(bytes: &[u8]) -> bool
     ensures { λ r. ⌜ r ≡ checkGood (now (bytes .entry)) ⌝ }
 {
-    if bytes.len() != 64 {
+    if bytes.len() != base::MESSAGE_SIZE {
         return false;
     }
     base::u16_at(bytes, 62) == checksum::sum(&bytes[0..62])
@@ -69,7 +70,7 @@ pub(crate) fn refused(r: u8) -> Parsed
 
 // The fields of a message's bytes.
 pub(crate) fn message_in(bytes: &[u8]) -> Message
-    requires { ⌜ length (now bytes) ≡ 64 ⌝ }
+    requires { ⌜ length (now bytes) ≡ messageSize ⌝ }
     ensures { λ r. ⌜ r ≡ messageIn (now (bytes .entry)) ⌝ }
 {
     let stamp = bytes16(bytes, 4);
@@ -93,7 +94,7 @@ fn bytes16(bytes: &[u8], at: usize) -> [u8; 16]
 {
     let mut r = [0u8; 16];
     let mut i = 0;
-    while i < 16 {
+    while i < base::PLACES {
         r[i] = bytes[at + i];
         i += 1;
     }

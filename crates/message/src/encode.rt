@@ -8,16 +8,17 @@ ghost use Prim.Native.Nat.{_+_, _≤_};
 ghost use mathlib.Core.List.{_++_, _∷_, []};
 ghost use lib.ListN.{length};
 ghost use Rattle.base.specs.Bytes.{le32};
-ghost use Rattle.message.specs.Encode.{body, encode, putAt, putRefusal, putInto};
+ghost use Rattle.base.specs.Put.{putAt};
+ghost use Rattle.message.specs.Encode.{body, encode, putRefusal, putInto};
 
 // The 64 bytes of a message laid at `at`, its fields unchecked; 0, or 13 where they don't fit.
 pub fn put(kind: Kind, m: Message, out: &mut [u8], at: usize) -> u8
     ensures { λ r. ⌜ (r ≡ putRefusal (length (now (out .entry))) at) × (now (out .exit) ≡ putInto kind m (now (out .entry)) at) ⌝ }
 {
-    if out.len() < 64 {
+    if out.len() < base::MESSAGE_SIZE {
         return 13;
     }
-    if out.len() - 64 < at {
+    if out.len() - base::MESSAGE_SIZE < at {
         return 13;
     }
     let bytes = encode(kind, m);

@@ -3,12 +3,8 @@
 use crate::Carried;
 use crate::Kind;
 use crate::Message;
-use crate::NONE;
 ghost use mathlib.Core.Path.{_≡_};
 ghost use Rattle.message.specs.Message.{prefixLimit, placeGood, filledTo, boundGood, noneOrBound, noBound, cpaCount, prefixOf, carriedOf, boundFits, beside, fromTo, directionGood, isUnit, addressGood, wellFormed};
-
-// The most that a bound or an estimate may be.
-const TOTAL_LIMIT: u32 = 7200000;
 
 // Check 10: sender and receiver are units.
 pub fn address_good(n: u8, m: Message) -> bool
@@ -24,10 +20,7 @@ pub fn address_good(n: u8, m: Message) -> bool
 pub fn is_unit(n: u8, i: u8) -> bool
     ensures { λ r. ⌜ r ≡ isUnit n i ⌝ }
 {
-    if i < 1 {
-        return false;
-    }
-    i <= n
+    base::is_value(base::wide(n), base::wide(i))
 }
 
 // Check 9: the fields go with the kind.
@@ -98,7 +91,7 @@ fn carried(kind: Kind, m: Message) -> Carried
         Kind::Estimate => Carried {
             stamps: m.receiver,
             values: 0,
-            cost: TOTAL_LIMIT,
+            cost: base::ESTIMATE_LIMIT,
         },
         Kind::Solution => prefix(0),
         Kind::Stop => prefix(0),
@@ -132,7 +125,7 @@ pub fn filled_to(k: u8, sizes: [u8; 16], places: [u8; 16]) -> bool
 {
     let count = k as usize;
     let mut i = 0;
-    while i < 16 {
+    while i < base::PLACES {
         if !place_good(i < count, sizes[i], places[i]) {
             return false;
         }
@@ -148,10 +141,7 @@ fn place_good(filled: bool, d: u8, x: u8) -> bool
     if !filled {
         return x == 0;
     }
-    if x < 1 {
-        return false;
-    }
-    x <= d
+    base::is_value(base::wide(d), base::wide(x))
 }
 
 // The most that k filled units can cost.
@@ -182,7 +172,7 @@ fn bound_fits(n: u8, sizes: [u8; 16], kind: Kind, bound: u32, best: [u8; 16]) ->
 pub fn none_or_bound(n: u8, sizes: [u8; 16], bound: u32, best: [u8; 16]) -> bool
     ensures { λ r. ⌜ r ≡ noneOrBound n sizes bound best ⌝ }
 {
-    if bound == NONE {
+    if bound == base::NONE {
         return filled_to(0, sizes, best);
     }
     bound_good(n, sizes, bound, best)
@@ -192,7 +182,7 @@ pub fn none_or_bound(n: u8, sizes: [u8; 16], bound: u32, best: [u8; 16]) -> bool
 pub fn bound_good(n: u8, sizes: [u8; 16], bound: u32, best: [u8; 16]) -> bool
     ensures { λ r. ⌜ r ≡ boundGood n sizes bound best ⌝ }
 {
-    if TOTAL_LIMIT < bound {
+    if base::TOTAL_LIMIT < bound {
         return false;
     }
     filled_to(n, sizes, best)

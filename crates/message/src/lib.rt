@@ -1,8 +1,7 @@
 // The radio message: 64 bytes, read and written.
 
 ghost use mathlib.Core.Path.{_≡_};
-ghost use Prim.Native.Nat.{ℕ};
-ghost use lib.ListN.{length, getD};
+ghost use lib.ListN.{length};
 ghost use Rattle.message.specs.Message.{kindCode, kindOf, refusalOf};
 ghost use Rattle.message.specs.Decode.{parseOf, parseFor, writeRefusal, packetInto};
 
@@ -58,9 +57,6 @@ struct Carried {
     values: u8,
     cost: u32,
 }
-
-// The bound *none*.
-pub const NONE: u32 = 4294967295;
 
 // A message read: its kind and fields, or the refusal's number: 5, 8, 10, 9. Any receiver will do: it is read as by the unit that it names.
 pub fn parse(n: u8, sizes: [u8; 16], bytes: &[u8]) -> Parsed

@@ -52,22 +52,22 @@ pub fn print_bytes(l: [u8; 16]) -> [u8; 16]
     ensures { λ r. ⌜ r ≡ l ⌝ }
 {
     let words = [
-        wide(l[0]),
-        wide(l[1]),
-        wide(l[2]),
-        wide(l[3]),
-        wide(l[4]),
-        wide(l[5]),
-        wide(l[6]),
-        wide(l[7]),
-        wide(l[8]),
-        wide(l[9]),
-        wide(l[10]),
-        wide(l[11]),
-        wide(l[12]),
-        wide(l[13]),
-        wide(l[14]),
-        wide(l[15]),
+        base::wide_u32(l[0]),
+        base::wide_u32(l[1]),
+        base::wide_u32(l[2]),
+        base::wide_u32(l[3]),
+        base::wide_u32(l[4]),
+        base::wide_u32(l[5]),
+        base::wide_u32(l[6]),
+        base::wide_u32(l[7]),
+        base::wide_u32(l[8]),
+        base::wide_u32(l[9]),
+        base::wide_u32(l[10]),
+        base::wide_u32(l[11]),
+        base::wide_u32(l[12]),
+        base::wide_u32(l[13]),
+        base::wide_u32(l[14]),
+        base::wide_u32(l[15]),
     ];
     print_words(words);
     l
@@ -109,8 +109,4 @@ fn print_kind(kind: Kind) {
 fn print_place(x: u32) {
     io::write_all(STDOUT_FILENO, b" ");
     io::print_decimal(STDOUT_FILENO, x as u64);
-}
-
-fn wide(x: u8) -> u32 {
-    x as u32
 }

@@ -231,7 +231,7 @@ pub fn fresh() -> Unit
     ensures { λ r. ⌜ r ≡ fresh ⌝ }
 {
     let mut u = no_unit();
-    u.bound = message::NONE;
+    u.bound = base::NONE;
     u
 }
 

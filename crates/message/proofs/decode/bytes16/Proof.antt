@@ -1,13 +1,13 @@
 -- `bytes16` meets its contract. The loop's invariant: the first i bytes are copied; the measure is what is left of the 16.
 -- Assumes nothing.
-use Prim.Native.Nat.{_+_, _-_, _≤_, _<_}
+use Prim.Native.Nat.{_-_, _≤_, _<_}
 use mathlib.Core.Path.{_≡_}
 use mathlib.Core.List.{_++_, append-nil}
 use native.Mathlib.Omega.{arith}
 use lib.ListN.{length, take, drop, replicate, length-drop}
 use lib.Seq.{getD-drop}
 use borrow.Author.Needs.{needs}
-use Rattle.message.specs.DecodeLaws.{copy-more}
+use Rattle.base.specs.Put.{copy-more}
 use Rattle.message.proofs.decode.bytes16.Statement.{statement}
 use Rattle.message.proofs.decode.bytes16.Tie as tie
 

@@ -1,12 +1,12 @@
 -- `lay` meets its contract. The loop's invariant: the first i bytes are laid; the measure is how many are left.
 -- Assumes nothing.
-use Prim.Native.Nat.{ℕ, _+_, _-_, _≤_}
-use mathlib.Core.Path.{_≡_, refl}
+use Prim.Native.Nat.{_-_, _≤_}
+use mathlib.Core.Path.{_≡_, refl, _∙_}
 use native.Mathlib.Omega.{arith}
 use lib.ListN.{length, length-set}
-use lib.Seq.{paste, paste-zero, take-length}
+use lib.Seq.{paste, paste-zero}
 use borrow.Author.Needs.{needs}
-use Rattle.message.specs.EncodeLaws.{paste-more}
+use Rattle.base.specs.Put.{paste-more, put-end}
 use Rattle.message.proofs.encode.lay.Statement.{statement}
 use Rattle.message.proofs.encode.lay.Tie as tie
 
@@ -48,7 +48,7 @@ returns c =
     let a = c .before .before .args in
     let l = c .before .loop in
     let e : l .i ≡ length (a .bytes .now) = omega arith in
-    rw (l .inv .2, e, take-length (a .bytes .now))
+    l .inv .2 ∙ put-end (a .out .now) (a .bytes .now) (a .at) (l .i) e
 
 pub lay-spec : {M : Type 1} → statement M
 lay-spec =

@@ -1,6 +1,6 @@
 -- `put` meets its contract: the 64 bytes are laid where they fit, and where they don't it is 13 and nothing is.
 -- Assumes nothing.
-use mathlib.Core.Path.{_≡_, sym, _∙_}
+use mathlib.Core.Path.{sym, _∙_}
 use native.Mathlib.Omega.{arith}
 use borrow.Author.Needs.{needs}
 use Rattle.message.specs.EncodeLaws.{put-fits, put-short}

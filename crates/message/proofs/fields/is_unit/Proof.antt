@@ -1,14 +1,21 @@
--- `is_unit` meets its contract: each way out decides the first test.
+-- `is_unit` meets its contract: it is `is_value` of the two numbers made wider.
 -- Assumes nothing.
-use borrow.Author.Tests.{le-leb, lt-leb}
+use mathlib.Core.Path.{_∙_}
+use borrow.Author.Needs.{needs}
 use Rattle.message.proofs.fields.is_unit.Statement.{statement}
 use Rattle.message.proofs.fields.is_unit.Tie as tie
 
-returns : tie.Need-returns
-returns c = simp (lt-leb 1 (c .before .args .i) (c .if1 .taken))
+wide-requires : tie.Need-wide-requires
+wide-requires c κs = search needs
 
-returns-2 : tie.Need-returns-2
-returns-2 c = simp (le-leb 1 (c .before .args .i) (c .if1 .left))
+wide-requires-2 : tie.Need-wide-requires-2
+wide-requires-2 c κs = search needs
+
+is-value-requires : tie.Need-is-value-requires
+is-value-requires c κs = search needs
+
+returns : tie.Need-returns
+returns c = c .is-value .ensures ∙ rw (c .before .before .wide .ensures .0, c .before .wide2 .ensures .0)
 
 pub is-unit-spec : {M : Type 1} → statement M
-is-unit-spec = tie.close (tie.spec returns returns-2)
+is-unit-spec = tie.close (tie.spec wide-requires wide-requires-2 is-value-requires returns)

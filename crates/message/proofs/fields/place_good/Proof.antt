@@ -1,17 +1,28 @@
--- `place_good` meets its contract: each way out decides whether the place is filled, and the first test of a filled one.
+-- `place_good` meets its contract: a filled place is one of the values, another is 0.
 -- Assumes nothing.
-use borrow.Author.Tests.{not-true, not-false, le-leb, lt-leb}
+use mathlib.Core.Path.{_∙_}
+use borrow.Author.Tests.{not-true, not-false}
+use borrow.Author.Needs.{needs}
 use Rattle.message.proofs.fields.place_good.Statement.{statement}
 use Rattle.message.proofs.fields.place_good.Tie as tie
 
 returns : tie.Need-returns
 returns c = simp (not-true (c .before .args .filled) (c .if1 .taken))
 
-returns-2 : tie.Need-returns-2
-returns-2 c = let a = c .before .before .args in simp (not-false (a .filled) (c .before .if1 .left), lt-leb 1 (a .x) (c .if2 .taken))
+wide-requires : tie.Need-wide-requires
+wide-requires c κs = search needs
 
-returns-3 : tie.Need-returns-3
-returns-3 c = let a = c .before .before .args in simp (not-false (a .filled) (c .before .if1 .left), le-leb 1 (a .x) (c .if2 .left))
+wide-requires-2 : tie.Need-wide-requires-2
+wide-requires-2 c κs = search needs
+
+is-value-requires : tie.Need-is-value-requires
+is-value-requires c κs = search needs
+
+returns-2 : tie.Need-returns-2
+returns-2 c =
+    let a = c .before .before .before .before .args in
+    c .is-value .ensures ∙ rw (not-false (a .filled) (c .before .before .before .if1 .left), c .before .before .wide .ensures .0, c .before .wide2 .ensures .0)
 
 pub place-good-spec : {M : Type 1} → statement M
-place-good-spec = tie.close (tie.spec returns returns-2 returns-3)
+place-good-spec =
+    tie.close (tie.spec returns wide-requires wide-requires-2 is-value-requires returns-2)

@@ -1,6 +1,6 @@
 -- `prefix_limit` meets its contract: with no unit the limit is 0, and for a byte the product fits 32 bits.
 -- Assumes nothing.
-use Prim.Native.Nat.{_≤_, _*_, _-_, _<_, _^_}
+use Prim.Native.Nat.{_≤_, _*_, _-_}
 use mathlib.Core.Path.{_≡_}
 use native.Mathlib.Omega.{arith}
 use native.Mathlib.Nat.{mul-le-mul}
