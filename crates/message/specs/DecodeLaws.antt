@@ -5,7 +5,7 @@ use mathlib.Core.Path.{_≡_, refl, sym, _∙_}
 use mathlib.Core.Bool.{Bool, true, false}
 use mathlib.Core.List.{List}
 use native.Mathlib.Omega.{arith}
-use borrow.Author.Tests.{eqb-true, ne-eqb}
+use borrow.Author.Tests.{leb-true, leb-false, eqb-true, ne-eqb}
 use lib.Dec.{leb}
 use lib.ListN.{length, getD}
 use Rattle.base.specs.Limits.{messageSize}
@@ -17,6 +17,7 @@ use Rattle.message.specs.declared.Read.the-variants.{Good, Refused}
 use Rattle.message.specs.declared.Message.{Message}
 use Rattle.message.specs.Message.{kindOf, addressGood, wellFormed}
 use Rattle.message.specs.Encode.{encode, putRefusal, putInto}
+use Rattle.message.specs.EncodeLaws.{put-fits, put-short}
 use Rattle.message.specs.Decode.{messageIn, checkGood, restZero, addressedTo, refused, parseKind, parseFor, writeRefusal, packetInto}
 
 -- ------------------------------------------------------------------------------------------------------------------
@@ -83,9 +84,8 @@ module _ (n : ℕ) (sizes : List ℕ) (k : Kind) (m : Message) (out : List ℕ) 
     write-last = rw (a, b, d)
 
     pub write-puts : packetInto n sizes k m out ≡ putInto k m out 0
-    unfolding putRefusal putInto
     write-puts = go (leb (0 + messageSize) (length out)) refl
       where
         go : (t : Bool) → leb (0 + messageSize) (length out) ≡ t → packetInto n sizes k m out ≡ putInto k m out 0
-        go true e = write-done (write-last ∙ rw e) ∙ sym (rw e)
-        go false e = sym (write-stops 13 (write-last ∙ rw e) (omega arith) .1) ∙ sym (rw e)
+        go true e = let p = put-fits k m out 0 (leb-true (0 + messageSize) (length out) e) in write-done (write-last ∙ p .0) ∙ sym (p .1)
+        go false e = let p = put-short k m out 0 (leb-false (0 + messageSize) (length out) e) in sym (write-stops 13 (write-last ∙ p .0) (omega arith) .1) ∙ sym (p .1)

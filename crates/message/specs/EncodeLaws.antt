@@ -67,8 +67,8 @@ sum-laid p x e =
 module _ (k : Kind) (m : Message) (l : List ℕ) (at : ℕ) where
   pub put-fits : at + messageSize ≤ length l → (putRefusal (length l) at ≡ 0) × (putInto k m l at ≡ putAt l at (encode k m))
   unfolding putRefusal putInto
-  put-fits h = let t = le-leb (at + messageSize) (length l) h in (ap (λ (b : Bool). cond b 0 13) t, ap (λ (b : Bool). cond b (putAt l at (encode k m)) l) t)
+  put-fits h = let t = le-leb (at + messageSize) (length l) h in (ap (λ (b : Bool). cond {A = ℕ} b 0 13) t, ap (λ (b : Bool). cond b (putAt l at (encode k m)) l) t)
 
   pub put-short : length l < at + messageSize → (putRefusal (length l) at ≡ 13) × (putInto k m l at ≡ l)
   unfolding putRefusal putInto
-  put-short h = let t = lt-leb (at + messageSize) (length l) h in (ap (λ (b : Bool). cond b 0 13) t, ap (λ (b : Bool). cond b (putAt l at (encode k m)) l) t)
+  put-short h = let t = lt-leb (at + messageSize) (length l) h in (ap (λ (b : Bool). cond {A = ℕ} b 0 13) t, ap (λ (b : Bool). cond b (putAt l at (encode k m)) l) t)

@@ -4,6 +4,7 @@
 --     parse-encode, parse-written     a message written and read
 --     ParsedGood, parsed-good   what is known of bytes that reading accepts
 --     encode-parse, writes-again, parse-injective     accepted bytes read and written
+--     one-byte-refused          accepted bytes with one of them changed are refused by 8
 --     refused-blank             beside a refusal every field is zero
 -- Assumes nothing.
 use Prim.Native.Nat.{ℕ, _+_, _≤_, _<_}
@@ -12,15 +13,16 @@ use mathlib.Core.Bool.{Bool, true, false}
 use mathlib.Core.List.{List, [], _∷_, _++_, append-assoc}
 use native.Mathlib.Omega.{arith}
 use native.Mathlib.Nat.{add-zero}
-use borrow.Author.Tests.{eq-eqb, eqb-true, leb-true, le-leb}
-use lib.Dec.{leb, eqb}
-use lib.ListN.{length, take, drop, getD, length-append, length-take, length-drop}
-use lib.Seq.{take-at, drop-at, take-all, take-add, getD-append-add}
+use borrow.Author.Tests.{eq-eqb, ne-eqb, eqb-true, eqb-false, ltb-true, ltb-false, leb-true, le-leb}
+use lib.Dec.{ltb, leb, eqb}
+use lib.ListN.{length, take, drop, getD, set, length-append, length-take, length-drop, length-set}
+use lib.Seq.{take-at, drop-at, take-all, take-add, take-set-lt, take-set-le, length-take-le, getD-take, getD-append-add, getD-set-same, getD-set-other}
 pub use Rattle.base.specs.Bytes.{AllBytes}
 use Rattle.base.specs.Bytes.{u16At, u32At, le16, le32, u16-of-le16, u32-of-le32, four-bytes, le16-again, le32-again}
 use Rattle.base.specs.Limits.{messageSize}
 use Rattle.base.specs.Shape.{shapeGood, and-left, and-right}
 use Rattle.checksum.specs.Sum.{sumOf, sum-small}
+use Rattle.checksum.specs.OneByte.{one-byte}
 use Rattle.message.specs.declared.Kind.{Kind}
 use Rattle.message.specs.declared.Kind.the-variants.{Cpa, Request, Estimate, Solution, Stop}
 use Rattle.message.specs.declared.Read.{Read}
@@ -344,6 +346,62 @@ pub parse-injective : (n : ℕ) (sizes : List ℕ) (own : ℕ) (s t : List ℕ) 
 parse-injective n sizes own s t k b c e f =
     let g : parseFor n sizes own t .answer ≡ Good k = rw (← f) e in
     sym (encode-parse n sizes own s k b e) ∙ ap (λ (p : Parsed). encode k (p .message)) f ∙ encode-parse n sizes own t k c g
+
+-- ------------------------------------------------------------------------------------------------------------------
+-- Accepted bytes with one of them changed are refused by 8.
+
+module _ (s : List ℕ) (l : length s ≡ messageSize) (bytes : AllBytes s) (check : checkGood s ≡ true) (i x : ℕ) (h : i < messageSize) (b : x < 256) (differ : x ≡ getD s i 0 → ⊥) where
+  stored : u16At s 62 ≡ sumOf (take 62 s)
+  unfolding checkGood
+  stored = eqb-true (u16At s 62) (sumOf (take 62 s)) (and-right (eqb (length s) messageSize) _ check)
+
+  kept : (j : ℕ) → (j ≡ i → ⊥) → getD (set s i x) j 0 ≡ getD s j 0
+  kept j d = getD-set-other s i j x 0 d
+
+  -- of the bytes that are summed: the sum changes, and not what is stored
+  sum-changed : i < 62 → u16At (set s i x) 62 ≡ sumOf (take 62 (set s i x)) → ⊥
+  sum-changed k e =
+      let t : getD (take 62 s) i 0 ≡ getD s i 0 = getD-take 62 s i 0 k in
+      let n : length (take 62 s) ≡ 62 = length-take-le 62 s (omega arith) in
+      let u : u16At (set s i x) 62 ≡ u16At s 62 = rw (kept 62 (λ q. omega arith), kept 63 (λ q. omega arith)) in
+      let v : sumOf (set (take 62 s) i x) ≡ sumOf (take 62 s) = ap sumOf (sym (take-set-lt 62 s i x k)) ∙ sym e ∙ u ∙ stored in
+      one-byte (take 62 s) i x (omega arith) (omega arith) (rw t (bytes i)) b (λ q. differ (q ∙ t)) v
+
+  -- of the two that store the sum: that changes, and not the sum
+  store-changed : 62 ≤ i → u16At (set s i x) 62 ≡ sumOf (take 62 (set s i x)) → ⊥
+  store-changed k e = go (eqb i 62) refl
+    where
+      v : u16At (set s i x) 62 ≡ u16At s 62
+      v = e ∙ ap sumOf (take-set-le 62 s i x k) ∙ sym stored
+
+      same : getD (set s i x) i 0 ≡ x
+      same = getD-set-same s i x 0 (omega arith)
+
+      go : (t : Bool) → eqb i 62 ≡ t → ⊥
+      go true q =
+          let z : i ≡ 62 = eqb-true i 62 q in
+          let w : getD (set s i x) 62 0 ≡ x = ap (λ (j : ℕ). getD (set s i x) j 0) (sym z) ∙ same in
+          differ (rw z (omega (arith, v, w, kept 63 (λ y. omega arith))))
+      go false q =
+          let z : i ≡ 63 = omega (arith, eqb-false i 62 q) in
+          let w : getD (set s i x) 63 0 ≡ x = ap (λ (j : ℕ). getD (set s i x) j 0) (sym z) ∙ same in
+          differ (rw z (omega (arith, v, w, kept 62 (λ y. omega arith))))
+
+  check-changed : checkGood (set s i x) ≡ false
+  unfolding checkGood
+  check-changed =
+      rw (length-set s i x, eq-eqb (length s) messageSize l)
+      (ne-eqb (u16At (set s i x) 62) (sumOf (take 62 (set s i x))) (λ e. go (ltb i 62) refl e))
+    where
+      go : (t : Bool) → ltb i 62 ≡ t → u16At (set s i x) 62 ≡ sumOf (take 62 (set s i x)) → ⊥
+      go true q e = sum-changed (ltb-true i 62 q) e
+      go false q e = store-changed (ltb-false i 62 q) e
+
+pub one-byte-refused : (n : ℕ) (sizes : List ℕ) (own : ℕ) (s : List ℕ) (k : Kind) → AllBytes s → parseFor n sizes own s .answer ≡ Good k
+    → (i x : ℕ) → i < messageSize → x < 256 → (x ≡ getD s i 0 → ⊥) → parseFor n sizes own (set s i x) ≡ refused 8
+one-byte-refused n sizes own s k bytes e i x h b differ =
+    let a : ParsedGood n sizes own s k = parsed-good n sizes own s k e in
+    parse-8 n sizes own (set s i x) (a .shape) (check-changed s (check-length s (a .check)) bytes (a .check) i x h b differ)
 
 -- ------------------------------------------------------------------------------------------------------------------
 -- Where reading refuses, every field beside the number is zero.
