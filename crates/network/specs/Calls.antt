@@ -18,6 +18,7 @@ use Rattle.unit.specs.State.{noUnit, fresh, inRange}
 use Rattle.unit.specs.Step.{Out, refused, accepted, assign}
 use Rattle.unit.specs.Send.{packets, laid}
 use Rattle.unit.specs.Calls.{unlessRefused, onRead}
+use Rattle.network.specs.declared.Core.{Core}
 use Rattle.network.specs.declared.Network.{Network}
 use Rattle.network.specs.declared.Answer.{Answer}
 use Rattle.network.specs.Count.{zeroCount, plus}
@@ -84,13 +85,13 @@ stepFrom8 stream units own bytes =
 abbrev pub refusedDelivery : Network → List ℕ → ℕ → Result
 refusedDelivery net pool r = record { answer = record { refusal = r; network = net }; pool = pool }
 
--- the network once unit `own` has stepped and ps were sent
+-- the units and counts once unit `own` has stepped
+abbrev pub coreAfter : Core → ℕ → Unit → ℕ → Core
+coreAfter core own u records = record { units = set (core .units) (pred own) u; records = plus records (core .records); deliveries = plus 1 (core .deliveries) }
+
+-- the network, once it has sent so many
 abbrev pub stepped : Network → ℕ → Unit → ℕ → ℕ → Network
-stepped net own u sent records =
-    record {
-      core = record { units = set (net .core .units) (pred own) u; records = plus records (net .core .records); deliveries = plus 1 (net .core .deliveries) };
-      used = net .used - 1 + sent;
-    }
+stepped net own u sent records = record { core = coreAfter (net .core) own u records; used = net .used - 1 + sent }
 
 abbrev pub ifFits : Bool → Network → List ℕ → Result → Result
 ifFits true net pool r = r

@@ -32,7 +32,8 @@ use Rattle.network.specs.Run as R
 use Rattle.network.specs.Run.{History, Delivery, stopped, onward, handOver, runFrom, run}
 use Rattle.network.specs.Calls.{deliverOf}
 use Rattle.network.specs.Demand3.{Shed, shedOf, shedMade, shedAfter, deliverAll, runBytes, refusalAt, acceptedIn, handedIn, Made, over, reportOf, most, packetBytes, Honest, Served, Demand3}
-use Rattle.network.specs.Proof.Invariant.{laws, Invariant}
+use Rattle.network.specs.Proof.Core.{laws}
+use Rattle.network.specs.Proof.Invariant.{Invariant}
 use Rattle.network.specs.Proof.Making.{none-handed, accepted-table, make-invariant}
 use Rattle.network.specs.Proof.Delivery.{numberOf, HonestDelivery, Delivers, after-stop, delivers}
 
@@ -99,10 +100,10 @@ module _ (s pool : List ℕ) (made : Made s pool) where
   -- ---- unit 1, on bytes, over messages and in the machine
 
   unit-is : (cs : List ℕ) → unitAt (runBytes s pool cs .network .core .units) 0 ≡ unitAt (run (instanceOf s) cs .units) 0
-  unit-is cs = ap (λ us. unitAt us 0) (invariant cs .same)
+  unit-is cs = ap (λ us. unitAt us 0) (invariant cs .core .same)
 
   over-is : (cs : List ℕ) → over (runBytes s pool cs) ≡ machine cs .units 0 .stopped
-  over-is cs = ap (λ (u : UnitState). u .stopped) (unit-is cs) ∙ invariant cs .matches .units 0 (sound-of s ok .n1) .common .stopped-is
+  over-is cs = ap (λ (u : UnitState). u .stopped) (unit-is cs) ∙ invariant cs .core .matches .units 0 (sound-of s ok .n1) .common .stopped-is
 
   -- ---- what a delivery then gives
 
@@ -134,8 +135,8 @@ module _ (s pool : List ℕ) (made : Made s pool) where
       let one = ap (λ t. length (h ++ cond t (cellOf (runBytes s pool cs .pool) c ∷ []) [])) (sym (eq-eqb (refusalAt s (runBytes s pool cs) c) 0 e)) ∙ ap length (x .bytes) in
       omega (
         arith,
-        x .next .deliveries,
-        invariant cs .deliveries,
+        x .next .core .deliveries,
+        invariant cs .core .deliveries,
         one,
         length-append h (cellOf (runBytes s pool cs .pool) c ∷ []),
         length-map (run (instanceOf s) cs .handed) packetBytes,
@@ -151,8 +152,8 @@ module _ (s pool : List ℕ) (made : Made s pool) where
   pub served : (cs : List ℕ) → Served s pool cs
   served cs =
       record {
-        follows = record { units = i .same; used = i .stored .count; cells = i .stored .front };
-        distinct = i .matches .distinct;
+        follows = record { units = i .core .same; used = i .stored .count; cells = i .stored .front };
+        distinct = i .core .matches .distinct;
         bounded = omega (arith, counted cs, i .accepted, d .bounded);
         ends = λ e. over-is cs ∙ d .ends (sym (i .accepted) ∙ sym (counted cs) ∙ e);
         waits = λ e. some-wait (d .waits (sym (over-is cs) ∙ e) .0) (d .waits (sym (over-is cs) ∙ e) .1);
@@ -164,8 +165,8 @@ module _ (s pool : List ℕ) (made : Made s pool) where
         least = λ e. report e .least;
         handed = i .balanced;
         taken = taken cs;
-        records = i .records;
-        deliveries = i .deliveries ∙ sym (counted cs);
+        records = i .core .records;
+        deliveries = i .core .deliveries ∙ sym (counted cs);
         accepted = counted cs;
         honest = honest-next cs;
       }
@@ -186,7 +187,7 @@ module _ (s pool : List ℕ) (made : Made s pool) where
       report : over (runBytes s pool cs) ≡ true → Reports (instanceOf s) (unitAt (runBytes s pool cs .network .core .units) 0)
       report e =
           subst (Reports (instanceOf s)) (sym (unit-is cs))
-          (reports (instanceOf s) (sound-of s ok) (unitAt (run (instanceOf s) cs .units) 0) (machine cs .units 0) (i .matches .units 0 (sound-of s ok .n1)) (d .report (sym (over-is cs) ∙ e))
+          (reports (instanceOf s) (sound-of s ok) (unitAt (run (instanceOf s) cs .units) 0) (machine cs .units 0) (i .core .matches .units 0 (sound-of s ok .n1)) (d .report (sym (over-is cs) ∙ e))
           (i .kept .network .safe 0 (sound-of s ok .n1) .stop refl (sym (over-is cs) ∙ e)))
 
   -- ---- its end

@@ -10,30 +10,26 @@ use mathlib.Core.List.{List, [], _∷_, _++_, map, append-nil, map-append}
 use mathlib.Core.Option.{some}
 use native.Mathlib.Omega.{arith}
 use lib.Dec.{leb, eqb}
-use lib.ListN.{length, set, take, drop, length-append}
+use lib.ListN.{length, take, drop, length-append}
 use borrow.Author.Tests.{leb-true, ne-eqb}
 use Rattle.base.specs.Limits.{poolCells}
 use Rattle.table.specs.Stream.{unitsOf, Accepted}
-use Rattle.costs.specs.Instance.{viewOf, instanceOf}
+use Rattle.costs.specs.Instance.{instanceOf}
 use Rattle.costs.specs.Laws.{problemOf}
 use Rattle.costs.specs.Laws.Stream.{sound-of}
 use Rattle.costs.specs.Gather.{sizesIn}
-use Rattle.costs.specs.Gather.Sizes.{accepted-sizes-good}
-use Rattle.message.specs.declared.Parsed.{Parsed}
-use Rattle.message.specs.Message.{Packet, isUnit, every}
+use Rattle.message.specs.Message.{Packet, every}
 use Rattle.message.specs.Laws.{every-by}
 use Rattle.message.specs.Encode.{encode}
-use Rattle.message.specs.RoundTrip.{parse-encode, receiver-of-encode}
 use Rattle.unit.specs.declared.Unit.{Unit as UnitState}
 use Rattle.unit.specs.declared.Sending.{Sending}
 use Rattle.unit.specs.Step as U
 use Rattle.unit.specs.Step.{Out, Written}
 use Rattle.unit.specs.Send.{packets}
-use Rattle.unit.specs.Calls.{onRead}
 use Rattle.unit.specs.Units.{unitAt, placeOf, stepOn}
 use Rattle.unit.specs.Laws.Packets.{Sendable}
 use Rattle.unit.specs.Laws.Assign.{Whenever}
-use Rattle.unit.specs.Laws.Units.{receiver-unit, Leaves, step-in-range}
+use Rattle.unit.specs.Laws.Units.{Leaves, step-in-range}
 use Rattle.protocol.specs.Machine as M
 use Rattle.protocol.specs.Machine.{to, Network}
 use Rattle.protocol.specs.Walk.{deliver-stopped, deliver-none, deliver-at}
@@ -41,9 +37,7 @@ use Rattle.protocol.specs.Lists.{In, here, in-right, in-more, every-append}
 use Rattle.protocol.specs.Theorem.{Kept, deliver-kept}
 use Rattle.protocol.specs.Simulation.Relations.{ReadAll, read-append}
 use Rattle.protocol.specs.Simulation.Units as X
-use Rattle.protocol.specs.Simulation.Units.{read-to, read-length, Matches, Simulated, StepsTo}
-use Rattle.network.specs.Count.{valueOf}
-use Rattle.network.specs.Count.Laws.{plus-exact}
+use Rattle.protocol.specs.Simulation.Units.{read-length, Simulated, StepsTo}
 use Rattle.network.specs.Pool.{cellOf, poolAfter}
 use Rattle.network.specs.Pool.Stored.{AllSized, StandsAt, stands-at, none-at, no-room, some-room, cell-in-use, cell-bytes, used-after, put-stored}
 use Rattle.network.specs.Run as R
@@ -53,7 +47,8 @@ use Rattle.network.specs.Calls.{Result, deliverRefusal, receiverOf, step
 use Rattle.network.specs.Demand3.{Shed, shedOf, times, packetBytes, Honest}
 use Rattle.network.specs.Code.{unitInRange, check-stopped, check-cell, check-none, deliver-goes}
 use Rattle.network.specs.Proof.Walk.{hand-cases, deliver-cases}
-use Rattle.network.specs.Proof.Invariant.{laws, views, Invariant, sized, records-below, accepted-below, same-stop, cut, step-accepted}
+use Rattle.network.specs.Proof.Core.{laws, views, receiver-is, step-is, core-steps}
+use Rattle.network.specs.Proof.Invariant.{Invariant, sized, accepted-below, same-stop, cut, step-accepted}
 
 -- the number of a refusal, 0 where the delivery was accepted
 abbrev pub numberOf : Delivery → ℕ
@@ -110,13 +105,13 @@ module _ (s : List ℕ) (ok : Accepted s) (S : Shed) (H : History) (A : Network)
 
   pub units-pass : every (unitInRange s (S .network .core .units)) (unitsOf s) ≡ true
   unfolding instanceOf
-  units-pass = every-by (unitInRange s (S .network .core .units)) (unitsOf s) (λ k l. subst (λ us. unitInRange s us k ≡ true) (sym (i .same)) (i .units .states k l))
+  units-pass = every-by (unitInRange s (S .network .core .units)) (unitsOf s) (λ k l. subst (λ us. unitInRange s us k ≡ true) (sym (i .core .same)) (i .core .units .states k l))
 
   in-use : S .network .used ≤ 1024
   in-use = omega (arith, i .stored .count, i .few)
 
   stop-is : unitAt (S .network .core .units) 0 .stopped ≡ stopped H
-  stop-is = ap (λ us. unitAt us 0 .stopped) (i .same)
+  stop-is = ap (λ us. unitAt us 0 .stopped) (i .core .same)
 
   machine-stop : A .units 0 .stopped ≡ stopped H
   machine-stop = sym (same-stop s ok S H A i)
@@ -147,27 +142,14 @@ module _ (s : List ℕ) (ok : Accepted s) (S : Shed) (H : History) (A : Network)
     z : AllSized (H .waiting)
     z = sized s ok (H .waiting) (i .sendable)
 
-    pub receiver-is : receiverOf (unitsOf s) (encode (p .kind) (p .message)) ≡ p .message .receiver
-    unfolding instanceOf
-    receiver-is =
-        ap (λ r. cond (isUnit (unitsOf s) r) r 1) (receiver-of-encode (p .kind) (p .message) (w .arrays))
-        ∙ ap (λ t. cond t (p .message .receiver) 1) (receiver-unit (unitsOf s) (sizesIn s) p w)
-
-    -- the bytes of a packet that can be written read back as the packet
-    pub step-is : (us : List UnitState) → stepFrom8 s us (p .message .receiver) (encode (p .kind) (p .message)) ≡ stepOn (instanceOf s) us p
-    unfolding stepFrom8 instanceOf
-    step-is us =
-        ap (λ (q : Parsed). onRead (viewOf (instanceOf s) (placeOf p)) (unitAt us (placeOf p)) (q .answer) (q .message))
-        (parse-encode (unitsOf s) (sizesIn s) (p .kind) (p .message) (accepted-sizes-good s ok) (w .address) (w .form) (w .arrays))
-
     pub goes-on : deliverOf (S .network) s (S .pool) c ≡ C.onOut (S .network) (S .pool) c (unitsOf s) (p .message .receiver) (stepOn (instanceOf s) (H .units) p)
     unfolding Accepted
     goes-on =
         sym (deliver-goes (S .network) s (S .pool) c (sym (check-none (S .network) s (S .pool) c (i .stored .room) ok units-pass in-use (stop-is ∙ st) (cell-in-use (H .waiting) (S .network .used) (S .pool) (i .stored) z c p e))))
         ∙ ap (λ (x : List ℕ). C.onOut (S .network) (S .pool) c (unitsOf s) (receiverOf (unitsOf s) x) (stepFrom8 s (S .network .core .units) (receiverOf (unitsOf s) x) x))
         (cell-bytes (H .waiting) (S .network .used) (S .pool) (i .stored) z c p e)
-        ∙ ap (λ (y : ℕ). C.onOut (S .network) (S .pool) c (unitsOf s) y (stepFrom8 s (S .network .core .units) y (encode (p .kind) (p .message)))) receiver-is
-        ∙ ap (λ (o : Out). C.onOut (S .network) (S .pool) c (unitsOf s) (p .message .receiver) o) (step-is (S .network .core .units) ∙ ap (λ us. stepOn (instanceOf s) us p) (i .same))
+        ∙ ap (λ (y : ℕ). C.onOut (S .network) (S .pool) c (unitsOf s) y (stepFrom8 s (S .network .core .units) y (encode (p .kind) (p .message)))) (receiver-is s ok p w)
+        ∙ ap (λ (o : Out). C.onOut (S .network) (S .pool) c (unitsOf s) (p .message .receiver) o) (step-is s ok p w (S .network .core .units) ∙ ap (λ us. stepOn (instanceOf s) us p) (i .core .same))
 
     -- the machine's pool, cut at the same cell
     at : X.CutAt (instanceOf s) b p a (A .pool)
@@ -187,7 +169,7 @@ module _ (s : List ℕ) (ok : Accepted s) (S : Shed) (H : History) (A : Network)
       x = subst (Simulated (instanceOf s) (H .units) (H .written) (A .units) (placeOf p) (M.step (problemOf (instanceOf s)) (A .units (to (at .message))) (at .message))) gives stepped
 
       l : Leaves (instanceOf s) (sizesIn s) (H .units) (placeOf p) u o ws
-      l = subst (Whenever (Leaves (instanceOf s) (sizesIn s) (H .units) (placeOf p))) gives (step-in-range (instanceOf s) (sizesIn s) (sound-of s ok .n16) (views s ok) (H .units) (i .units) p w)
+      l = subst (Whenever (Leaves (instanceOf s) (sizesIn s) (H .units) (placeOf p))) gives (step-in-range (instanceOf s) (sizesIn s) (sound-of s ok .n16) (views s ok) (H .units) (i .core .units) p w)
 
       abbrev next-machine : Network
       next-machine = record { units = M.put (A .units) (to (at .message)) (x .agent); pool = (at .before ++ at .behind) ++ x .sent; accepted = suc (A .accepted) }
@@ -222,28 +204,21 @@ module _ (s : List ℕ) (ok : Accepted s) (S : Shed) (H : History) (A : Network)
         kept : Kept (problemOf (instanceOf s)) next-machine
         kept = subst (Kept (problemOf (instanceOf s))) (machine-is true q) (deliver-kept (problemOf (instanceOf s)) (laws s ok) (sound-of s ok .n1) poolCells A c (i .kept))
 
-        matched : Matches (instanceOf s) (set (H .units) (placeOf p) u) (H .written ++ ws) (next-machine .units)
-        matched = subst (λ k. Matches (instanceOf s) (set (H .units) (placeOf p) u) (H .written ++ ws) (M.put (A .units) k (x .agent))) (read-to (instanceOf s) p (at .message) (at .reads)) (x .matches)
-
-        count-records : valueOf (S .network .core .records) + length ws ≡ length (H .written ++ ws)
-        count-records = ap (λ y. y + length ws) (i .records) ∙ sym (length-append (H .written) ws)
-
-        count-deliveries : valueOf (S .network .core .deliveries) + 1 ≡ length (H .handed ++ (p ∷ []))
-        count-deliveries = ap (λ y. y + 1) (i .deliveries) ∙ sym (length-append (H .handed) (p ∷ []))
-
         count-accepted : length (H .handed ++ (p ∷ [])) ≡ suc (A .accepted)
         count-accepted = omega (arith, length-append (H .handed) (p ∷ []), i .accepted)
 
         invariant : Invariant s ok (shedOf stored-after) (R.after H p u ps ws ((b ++ a) ++ ps)) next-machine
         invariant =
             record {
+              core =
+                  core-steps s ok (S .network .core) H (A .units) (i .core) p (at .message) (at .reads) (M.step (problemOf (instanceOf s)) (A .units (to (at .message))) (at .message)) u o ws x l (kept .network .safe)
+                  (subst (λ y. y < 2 ^ 64 * 2 ^ 64) (sym count-accepted) (accepted-below s ok next-machine kept)) ((b ++ a) ++ ps);
               kept = kept;
-              matches = matched;
               reads = read-on;
               accepted = count-accepted;
-              units = l .units;
               sendable = every-append _ (b ++ a) ps (λ y j. i .sendable y (subst (In y) (sym (here-is .whole)) (in-more b p a j))) (l .sent);
               few = leb-true _ poolCells q;
+              stored = put-stored (H .waiting) (S .network .used) (S .pool) (i .stored) z c p e ps (sized s ok ps (l .sent)) (leb-true _ poolCells q);
               balanced = λ t.
                   omega (
                     arith,
@@ -258,13 +233,6 @@ module _ (s : List ℕ) (ok : Accepted s) (S : Shed) (H : History) (A : Network)
                     times-more t p [],
                     times-none t,
                   );
-              same = ap (λ us. set us (placeOf p) u) (i .same);
-              stored = put-stored (H .waiting) (S .network .used) (S .pool) (i .stored) z c p e ps (sized s ok ps (l .sent)) (leb-true _ poolCells q);
-              records =
-                  plus-exact (length ws) (S .network .core .records) (subst (λ y. y < 2 ^ 64 * 2 ^ 64) (sym count-records) (records-below s ok next-machine kept (set (H .units) (placeOf p) u) (H .written ++ ws) matched))
-                  ∙ count-records;
-              deliveries =
-                  plus-exact 1 (S .network .core .deliveries) (subst (λ y. y < 2 ^ 64 * 2 ^ 64) (sym (count-deliveries ∙ count-accepted)) (accepted-below s ok next-machine kept)) ∙ count-deliveries;
             }
 
         goes : Delivers (R.delivered (R.after H p u ps ws ((b ++ a) ++ ps))) (deliverOf (S .network) s (S .pool) c)

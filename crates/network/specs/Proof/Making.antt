@@ -1,11 +1,10 @@
 -- Making gives the invariant (`make-invariant`), for a table that it accepts and a pool that is long enough. Unit 1's assigning is never refused.
 -- Assumes nothing.
-use Prim.Native.Nat.{ℕ, zero, suc, _*_, _^_, _<_}
-use mathlib.Core.Path.{_≡_, refl, sym, ap, _∙_, subst}
+use Prim.Native.Nat.{ℕ, zero, suc}
+use mathlib.Core.Path.{_≡_, refl, sym, ap, subst}
 use mathlib.Core.List.{List, []}
 use native.Mathlib.Omega.{arith}
-use native.Mathlib.Nat.{zero-add}
-use lib.ListN.{length, replicate}
+use lib.ListN.{replicate}
 use Rattle.table.specs.Stream.{unitsOf, Accepted}
 use Rattle.costs.specs.Instance.{viewOf, instanceOf}
 use Rattle.costs.specs.Laws.{problemOf}
@@ -22,15 +21,14 @@ use Rattle.protocol.specs.Machine as M
 use Rattle.protocol.specs.Machine.{Result}
 use Rattle.protocol.specs.Theorem.{Kept, make-kept}
 use Rattle.protocol.specs.Simulation.Units.{Simulated, start-simulated}
-use Rattle.network.specs.Count.{zeroCount}
-use Rattle.network.specs.Count.Laws.{plus-exact}
 use Rattle.network.specs.Run as R
 use Rattle.network.specs.Calls as C
 use Rattle.network.specs.Calls.{makeRefusal, makeOf}
 use Rattle.network.specs.Demand3.{shedOf, Made, times}
 use Rattle.network.specs.Code.{makeable}
 use Rattle.network.specs.Pool.Stored.{start-stored}
-use Rattle.network.specs.Proof.Invariant.{stream-free, laws, views, Invariant, sized, records-below}
+use Rattle.network.specs.Proof.Core.{stream-free, laws, views, core-starts}
+use Rattle.network.specs.Proof.Invariant.{Invariant, sized}
 
 -- none was handed over by making
 pub none-handed : (s : List ℕ) → R.begin (instanceOf s) .handed ≡ []
@@ -67,18 +65,14 @@ module _ (s pool : List ℕ) (made : Made s pool) where
       go (U.accepted u o ws) res x l k =
           subst (Invariant s accepted-table (shedOf (C.made (unitsOf s) pool (U.accepted u o ws))) (R.begunWith R.cells (instanceOf s) (U.accepted u o ws))) (ap M.made (sym (x .steps)))
           (record {
+            core = core-starts s accepted-table R.cells res u o ws x l (kept .network .safe);
             kept = kept;
-            matches = x .matches;
             reads = x .reads;
             accepted = refl;
-            units = l .units;
             sendable = l .sent;
             few = omega (arith, l .few);
-            balanced = λ t. omega arith;
-            same = refl;
             stored = start-stored (packets (unitsOf s) 0 o) pool (sized s accepted-table (packets (unitsOf s) 0 o) (l .sent)) (omega (arith, l .few)) (makeable s pool no-refusal .1);
-            records = plus-exact (length ws) zeroCount (subst (λ y. y < 2 ^ 64 * 2 ^ 64) (sym (zero-add (length ws))) (records-below s accepted-table (M.made (M.done (x .agent) (x .sent))) kept _ ws (x .matches))) ∙ zero-add (length ws);
-            deliveries = refl;
+            balanced = λ t. omega arith;
           })
         where
           kept : Kept (problemOf (instanceOf s)) (M.made (M.done (x .agent) (x .sent)))

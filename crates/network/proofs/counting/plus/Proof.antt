@@ -9,12 +9,6 @@ use borrow.Author.Needs.{needs}
 use Rattle.network.proofs.counting.plus.Statement.{statement}
 use Rattle.network.proofs.counting.plus.Tie as tie
 
-wrapping-add-u64-requires : tie.Need-wrapping-add-u64-requires
-wrapping-add-u64-requires c κs = search needs
-
-wrapping-add-u64-requires-2 : tie.Need-wrapping-add-u64-requires-2
-wrapping-add-u64-requires-2 c κs = search needs
-
 returns : tie.Need-returns
 unfolding plus
 returns c =
@@ -37,4 +31,4 @@ returns-2 c =
 
 pub plus-spec : {M : Type 1} → statement M
 plus-spec =
-    tie.close (tie.spec wrapping-add-u64-requires wrapping-add-u64-requires-2 returns returns-2)
+    tie.close (tie.spec (λ c κs. search needs) (λ c κs. search needs) returns returns-2)

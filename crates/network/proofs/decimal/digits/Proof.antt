@@ -27,20 +27,8 @@ abbrev μ-loop : tie.MeasureT-loop
 loop-holds : tie.Need-loop-holds Inv-loop μ-loop
 loop-holds c = (search needs, search needs, refl, sym (append-nil (decimal 40 (valueOf (c .args .c)))))
 
-tenth-requires : tie.Need-tenth-requires Inv-loop μ-loop
-tenth-requires c κs = search needs
-
-sub-start : tie.Need-sub-start Inv-loop μ-loop
-sub-start c = search needs
-
 add-text : tie.Need-add-text Inv-loop μ-loop
 add-text c = record { fits = digit-byte (c .before .tenth .result .digit) (c .before .tenth .ensures .1) }
-
-array-write-text : tie.Need-array-write-text Inv-loop μ-loop
-array-write-text c = search needs
-
-is-zero-requires : tie.Need-is-zero-requires Inv-loop μ-loop
-is-zero-requires c κs = search needs
 
 returns : tie.Need-returns Inv-loop μ-loop
 returns c =
@@ -56,9 +44,6 @@ returns c =
           (digit-last (l .text) (l .start) (valueOf (l .rest)) (valueOf (t .result .quotient)) (t .result .digit) (l .inv .1) some (l .inv .0) (t .ensures .0) (t .ensures .1) (l .inv .3) zero),
       most,
     )
-
-loop-less : tie.Need-loop-less Inv-loop μ-loop
-loop-less c = search needs
 
 loop-again : tie.Need-loop-again Inv-loop μ-loop
 loop-again c =
@@ -89,12 +74,12 @@ digits-spec =
     Inv-loop
     μ-loop
     loop-holds
-    tenth-requires
-    sub-start
+    (λ c κs. search needs)
+    (λ c. search needs)
     add-text
-    array-write-text
-    is-zero-requires
+    (λ c. search needs)
+    (λ c κs. search needs)
     returns
-    loop-less
+    (λ c. search needs)
     loop-again
     returns-2)

@@ -6,9 +6,6 @@ use borrow.Author.Needs.{needs}
 use Rattle.network.proofs.delivery.deliver.Statement.{statement}
 use Rattle.network.proofs.delivery.deliver.Tie as tie
 
-deliver-refusal-requires : tie.Need-deliver-refusal-requires
-deliver-refusal-requires c κs = search needs
-
 returns : tie.Need-returns
 returns c =
     let a = c .before .before .before .before .args in
@@ -21,9 +18,6 @@ hand-over-requires c κs =
     let r = c .before .before .deliver-refusal in
     opened (a .net) (a .stream .now) (a .pool .now) (a .cell) (sym (r .ensures (a .pool .now) refl) ∙ c .before .if1 .left)
 
-same-length : tie.Need-same-length
-same-length c = search needs
-
 returns-2 : tie.Need-returns-2
 returns-2 c =
     let a = c .before .before .before .before .before .before .before .before .args in
@@ -34,4 +28,4 @@ returns-2 c =
 
 pub deliver-spec : {M : Type 1} → statement M
 deliver-spec =
-    tie.close (tie.spec deliver-refusal-requires returns hand-over-requires same-length returns-2)
+    tie.close (tie.spec (λ c κs. search needs) returns hand-over-requires (λ c. search needs) returns-2)

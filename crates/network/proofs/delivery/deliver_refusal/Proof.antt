@@ -11,9 +11,6 @@ use Rattle.network.proofs.delivery.deliver_refusal.Tie as tie
 returns : tie.Need-returns
 returns c = λ pool e. let a = c .before .before .args in check-room (a .net) (a .stream .now) pool (a .cell) (omega arith)
 
-stream-refusal-requires : tie.Need-stream-refusal-requires
-stream-refusal-requires c κs = search needs
-
 returns-2 : tie.Need-returns-2
 returns-2 c = λ pool e. let a = c .before .before .before .before .args in check-table (a .net) (a .stream .now) pool (a .cell) (omega arith) (c .before .stream-refusal .result) (c .before .stream-refusal .ensures) (c .if2 .taken)
 
@@ -26,9 +23,6 @@ returns-3 c = λ pool e. let a = c .before .before .before .before .before .befo
 
 returns-4 : tie.Need-returns-4
 returns-4 c = λ pool e. let a = c .before .before .before .before .before .before .before .before .before .before .args in check-count (a .net) (a .stream .now) pool (a .cell) (omega arith) (sym (c .before .before .before .before .before .before .before .stream-refusal .ensures) ∙ c .before .before .before .before .before .before .if2 .left) (sym (c .before .before .before .units-in-range .ensures) ∙ not-false _ (c .before .before .if3 .left)) (omega arith)
-
-array-copy-out-first : tie.Need-array-copy-out-first
-array-copy-out-first c = search needs
 
 returns-5 : tie.Need-returns-5
 returns-5 c = λ pool e. let a = c .before .before .before .before .before .before .before .before .before .before .before .before .args in check-stopped (a .net) (a .stream .now) pool (a .cell) (omega arith) (sym (c .before .before .before .before .before .before .before .before .before .stream-refusal .ensures) ∙ c .before .before .before .before .before .before .before .before .if2 .left) (sym (c .before .before .before .before .before .units-in-range .ensures) ∙ not-false _ (c .before .before .before .before .if3 .left)) (omega arith) (c .if5 .taken)
@@ -44,12 +38,12 @@ deliver-refusal-spec =
     tie.close
     (tie.spec
     returns
-    stream-refusal-requires
+    (λ c κs. search needs)
     returns-2
     units-in-range-requires
     returns-3
     returns-4
-    array-copy-out-first
+    (λ c. search needs)
     returns-5
     returns-6
     returns-7)

@@ -8,12 +8,6 @@ use borrow.Author.Needs.{needs}
 use Rattle.network.proofs.delivery.receiver.Statement.{statement}
 use Rattle.network.proofs.delivery.receiver.Tie as tie
 
-byte-at-requires : tie.Need-byte-at-requires
-byte-at-requires c κs = search needs
-
-is-unit-requires : tie.Need-is-unit-requires
-is-unit-requires c κs = search needs
-
 returns : tie.Need-returns
 returns c =
     let a = c .before .before .before .before .args in
@@ -29,4 +23,4 @@ returns-2 c =
     (rw t, λ j. omega (arith, c .before .before .before .shared-slice-known .given j))
 
 pub receiver-spec : {M : Type 1} → statement M
-receiver-spec = tie.close (tie.spec byte-at-requires is-unit-requires returns returns-2)
+receiver-spec = tie.close (tie.spec (λ c κs. search needs) (λ c κs. search needs) returns returns-2)

@@ -11,24 +11,6 @@ use Rattle.network.specs.Code.{lent-count, lent-front, step-told}
 use Rattle.network.proofs.delivery.step.Statement.{statement}
 use Rattle.network.proofs.delivery.step.Tie as tie
 
-byte-at-requires : tie.Need-byte-at-requires
-byte-at-requires c κs = search needs
-
-sizes-of-requires : tie.Need-sizes-of-requires
-sizes-of-requires c κs = search needs
-
-slice-aggregate-gather : tie.Need-slice-aggregate-gather
-slice-aggregate-gather c = search needs
-
-gather-requires : tie.Need-gather-requires
-gather-requires c κs = search needs
-
-sub-step : tie.Need-sub-step
-sub-step c = search needs
-
-part-step-start : tie.Need-part-step-start
-part-step-start c = search needs
-
 part-step-end : tie.Need-part-step-end
 part-step-end c =
     let z = c .before .before .before .before .before .before .before .before .before in
@@ -36,12 +18,6 @@ part-step-end c =
     let g = c .before .before .gather in
     let h : g .result ≤ 7680 = lent-count s (z .pre .0 .table) (z .args .own) (z .pre .0 .first) (z .pre .0 .last) 7680 (g .result) (omega arith) (g .ensures .0) in
     search needs
-
-step-requires : tie.Need-step-requires
-step-requires c κs = search needs
-
-same-length : tie.Need-same-length
-same-length c = search needs
 
 -- what the type says of the state
 arrays : (c : tie.Start) → SizedUnit (c .args .u)
@@ -65,13 +41,13 @@ pub step-spec : {M : Type 1} → statement M
 step-spec =
     tie.close
     (tie.spec
-    byte-at-requires
-    sizes-of-requires
-    slice-aggregate-gather
-    gather-requires
-    sub-step
-    part-step-start
+    (λ c κs. search needs)
+    (λ c κs. search needs)
+    (λ c. search needs)
+    (λ c κs. search needs)
+    (λ c. search needs)
+    (λ c. search needs)
     part-step-end
-    step-requires
-    same-length
+    (λ c κs. search needs)
+    (λ c. search needs)
     returns)

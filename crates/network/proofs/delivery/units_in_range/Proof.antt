@@ -21,29 +21,11 @@ Inv-loop stream units n sizes k₀ k = (k ≤ n) × (n ≡ unitsOf stream) × (n
 abbrev μ-loop : tie.MeasureT-loop
 μ-loop stream units n sizes k₀ k = n - k
 
-byte-at-requires : tie.Need-byte-at-requires Inv-loop μ-loop
-byte-at-requires c κs = search needs
-
-sizes-of-requires : tie.Need-sizes-of-requires Inv-loop μ-loop
-sizes-of-requires c κs = search needs
-
 loop-holds : tie.Need-loop-holds Inv-loop μ-loop
 loop-holds c =
     let s = c .before .before .before .args .stream .now in
     let n : c .before .byte-at .result ≡ unitsOf s = c .before .byte-at .ensures in
     (omega arith, n, omega (arith, accepted-units s (c .before .before .before .pre) .1), c .sizes-of .ensures, refl)
-
-cast-unit : tie.Need-cast-unit Inv-loop μ-loop
-cast-unit c = search needs
-
-mul-unit : tie.Need-mul-unit Inv-loop μ-loop
-mul-unit c = search needs
-
-array-copy-out-unit : tie.Need-array-copy-out-unit Inv-loop μ-loop
-array-copy-out-unit c = search needs
-
-unit-in-range-requires : tie.Need-unit-in-range-requires Inv-loop μ-loop
-unit-in-range-requires c κs = search needs
 
 -- what the unit's own function said
 found : (c : tie.After-unit-in-range Inv-loop μ-loop) → let a = c .before .before .before .before .before .before .before .args in c .unit-in-range .result ≡ unitInRange (a .stream .now) (a .t1) (c .before .before .before .loop .k)
@@ -58,12 +40,6 @@ returns c =
     let a = c .before .before .before .before .before .before .before .before .args in
     let l = c .before .before .before .before .loop in
     sym (every-not (unitInRange (a .stream .now) (a .t1)) (unitsOf (a .stream .now)) (l .k) (omega arith) (sym (found (c .before)) ∙ not-true _ (c .if1 .taken)))
-
-add-k : tie.Need-add-k Inv-loop μ-loop
-add-k c = search needs
-
-loop-less : tie.Need-loop-less Inv-loop μ-loop
-loop-less c = search needs
 
 loop-again : tie.Need-loop-again Inv-loop μ-loop
 loop-again c =
@@ -84,15 +60,15 @@ units-in-range-spec =
     (tie.spec
     Inv-loop
     μ-loop
-    byte-at-requires
-    sizes-of-requires
+    (λ c κs. search needs)
+    (λ c κs. search needs)
     loop-holds
-    cast-unit
-    mul-unit
-    array-copy-out-unit
-    unit-in-range-requires
+    (λ c. search needs)
+    (λ c. search needs)
+    (λ c. search needs)
+    (λ c κs. search needs)
     returns
-    add-k
-    loop-less
+    (λ c. search needs)
+    (λ c. search needs)
     loop-again
     returns-2)

@@ -11,24 +11,6 @@ use borrow.Author.Needs.{needs}
 use Rattle.network.proofs.making.first_step.Statement.{statement}
 use Rattle.network.proofs.making.first_step.Tie as tie
 
-byte-at-requires : tie.Need-byte-at-requires
-byte-at-requires c κs = search needs
-
-sizes-of-requires : tie.Need-sizes-of-requires
-sizes-of-requires c κs = search needs
-
-slice-aggregate-gather : tie.Need-slice-aggregate-gather
-slice-aggregate-gather c = search needs
-
-gather-requires : tie.Need-gather-requires
-gather-requires c κs = search needs
-
-sub-make : tie.Need-sub-make
-sub-make c = search needs
-
-part-make-start : tie.Need-part-make-start
-part-make-start c = search needs
-
 part-make-end : tie.Need-part-make-end
 part-make-end c =
     let z = c .before .before .before .before .before .before .before .before in
@@ -36,12 +18,6 @@ part-make-end c =
     let g = c .before .before .gather in
     let h : g .result ≤ 7680 = lent-count s (z .pre .0) 1 (omega arith) (accepted-units s (z .pre .0) .0) 7680 (g .result) (omega arith) (g .ensures .0) in
     search needs
-
-make-requires : tie.Need-make-requires
-make-requires c κs = search needs
-
-same-length : tie.Need-same-length
-same-length c = search needs
 
 returns : tie.Need-returns
 returns c =
@@ -57,13 +33,13 @@ pub first-step-spec : {M : Type 1} → statement M
 first-step-spec =
     tie.close
     (tie.spec
-    byte-at-requires
-    sizes-of-requires
-    slice-aggregate-gather
-    gather-requires
-    sub-make
-    part-make-start
+    (λ c κs. search needs)
+    (λ c κs. search needs)
+    (λ c. search needs)
+    (λ c κs. search needs)
+    (λ c. search needs)
+    (λ c. search needs)
     part-make-end
-    make-requires
-    same-length
+    (λ c κs. search needs)
+    (λ c. search needs)
     returns)

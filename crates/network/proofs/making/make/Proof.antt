@@ -5,12 +5,6 @@ use borrow.Author.Needs.{needs}
 use Rattle.network.proofs.making.make.Statement.{statement}
 use Rattle.network.proofs.making.make.Tie as tie
 
-make-refusal-requires : tie.Need-make-refusal-requires
-make-refusal-requires c κs = search needs
-
-refused-requires : tie.Need-refused-requires
-refused-requires c κs = search needs
-
 returns : tie.Need-returns
 returns c =
     let a = c .before .before .before .before .before .args in
@@ -24,12 +18,6 @@ first-step-requires c κs =
     let r = c .before .before .make-refusal in
     makeable (a .stream .now) (a .pool .now) (sym (r .ensures (a .pool .now) refl) ∙ c .before .if1 .left)
 
-begun-requires : tie.Need-begun-requires
-begun-requires c κs = search needs
-
-same-length : tie.Need-same-length
-same-length c = search needs
-
 returns-2 : tie.Need-returns-2
 returns-2 c =
     let a = c .before .before .before .before .before .before .before .before .before .args in
@@ -42,10 +30,10 @@ pub make-spec : {M : Type 1} → statement M
 make-spec =
     tie.close
     (tie.spec
-    make-refusal-requires
-    refused-requires
+    (λ c κs. search needs)
+    (λ c κs. search needs)
     returns
     first-step-requires
-    begun-requires
-    same-length
+    (λ c κs. search needs)
+    (λ c. search needs)
     returns-2)

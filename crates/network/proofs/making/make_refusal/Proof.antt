@@ -6,9 +6,6 @@ use borrow.Author.Needs.{needs}
 use Rattle.network.proofs.making.make_refusal.Statement.{statement}
 use Rattle.network.proofs.making.make_refusal.Tie as tie
 
-stream-refusal-requires : tie.Need-stream-refusal-requires
-stream-refusal-requires c κs = search needs
-
 returns : tie.Need-returns
 returns c = λ pool e. make-table (c .before .before .before .args .stream .now) pool (c .before .stream-refusal .result) (c .before .stream-refusal .ensures) (c .if1 .taken)
 
@@ -19,4 +16,4 @@ returns-3 : tie.Need-returns-3
 returns-3 c = λ pool e. make-none (c .before .before .before .before .args .stream .now) pool (sym (c .before .before .stream-refusal .ensures) ∙ c .before .if1 .left) (omega arith)
 
 pub make-refusal-spec : {M : Type 1} → statement M
-make-refusal-spec = tie.close (tie.spec stream-refusal-requires returns returns-2 returns-3)
+make-refusal-spec = tie.close (tie.spec (λ c κs. search needs) returns returns-2 returns-3)

@@ -18,12 +18,6 @@ Inv-loop stream pool₀ net₀ pool net = (length pool ≡ length pool₀) × Af
 abbrev μ-loop : tie.MeasureT-loop
 μ-loop stream pool₀ net₀ pool net = most (instanceOf stream) - valueOf (net .core .deliveries)
 
-make-requires : tie.Need-make-requires Inv-loop μ-loop
-make-requires c κs = search needs
-
-same-length : tie.Need-same-length Inv-loop μ-loop
-same-length c = search needs
-
 returns : tie.Need-returns Inv-loop μ-loop
 returns c =
     let a = c .before .before .before .before .before .before .before .before .args in
@@ -35,12 +29,6 @@ loop-holds c =
     let a = c .before .before .before .before .before .before .before .before .before .args in
     let k = c .before .before .before .before .before .make in
     (refl, reached-start (a .stream .now) (a .pool .now) (k .result) (k .last .1 .0) (k .ensures) (c .before .if1 .left))
-
-has-stopped-requires : tie.Need-has-stopped-requires Inv-loop μ-loop
-has-stopped-requires c κs = search needs
-
-deliver-requires : tie.Need-deliver-requires Inv-loop μ-loop
-deliver-requires c κs = search needs
 
 loop-less : tie.Need-loop-less Inv-loop μ-loop
 loop-less c =
@@ -62,9 +50,6 @@ loop-again c =
           (sym (c .before .before .before .before .before .before .has-stopped .ensures) ∙ not-true (c .before .before .before .before .before .before .has-stopped .result) (c .before .before .before .before .before .if2 .taken)),
     )
 
-same-length-2 : tie.Need-same-length-2 Inv-loop μ-loop
-same-length-2 c = search needs
-
 returns-2 : tie.Need-returns-2 Inv-loop μ-loop
 returns-2 c =
     let a = c .before .before .before .before .before .before .before .before .before .before .before .before .args in
@@ -73,4 +58,4 @@ returns-2 c =
     settle-stopped (a .stream .now) (a .pool .now) (k .result) (k .last .1 .0) (k .ensures) (c .before .before .before .before .if1 .left) (l .net) (l .pool) (l .inv .1) (sym (c .before .has-stopped .ensures) ∙ not-false (c .before .has-stopped .result) (c .if2 .left))
 
 pub settle-spec : {M : Type 1} → statement M
-settle-spec = tie.close (tie.spec Inv-loop μ-loop make-requires same-length returns loop-holds has-stopped-requires deliver-requires loop-less loop-again same-length-2 returns-2)
+settle-spec = tie.close (tie.spec Inv-loop μ-loop (λ c κs. search needs) (λ c. search needs) returns loop-holds (λ c κs. search needs) (λ c κs. search needs) loop-less loop-again (λ c. search needs) returns-2)

@@ -1,0 +1,138 @@
+-- The units and counts of a network, on bytes, over messages and in the machine (`CoreFollows`), whatever pool their packets wait in: unit 1's making gives it
+-- (`core-starts`), and a packet handed to its unit keeps it (`core-steps`). And a packet that can be written reads back from its bytes as itself.
+-- In order: an accepted table; a packet and its bytes; the core; the counts; making and a step.
+-- Assumes nothing.
+use Prim.Native.Nat.{ℕ, _+_, _*_, _^_, _≤_, _<_}
+use mathlib.Core.Path.{_≡_, refl, sym, ap, _∙_, subst}
+use mathlib.Core.Bool.{Bool, true, false, cond, _&&_}
+use mathlib.Core.List.{List, [], _∷_, _++_}
+use native.Mathlib.Omega.{arith}
+use native.Mathlib.Nat.{zero-add}
+use lib.Dec.{ltb}
+use lib.ListN.{length, getD, set, take, drop, replicate, length-append}
+use Rattle.table.specs.Stream.{unitsOf, Accepted}
+use Rattle.table.specs.StreamLaws.{accepted-units}
+use Rattle.costs.specs.Instance.{viewOf, instanceOf, isValue}
+use Rattle.costs.specs.Laws.{laws-of, problemOf}
+use Rattle.costs.specs.Laws.Stream.{sound-of}
+use Rattle.costs.specs.Gather.{sizesIn}
+use Rattle.costs.specs.Gather.Sizes.{length-sizes, sizes-at, accepted-sizes-good}
+use Rattle.message.specs.declared.Parsed.{Parsed}
+use Rattle.message.specs.Message.{Packet, isUnit}
+use Rattle.message.specs.RoundTrip.{parse-encode, receiver-of-encode}
+use Rattle.unit.specs.declared.Unit.{Unit as UnitState}
+use Rattle.unit.specs.declared.Sending.{Sending}
+use Rattle.unit.specs.State.{fresh}
+use Rattle.unit.specs.Step as U
+use Rattle.unit.specs.Step.{Written}
+use Rattle.unit.specs.Send.{packets}
+use Rattle.unit.specs.Calls.{onRead}
+use Rattle.unit.specs.Units.{unitAt, placeOf, stepOn}
+use Rattle.unit.specs.Laws.Views.{GoodView, view-good}
+use Rattle.unit.specs.Laws.Packets.{Sendable}
+use Rattle.unit.specs.Laws.Units.{AllInRange, Leaves, receiver-unit}
+use Rattle.protocol.specs.Problem.{Laws}
+use Rattle.protocol.specs.Machine as M
+use Rattle.protocol.specs.Machine.{Msg, to, Agent, Result}
+use Rattle.protocol.specs.Safety.Logs.{Safe}
+use Rattle.protocol.specs.Count.Width.{records-fit}
+use Rattle.protocol.specs.Simulation.Relations.{Reads}
+use Rattle.protocol.specs.Simulation.Step.{FreeWhenUnassigned}
+use Rattle.protocol.specs.Simulation.Units.{read-to, Matches, StepsTo}
+use Rattle.network.specs.declared.Core.{Core}
+use Rattle.network.specs.Count.{zeroCount, valueOf, plus}
+use Rattle.network.specs.Count.Laws.{plus-exact}
+use Rattle.network.specs.Run.{Pool, HistoryOf, after, begunWith}
+use Rattle.network.specs.Calls.{receiverOf, stepFrom8, coreAfter}
+use Rattle.network.specs.Demand3.{packetBytes}
+
+-- ---- an accepted table
+
+-- a unit without a value costs nothing
+pub stream-free : (s : List ℕ) → FreeWhenUnassigned (instanceOf s)
+unfolding instanceOf
+stream-free s i u j = never _ (ltb i j) (ltb j (getD s 0 0)) (isValue (getD (take (getD s 0 0) (drop 1 s)) i 0) u)
+  where
+    never : (x : ℕ) (a b c : Bool) → cond (a && b && c && false) x 0 ≡ 0
+    never x true true true = refl
+    never x true true false = refl
+    never x true false c = refl
+    never x false b c = refl
+
+-- the units and counts follow: those of H, which are the machine's units us
+pub record CoreFollows {W : Type 0} (s : List ℕ) (core : Core) (H : HistoryOf W) (us : ℕ → Agent) : Type 0 where
+  pub matches : Matches (instanceOf s) (H .units) (H .written) us
+  pub units : AllInRange (instanceOf s) (sizesIn s) (H .units)
+  pub same : core .units ≡ H .units
+  pub records : valueOf (core .records) ≡ length (H .written)
+  pub deliveries : valueOf (core .deliveries) ≡ length (H .handed)
+
+module _ (s : List ℕ) (ok : Accepted s) where
+  pub laws : Laws (problemOf (instanceOf s))
+  laws = laws-of (instanceOf s) (sound-of s ok)
+
+  pub views : (k : ℕ) → k < instanceOf s .n → GoodView (instanceOf s .n) (sizesIn s) (viewOf (instanceOf s) k)
+  unfolding instanceOf
+  views k lt =
+      let n16 : unitsOf s ≤ 16 = accepted-units s ok .1 in
+      view-good (instanceOf s) (sizesIn s) k (sound-of s ok) (accepted-sizes-good s ok) (omega (arith, length-sizes s, n16)) lt (sym (sizes-at s k (omega (arith, lt, n16))))
+
+  -- ---- a packet that can be written, and its bytes
+
+  module _ (p : Packet) (w : Sendable (instanceOf s .n) (sizesIn s) p) where
+    pub receiver-is : receiverOf (unitsOf s) (packetBytes p) ≡ p .message .receiver
+    unfolding instanceOf
+    receiver-is =
+        ap (λ r. cond (isUnit (unitsOf s) r) r 1) (receiver-of-encode (p .kind) (p .message) (w .arrays))
+        ∙ ap (λ t. cond t (p .message .receiver) 1) (receiver-unit (unitsOf s) (sizesIn s) p w)
+
+    pub step-is : (us : List UnitState) → stepFrom8 s us (p .message .receiver) (packetBytes p) ≡ stepOn (instanceOf s) us p
+    unfolding stepFrom8 instanceOf
+    step-is us =
+        ap (λ (q : Parsed). onRead (viewOf (instanceOf s) (placeOf p)) (unitAt us (placeOf p)) (q .answer) (q .message))
+        (parse-encode (unitsOf s) (sizesIn s) (p .kind) (p .message) (accepted-sizes-good s ok) (w .address) (w .form) (w .arrays))
+
+  -- ---- the records fit two words
+
+  records-below : (us : ℕ → Agent) → Safe (problemOf (instanceOf s)) us → (hs : List UnitState) (W : List Written) → Matches (instanceOf s) hs W us → length W < 2 ^ 64 * 2 ^ 64
+  records-below us safe hs W m = subst (λ x. x < 2 ^ 128) (sym (m .whole)) (records-fit (problemOf (instanceOf s)) laws us safe (sound-of s ok .n16))
+
+  -- ---- making: unit 1 gave u, o and ws
+
+  pub core-starts : {W : Type 0} (L : Pool W) (res : Result) (u : UnitState) (o : Sending) (ws : List Written) (x : StepsTo (instanceOf s) (replicate 16 fresh) [] (λ k. M.fresh) 0 res u o ws)
+      → Leaves (instanceOf s) (sizesIn s) (replicate 16 fresh) 0 u o ws → Safe (problemOf (instanceOf s)) (M.put (λ k. M.fresh) 0 (x .agent))
+      → CoreFollows s (record { units = set (replicate 16 fresh) 0 u; records = plus (length ws) zeroCount; deliveries = zeroCount }) (begunWith L (instanceOf s) (U.accepted u o ws)) (M.put (λ k. M.fresh) 0 (x .agent))
+  core-starts L res u o ws x l safe =
+      record {
+        matches = x .matches;
+        units = l .units;
+        same = refl;
+        records = plus-exact (length ws) zeroCount (subst (λ y. y < 2 ^ 64 * 2 ^ 64) (sym (zero-add (length ws))) (records-below (M.put (λ k. M.fresh) 0 (x .agent)) safe _ ws (x .matches))) ∙ zero-add (length ws);
+        deliveries = refl;
+      }
+
+  -- ---- a step: the packet p, which reads as m, was handed to its unit, which gave u, o and ws
+
+  pub core-steps : {W : Type 0} (core : Core) (H : HistoryOf W) (us : ℕ → Agent) → CoreFollows s core H us → (p : Packet) (m : Msg) → Reads (instanceOf s) p m → (res : Result) (u : UnitState) (o : Sending) (ws : List Written)
+      (x : StepsTo (instanceOf s) (H .units) (H .written) us (placeOf p) res u o ws) → Leaves (instanceOf s) (sizesIn s) (H .units) (placeOf p) u o ws
+      → Safe (problemOf (instanceOf s)) (M.put us (to m) (x .agent)) → length (H .handed ++ (p ∷ [])) < 2 ^ 64 * 2 ^ 64 → (w : W)
+      → CoreFollows s (coreAfter core (p .message .receiver) u (length ws)) (after H p u (packets (instanceOf s .n) (placeOf p) o) ws w) (M.put us (to m) (x .agent))
+  core-steps core H us f p m rd res u o ws x l safe below w =
+      record {
+        matches = matched;
+        units = l .units;
+        same = ap (λ hs. set hs (placeOf p) u) (f .same);
+        records =
+            plus-exact (length ws) (core .records) (subst (λ y. y < 2 ^ 64 * 2 ^ 64) (sym count-records) (records-below (M.put us (to m) (x .agent)) safe (set (H .units) (placeOf p) u) (H .written ++ ws) matched))
+            ∙ count-records;
+        deliveries = plus-exact 1 (core .deliveries) (subst (λ y. y < 2 ^ 64 * 2 ^ 64) (sym count-deliveries) below) ∙ count-deliveries;
+      }
+    where
+      matched : Matches (instanceOf s) (set (H .units) (placeOf p) u) (H .written ++ ws) (M.put us (to m) (x .agent))
+      matched = subst (λ k. Matches (instanceOf s) (set (H .units) (placeOf p) u) (H .written ++ ws) (M.put us k (x .agent))) (read-to (instanceOf s) p m rd) (x .matches)
+
+      count-records : valueOf (core .records) + length ws ≡ length (H .written ++ ws)
+      count-records = ap (λ y. y + length ws) (f .records) ∙ sym (length-append (H .written) ws)
+
+      count-deliveries : valueOf (core .deliveries) + 1 ≡ length (H .handed ++ (p ∷ []))
+      count-deliveries = ap (λ y. y + 1) (f .deliveries) ∙ sym (length-append (H .handed) (p ∷ []))
