@@ -9,6 +9,7 @@ use lib.Dec.{ltb, leb, eqb}
 use lib.ListN.{length, take, drop, replicate}
 use Rattle.base.specs.Shape.{shapeGood}
 use Rattle.table.specs.Stream.{unitsOf, sizesOf, needed}
+use Rattle.costs.specs.declared.Seat.{Seat}
 use Rattle.costs.specs.Instance.{domIn, isValue, pairStart}
 pub mod Sizes
 pub mod Laws
@@ -67,9 +68,9 @@ gatherInto s own l = cond (gatherable s own (length l)) (gathered s own ++ drop 
 abbrev pub putAt : List ℕ → ℕ → List ℕ → List ℕ
 putAt d at m = take at d ++ m ++ drop (at + length m) d
 
--- n and the array of sizes are those of a stream that is long enough for them
-pub record ShapeOf (s : List ℕ) (n : ℕ) (sizes : List ℕ) : Type 0 where
-  pub units : n ≡ unitsOf s
-  pub array : sizes ≡ sizesIn s
-  pub most : n ≤ 16
+-- n and the sizes of a seat are those of a stream that is long enough for them
+pub record SeatIn (s : List ℕ) (seat : Seat) : Type 0 where
+  pub units : seat .n ≡ unitsOf s
+  pub array : seat .sizes ≡ sizesIn s
+  pub most : seat .n ≤ 16
   pub long : needed s ≤ length s

@@ -8,6 +8,7 @@ use lib.Dec.{ltb, leb, eqb}
 use lib.ListN.{getD, take, drop}
 use Rattle.base.specs.Bytes.{u16At}
 use Rattle.base.specs.Sums.{sumFrom, sumTo}
+use Rattle.costs.specs.declared.Seat.{Seat}
 
 -- ---- the instance
 
@@ -84,3 +85,10 @@ unfoldable pub lentView : ℕ → ℕ → List ℕ → List ℕ → View
 lentView own n sizes costs =
     let dom = domIn n sizes in
     record { place = pred own; n = n; dom = dom; pair = lentCost n dom (pred own) costs }
+
+-- The same of a unit's seat, which holds the first three; and the domain sizes there.
+abbrev pub domFrom : Seat → ℕ → ℕ
+domFrom seat = domIn (seat .n) (seat .sizes)
+
+abbrev pub viewFrom : Seat → List ℕ → View
+viewFrom seat costs = lentView (seat .own) (seat .n) (seat .sizes) costs

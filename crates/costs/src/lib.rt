@@ -11,16 +11,24 @@ ghost use mathlib.Core.Bool.{cond};
 ghost use Prim.Native.Nat.{_+_, _*_, _≤_, pred, min};
 ghost use lib.Dec.{eqb};
 ghost use lib.ListN.{getD};
-ghost use Rattle.costs.specs.Instance.{domIn, isValue, inPair, costNumber, lentView};
+ghost use Rattle.costs.specs.Instance.{domFrom, isValue, inPair, costNumber, viewFrom};
 ghost use Rattle.costs.specs.Bounds.{costWith, h, estimate};
 ghost use Rattle.costs.specs.Lent.{lentCostsGood, lentCount, lentRefusal};
-ghost use Rattle.costs.specs.Lent.Parts.{viewAt, othersBefore, pairFrom, leastRun};
+ghost use Rattle.costs.specs.Lent.Parts.{othersBefore, pairFrom, leastRun};
 
-// Refusal 6 or 7 of the costs lent with unit `own`, or 0.
-pub fn lent_refusal(own: u8, n: u8, sizes: [u8; 16], costs: &[u8]) -> u8
-    ensures { λ r. ⌜ r ≡ lentRefusal own n sizes (now (costs .entry)) ⌝ }
+// Where a unit sits: its own number, 1 to n, among n units with these domain sizes; places past n are not looked at.
+// The costs that touch it are lent beside it.
+pub struct Seat {
+    pub own: u8,
+    pub n: u8,
+    pub sizes: [u8; 16],
+}
+
+// Refusal 6 or 7 of the costs lent with the unit, or 0.
+pub fn lent_refusal(seat: Seat, costs: &[u8]) -> u8
+    ensures { λ r. ⌜ r ≡ lentRefusal (seat .own) (seat .n) (seat .sizes) (now (costs .entry)) ⌝ }
 {
-    let count = lent_count(own, n, sizes);
+    let count = lent_count(seat);
     if costs.len() != 2 * count {
         return 6;
     }
@@ -31,48 +39,35 @@ pub fn lent_refusal(own: u8, n: u8, sizes: [u8; 16], costs: &[u8]) -> u8
 }
 
 // The cost of own value v with the values of the first k units.
-pub fn cost_with(
-    own: u8,
-    n: u8,
-    sizes: [u8; 16],
-    costs: &[u8],
-    values: [u8; 16],
-    k: u8,
-    v: u8,
-) -> u32
-    ensures { λ r. ⌜ r ≡ costWith (lentView own n sizes (now (costs .entry))) values k v ⌝ }
+pub fn cost_with(seat: Seat, costs: &[u8], values: [u8; 16], k: u8, v: u8) -> u32
+    ensures { λ r. ⌜ r ≡ costWith (viewFrom seat (now (costs .entry))) values k v ⌝ }
 {
-    let place = place_of(own);
-    prefix_cost(place, n, sizes, costs, values, wide(k), wide(v))
+    prefix_cost(seat, costs, values, wide(k), wide(v))
 }
 
 // The lookahead bound: over later units, the least cost of own value v with any value of that unit.
-pub fn h(own: u8, n: u8, sizes: [u8; 16], costs: &[u8], v: u8) -> u32
-    ensures { λ r. ⌜ r ≡ h (lentView own n sizes (now (costs .entry))) v ⌝ }
+pub fn h(seat: Seat, costs: &[u8], v: u8) -> u32
+    ensures { λ r. ⌜ r ≡ h (viewFrom seat (now (costs .entry))) v ⌝ }
 {
-    let place = place_of(own);
-    let before = others_before(n, sizes, place, place + 1);
-    later_cost(place, n, sizes, costs, before, wide(v))
+    later_cost(seat, costs, wide(v))
 }
 
 // The least, over own values, of the cost with the values of the first k units and the lookahead bound.
-pub fn estimate(own: u8, n: u8, sizes: [u8; 16], costs: &[u8], values: [u8; 16], k: u8) -> u32
-    ensures { λ r. ⌜ r ≡ estimate (lentView own n sizes (now (costs .entry))) values k ⌝ }
+pub fn estimate(seat: Seat, costs: &[u8], values: [u8; 16], k: u8) -> u32
+    ensures { λ r. ⌜ r ≡ estimate (viewFrom seat (now (costs .entry))) values k ⌝ }
 {
-    let place = place_of(own);
-    if size_of(n, sizes, place) == 0 {
+    let d = size_of(seat, place_of(seat));
+    if d == 0 {
         return 0;
     }
-    let before = others_before(n, sizes, place, place + 1);
-    least_cost(place, n, sizes, costs, values, wide(k), before)
+    least_cost(seat, costs, values, wide(k), d)
 }
 
-// How many costs touch unit `own`.
-fn lent_count(own: u8, n: u8, sizes: [u8; 16]) -> usize
-    ensures { λ r. ⌜ (r ≡ lentCount own n sizes) × (r ≤ 16777216) ⌝ }
+// How many costs touch the unit.
+fn lent_count(seat: Seat) -> usize
+    ensures { λ r. ⌜ (r ≡ lentCount (seat .own) (seat .n) (seat .sizes)) × (r ≤ 16777216) ⌝ }
 {
-    let place = place_of(own);
-    size_of(n, sizes, place) * others_before(n, sizes, place, wide(n))
+    size_of(seat, place_of(seat)) * others_before(seat, wide(seat.n))
 }
 
 // Whether the first m costs are at most 60,000.
@@ -90,28 +85,21 @@ fn costs_good(costs: &[u8], m: usize) -> bool
     true
 }
 
-// The cost of value v of the unit at `place` with the values of the first k units.
-fn prefix_cost(
-    place: usize,
-    n: u8,
-    sizes: [u8; 16],
-    costs: &[u8],
-    values: [u8; 16],
-    k: usize,
-    v: usize,
-) -> u32
+// The cost of own value v with the values of the first k units.
+fn prefix_cost(seat: Seat, costs: &[u8], values: [u8; 16], k: usize, v: usize) -> u32
     requires { ⌜ k ≤ 255 ⌝ }
-    ensures { λ r. ⌜ (r ≡ costWith (viewAt place n sizes (now (costs .entry))) values k v) × (r ≤ 65535 * k) ⌝ }
+    ensures { λ r. ⌜ (r ≡ costWith (viewFrom seat (now (costs .entry))) values k v) × (r ≤ 65535 * k) ⌝ }
 {
-    let d = size_of(n, sizes, place);
+    let place = place_of(seat);
+    let d = size_of(seat, place);
     let mut sum: u32 = 0;
     let mut before = 0;
     let mut j = 0;
     while j < k {
-        let e = size_of(n, sizes, j);
+        let e = size_of(seat, j);
         let u = value_at(values, j);
         sum += pair_cost(costs, place, j, d, e, before, u, v);
-        before += other_size(n, sizes, place, j);
+        before += other_size(seat, j);
         j += 1;
     }
     sum
@@ -155,23 +143,23 @@ fn cost_number(costs: &[u8], start: usize, d: usize, u: usize, v: usize) -> u32
     base::u16_at(costs, 2 * (start + ((u - 1) * d + (v - 1))))
 }
 
-// The lookahead bound of value v of the unit at `place`; the others up to there have `before` values together.
-fn later_cost(place: usize, n: u8, sizes: [u8; 16], costs: &[u8], before: usize, v: usize) -> u32
-    requires { ⌜ (place ≤ 254) × (before ≡ othersBefore n sizes place (place + 1)) × (before ≤ 255 * (place + 1)) ⌝ }
-    ensures { λ r. ⌜ (r ≡ h (viewAt place n sizes (now (costs .entry))) v) × (r ≤ 16711425) ⌝ }
+// The lookahead bound of own value v.
+fn later_cost(seat: Seat, costs: &[u8], v: usize) -> u32
+    ensures { λ r. ⌜ (r ≡ h (viewFrom seat (now (costs .entry))) v) × (r ≤ 16711425) ⌝ }
 {
-    let d = size_of(n, sizes, place);
+    let place = place_of(seat);
+    let d = size_of(seat, place);
     if !is_value(d, v) {
         return 0;
     }
-    let count = wide(n);
+    let count = wide(seat.n);
+    let mut before = others_before(seat, place + 1);
     let mut sum: u32 = 0;
-    let mut passed = before;
     let mut j = place + 1;
     while j < count {
-        let e = size_of(n, sizes, j);
-        sum += least_run(costs, d * passed + (v - 1) * e, e);
-        passed += e;
+        let e = size_of(seat, j);
+        sum += least_run(costs, d * before + (v - 1) * e, e);
+        before += e;
         j += 1;
     }
     sum
@@ -194,48 +182,26 @@ fn least_run(costs: &[u8], start: usize, e: usize) -> u32
     best
 }
 
-// The least, over the values of the unit at `place`, which has one, of prefix cost and lookahead bound.
-fn least_cost(
-    place: usize,
-    n: u8,
-    sizes: [u8; 16],
-    costs: &[u8],
-    values: [u8; 16],
-    k: usize,
-    before: usize,
-) -> u32
-    requires { ⌜ (k ≤ 255) × (place ≤ 254) × (before ≡ othersBefore n sizes place (place + 1)) × (before ≤ 255 * (place + 1)) × (1 ≤ domIn n sizes place) ⌝ }
-    ensures { λ r. ⌜ r ≡ estimate (viewAt place n sizes (now (costs .entry))) values k ⌝ }
+// The least, over own values up to d, of the cost with the first k units and the lookahead bound.
+fn least_cost(seat: Seat, costs: &[u8], values: [u8; 16], k: usize, d: usize) -> u32
+    requires { ⌜ (k ≤ 255) × (1 ≤ d) × (d ≡ domFrom seat (pred (seat .own))) ⌝ }
+    ensures { λ r. ⌜ r ≡ estimate (viewFrom seat (now (costs .entry))) values k ⌝ }
 {
-    let d = size_of(n, sizes, place);
-    let mut best = value_cost(place, n, sizes, costs, values, k, before, 1);
+    let mut best = value_cost(seat, costs, values, k, 1);
     let mut v = 1;
     while v < d {
         v += 1;
-        best = lesser(
-            best,
-            value_cost(place, n, sizes, costs, values, k, before, v),
-        );
+        best = lesser(best, value_cost(seat, costs, values, k, v));
     }
     best
 }
 
-// Prefix cost and lookahead bound of value v of the unit at `place`.
-fn value_cost(
-    place: usize,
-    n: u8,
-    sizes: [u8; 16],
-    costs: &[u8],
-    values: [u8; 16],
-    k: usize,
-    before: usize,
-    v: usize,
-) -> u32
-    requires { ⌜ (k ≤ 255) × (place ≤ 254) × (before ≡ othersBefore n sizes place (place + 1)) × (before ≤ 255 * (place + 1)) ⌝ }
-    ensures { λ r. ⌜ r ≡ costWith (viewAt place n sizes (now (costs .entry))) values k v + h (viewAt place n sizes (now (costs .entry))) v ⌝ }
+// The cost of own value v with the first k units, and its lookahead bound.
+fn value_cost(seat: Seat, costs: &[u8], values: [u8; 16], k: usize, v: usize) -> u32
+    requires { ⌜ k ≤ 255 ⌝ }
+    ensures { λ r. ⌜ r ≡ costWith (viewFrom seat (now (costs .entry))) values k v + h (viewFrom seat (now (costs .entry))) v ⌝ }
 {
-    prefix_cost(place, n, sizes, costs, values, k, v)
-        + later_cost(place, n, sizes, costs, before, v)
+    prefix_cost(seat, costs, values, k, v) + later_cost(seat, costs, v)
 }
 
 fn lesser(a: u32, b: u32) -> u32
@@ -257,51 +223,51 @@ fn is_value(d: usize, v: usize) -> bool
     v <= d
 }
 
-// How many values the units before place j have together, the unit at `place` left out.
-fn others_before(n: u8, sizes: [u8; 16], place: usize, j: usize) -> usize
+// How many values the other units before place j have together.
+fn others_before(seat: Seat, j: usize) -> usize
     requires { ⌜ j ≤ 256 ⌝ }
-    ensures { λ r. ⌜ (r ≡ othersBefore n sizes place j) × (r ≤ 255 * j) ⌝ }
+    ensures { λ r. ⌜ (r ≡ othersBefore seat j) × (r ≤ 255 * j) ⌝ }
 {
     let mut sum = 0;
     let mut b = 0;
     while b < j {
-        sum += other_size(n, sizes, place, b);
+        sum += other_size(seat, b);
         b += 1;
     }
     sum
 }
 
-// The domain size of the unit at place b, or 0 where that is `place`.
-fn other_size(n: u8, sizes: [u8; 16], place: usize, b: usize) -> usize
-    ensures { λ r. ⌜ (r ≡ cond (eqb b place) 0 (domIn n sizes b)) × (r ≤ 255) ⌝ }
+// The domain size of the unit at place b, or 0 where that is the own unit.
+fn other_size(seat: Seat, b: usize) -> usize
+    ensures { λ r. ⌜ (r ≡ cond (eqb b (pred (seat .own))) 0 (domFrom seat b)) × (r ≤ 255) ⌝ }
 {
-    if b == place {
+    if b == place_of(seat) {
         return 0;
     }
-    size_of(n, sizes, b)
+    size_of(seat, b)
 }
 
 // The domain size of the unit at place b, 0 where there is none.
-fn size_of(n: u8, sizes: [u8; 16], b: usize) -> usize
-    ensures { λ r. ⌜ (r ≡ domIn n sizes b) × (r ≤ 255) ⌝ }
+fn size_of(seat: Seat, b: usize) -> usize
+    ensures { λ r. ⌜ (r ≡ domFrom seat b) × (r ≤ 255) ⌝ }
 {
     if 16 <= b {
         return 0;
     }
-    if wide(n) <= b {
+    if wide(seat.n) <= b {
         return 0;
     }
-    wide(sizes[b])
+    wide(seat.sizes[b])
 }
 
-// The place of unit `own`.
-fn place_of(own: u8) -> usize
-    ensures { λ r. ⌜ (r ≡ pred own) × (r ≤ 254) ⌝ }
+// The own place.
+fn place_of(seat: Seat) -> usize
+    ensures { λ r. ⌜ (r ≡ pred (seat .own)) × (r ≤ 254) ⌝ }
 {
-    if own == 0 {
+    if seat.own == 0 {
         return 0;
     }
-    wide(own) - 1
+    wide(seat.own) - 1
 }
 
 // The value of the unit at place j, 0 past the end.

@@ -1,17 +1,18 @@
 // What is read out of a stream: its sizes, and the costs that touch one unit.
 
+use crate::Seat;
 use crate::lent_count;
 use crate::place_of;
 use crate::size_of;
 use crate::wide;
 ghost use mathlib.Core.Path.{_≡_};
 ghost use mathlib.Core.List.{_++_};
-ghost use Prim.Native.Nat.{ℕ, _+_, _*_, _≤_, _<_};
+ghost use Prim.Native.Nat.{ℕ, _+_, _*_, _≤_, _<_, pred};
 ghost use lib.ListN.{length, drop};
 ghost use lib.Seq.{paste};
 ghost use Rattle.base.specs.Sums.{sumFrom};
-ghost use Rattle.costs.specs.Instance.{domIn, rowStart, pairStart};
-ghost use Rattle.costs.specs.Gather.{domOf, sizesIn, pairBytes, withOther, gatherTo, gatherCount, gatherInto, putAt, ShapeOf};
+ghost use Rattle.costs.specs.Instance.{domFrom, rowStart, pairStart};
+ghost use Rattle.costs.specs.Gather.{domOf, sizesIn, pairBytes, withOther, gatherTo, gatherCount, gatherInto, putAt, SeatIn};
 
 // The bytes of the costs that touch unit `own` are written to the front of `out`; gives how many. Where n, a size or `own` is out of
 // range, or the stream or `out` too short, nothing is written and it gives 0.
@@ -30,13 +31,14 @@ pub fn gather(stream: &[u8], own: u8, out: &mut [u8]) -> usize
         return 0;
     }
     let units = wide(n);
-    if stream.len() < 1 + units + 2 * row_start(n, sizes, units) {
+    let seat = Seat { own, n, sizes };
+    if stream.len() < 1 + units + 2 * row_start(seat, units) {
         return 0;
     }
-    if out.len() < 2 * lent_count(own, n, sizes) {
+    if out.len() < 2 * lent_count(seat) {
         return 0;
     }
-    gather_all(stream, n, sizes, place_of(own), out)
+    gather_all(stream, seat, out)
 }
 
 // The first n sizes, zero after.
@@ -52,96 +54,81 @@ pub fn sizes_of(stream: &[u8]) -> [u8; 16]
     sizes
 }
 
-// The bytes of the costs of the unit at `place` with every other.
-fn gather_all(stream: &[u8], n: u8, sizes: [u8; 16], place: usize, out: &mut [u8]) -> usize
-    requires { ⌜ ShapeOf (now stream) n sizes × (place < n) × (length (gatherTo (now stream) place n) ≤ length (now out)) ⌝ }
-    ensures { λ r. ⌜ (r ≡ length (gatherTo (now (stream .entry)) place n)) × (now (out .exit) ≡ gatherTo (now (stream .entry)) place n ++ drop (length (gatherTo (now (stream .entry)) place n)) (now (out .entry))) ⌝ }
+// The bytes of the costs of the unit with every other.
+fn gather_all(stream: &[u8], seat: Seat, out: &mut [u8]) -> usize
+    requires { ⌜ SeatIn (now stream) seat × (pred (seat .own) < seat .n) × (length (gatherTo (now stream) (pred (seat .own)) (seat .n)) ≤ length (now out)) ⌝ }
+    ensures { λ r. ⌜ (r ≡ length (gatherTo (now (stream .entry)) (pred (seat .own)) (seat .n))) × (now (out .exit) ≡ gatherTo (now (stream .entry)) (pred (seat .own)) (seat .n) ++ drop (length (gatherTo (now (stream .entry)) (pred (seat .own)) (seat .n))) (now (out .entry))) ⌝ }
 {
-    let count = wide(n);
+    let count = wide(seat.n);
     let mut at = 0;
     let mut j = 0;
     while j < count {
-        at = put_other(stream, n, sizes, place, j, out, at);
+        at = put_other(stream, seat, j, out, at);
         j += 1;
     }
     at
 }
 
-// The bytes of the costs of the units at `place` and j, written at `at`; gives the place after them.
-fn put_other(
-    stream: &[u8],
-    n: u8,
-    sizes: [u8; 16],
-    place: usize,
-    j: usize,
-    out: &mut [u8],
-    at: usize,
-) -> usize
-    requires { ⌜ ShapeOf (now stream) n sizes × (place < n) × (j < n) × (at + length (withOther (now stream) place j) ≤ length (now out)) ⌝ }
-    ensures { λ r. ⌜ (r ≡ at + length (withOther (now (stream .entry)) place j)) × (now (out .exit) ≡ putAt (now (out .entry)) at (withOther (now (stream .entry)) place j)) ⌝ }
+// The bytes of the costs of the unit with the one at place j, written at `at`; gives the place after them.
+fn put_other(stream: &[u8], seat: Seat, j: usize, out: &mut [u8], at: usize) -> usize
+    requires { ⌜ SeatIn (now stream) seat × (pred (seat .own) < seat .n) × (j < seat .n) × (at + length (withOther (now stream) (pred (seat .own)) j) ≤ length (now out)) ⌝ }
+    ensures { λ r. ⌜ (r ≡ at + length (withOther (now (stream .entry)) (pred (seat .own)) j)) × (now (out .exit) ≡ putAt (now (out .entry)) at (withOther (now (stream .entry)) (pred (seat .own)) j)) ⌝ }
 {
+    let place = place_of(seat);
     if j == place {
         return at;
     }
     if j < place {
-        return put_pair(stream, n, sizes, j, place, out, at);
+        return put_pair(stream, seat, j, place, out, at);
     }
-    put_pair(stream, n, sizes, place, j, out, at)
+    put_pair(stream, seat, place, j, out, at)
 }
 
 // The bytes of the costs of the pair of places i and j, written at `at`; gives the place after them.
-fn put_pair(
-    stream: &[u8],
-    n: u8,
-    sizes: [u8; 16],
-    i: usize,
-    j: usize,
-    out: &mut [u8],
-    at: usize,
-) -> usize
-    requires { ⌜ ShapeOf (now stream) n sizes × (i < j) × (j < n) × (at + length (pairBytes (now stream) i j) ≤ length (now out)) ⌝ }
+fn put_pair(stream: &[u8], seat: Seat, i: usize, j: usize, out: &mut [u8], at: usize) -> usize
+    requires { ⌜ SeatIn (now stream) seat × (i < j) × (j < seat .n) × (at + length (pairBytes (now stream) i j) ≤ length (now out)) ⌝ }
     ensures { λ r. ⌜ (r ≡ at + length (pairBytes (now (stream .entry)) i j)) × (now (out .exit) ≡ putAt (now (out .entry)) at (pairBytes (now (stream .entry)) i j)) ⌝ }
 {
-    let from = 1 + wide(n) + 2 * pair_start(n, sizes, i, j);
-    let count = 2 * (size_of(n, sizes, i) * size_of(n, sizes, j));
+    let from = 1 + wide(seat.n) + 2 * pair_start(seat, i, j);
+    let count = 2 * (size_of(seat, i) * size_of(seat, j));
     copy_part(stream, from, count, out, at);
     at + count
 }
 
 // The sizes of m units from place lo on, added up.
-fn sum_sizes(n: u8, sizes: [u8; 16], lo: usize, m: usize) -> usize
+fn sum_sizes(seat: Seat, lo: usize, m: usize) -> usize
     requires { ⌜ (lo ≤ 16) × (m ≤ 16) ⌝ }
-    ensures { λ r. ⌜ (r ≡ sumFrom (domIn n sizes) lo m) × (r ≤ 255 * m) ⌝ }
+    ensures { λ r. ⌜ (r ≡ sumFrom (domFrom seat) lo m) × (r ≤ 255 * m) ⌝ }
 {
     let mut sum = 0;
     let mut i = 0;
     while i < m {
-        sum += size_of(n, sizes, lo + i);
+        sum += size_of(seat, lo + i);
         i += 1;
     }
     sum
 }
 
 // How many costs stand before those of the pairs of the unit at place i.
-fn row_start(n: u8, sizes: [u8; 16], i: usize) -> usize
-    requires { ⌜ (n ≤ 16) × (i ≤ n) ⌝ }
-    ensures { λ r. ⌜ (r ≡ rowStart (domIn n sizes) n i) × (r ≤ 1040400 * i) ⌝ }
+fn row_start(seat: Seat, i: usize) -> usize
+    requires { ⌜ (seat .n ≤ 16) × (i ≤ seat .n) ⌝ }
+    ensures { λ r. ⌜ (r ≡ rowStart (domFrom seat) (seat .n) i) × (r ≤ 1040400 * i) ⌝ }
 {
     let mut sum = 0;
     let mut a = 0;
     while a < i {
-        sum += size_of(n, sizes, a) * sum_sizes(n, sizes, a + 1, wide(n) - (a + 1));
+        sum += size_of(seat, a) * sum_sizes(seat, a + 1, wide(seat.n) - (a + 1));
         a += 1;
     }
     sum
 }
 
 // How many costs stand before those of the pair of places i and j.
-fn pair_start(n: u8, sizes: [u8; 16], i: usize, j: usize) -> usize
-    requires { ⌜ (n ≤ 16) × (i < j) × (j < n) ⌝ }
-    ensures { λ r. ⌜ (r ≡ pairStart (domIn n sizes) n i j) × (r ≤ 17686800) ⌝ }
+fn pair_start(seat: Seat, i: usize, j: usize) -> usize
+    requires { ⌜ (seat .n ≤ 16) × (i < j) × (j < seat .n) ⌝ }
+    ensures { λ r. ⌜ (r ≡ pairStart (domFrom seat) (seat .n) i j) × (r ≤ 17686800) ⌝ }
 {
-    row_start(n, sizes, i) + size_of(n, sizes, i) * sum_sizes(n, sizes, i + 1, j - (i + 1))
+    row_start(seat, i) + size_of(seat, i) * sum_sizes(seat, i + 1, j - (i + 1))
 }
 
 // The domain size of the unit at place k, 0 where there is none.

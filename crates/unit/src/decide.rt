@@ -5,6 +5,7 @@ use crate::Order;
 use crate::Plan;
 use crate::Sending;
 use crate::Unit;
+use costs::Seat;
 use message::Kind;
 use message::Message;
 ghost use mathlib.Core.Path.{_≡_};
@@ -168,7 +169,7 @@ fn answer(own: u8, n: u8, sizes: [u8; 16], costs: &[u8], u: Unit, m: Message) ->
 {
     let stamp = m.stamp;
     let values = m.values;
-    let cost = costs::estimate(own, n, sizes, costs, values, m.sender);
+    let cost = costs::estimate(Seat { own, n, sizes }, costs, values, m.sender);
     let message = Message {
         sender: own,
         receiver: m.sender,
@@ -333,7 +334,7 @@ fn try_after(own: u8, n: u8, sizes: [u8; 16], costs: &[u8], from: u8, u: Unit) -
     while v < d {
         v += 1;
         let cost = cost_at(own, n, sizes, costs, v, t);
-        let ahead = costs::h(own, n, sizes, costs, v);
+        let ahead = costs::h(Seat { own, n, sizes }, costs, v);
         if cost + wide(ahead) < wide(t.bound) {
             records += 1;
             let s = put(own, v, cost as u32, t);
@@ -361,7 +362,7 @@ fn cost_at(own: u8, n: u8, sizes: [u8; 16], costs: &[u8], v: u8, u: Unit) -> u64
     ensures { λ r. ⌜ (r ≡ costAt (lentView own n sizes (now (costs .entry))) v u) × (r < 8589934592) ⌝ }
 {
     let values = u.values;
-    let paid = costs::cost_with(own, n, sizes, costs, values, own - 1, v);
+    let paid = costs::cost_with(Seat { own, n, sizes }, costs, values, own - 1, v);
     wide(u.cost) + wide(paid)
 }
 
@@ -465,7 +466,7 @@ fn bare_cost(own: u8, n: u8, sizes: [u8; 16], costs: &[u8], u: Unit) -> u32
     let place = own - 1;
     let values = u.values;
     let value = values[place as usize];
-    let paid = costs::cost_with(own, n, sizes, costs, values, place, value);
+    let paid = costs::cost_with(Seat { own, n, sizes }, costs, values, place, value);
     if paid <= u.cost {
         return u.cost - paid;
     }

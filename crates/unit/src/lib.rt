@@ -1,5 +1,6 @@
 // One unit: its state, what it decides on a message, and what it sends.
 
+use costs::Seat;
 use message::Message;
 use message::Read;
 ghost use mathlib.Core.Path.{_≡_};
@@ -153,7 +154,7 @@ fn make_refusal(own: u8, n: u8, sizes: [u8; 16], costs: &[u8], room: usize) -> u
     if !message::is_unit(n, own) {
         return 10;
     }
-    let lent = costs::lent_refusal(own, n, sizes, costs);
+    let lent = costs::lent_refusal(Seat { own, n, sizes }, costs);
     if lent != 0 {
         return lent;
     }
@@ -176,7 +177,7 @@ fn step_refusal(u: Unit, own: u8, n: u8, sizes: [u8; 16], costs: &[u8], room: us
     if !message::is_unit(n, own) {
         return 10;
     }
-    let lent = costs::lent_refusal(own, n, sizes, costs);
+    let lent = costs::lent_refusal(Seat { own, n, sizes }, costs);
     if lent != 0 {
         return lent;
     }

@@ -2,6 +2,7 @@
 
 use crate::Order;
 use crate::Unit;
+use costs::Seat;
 ghost use mathlib.Core.Path.{_≡_};
 ghost use Prim.Native.Nat.{_≤_, _<_};
 ghost use Rattle.costs.specs.Instance.{lentView};
@@ -34,7 +35,7 @@ pub(crate) fn in_range(own: u8, n: u8, sizes: [u8; 16], costs: &[u8], u: Unit) -
     let place = own - 1;
     let values = u.values;
     let value = values[place as usize];
-    let paid = costs::cost_with(own, n, sizes, costs, values, place, value);
+    let paid = costs::cost_with(Seat { own, n, sizes }, costs, values, place, value);
     in_range_paid(place, n, sizes, paid, u)
 }
 

@@ -1,12 +1,8 @@
--- `cost_with` meets its contract: the unit's view is that at its place.
+-- `cost_with` meets its contract: the narrow numbers are those of `prefix_cost`.
 -- Assumes nothing.
 use borrow.Author.Needs.{needs}
-use Rattle.costs.specs.Lent.Steps.{view-at}
 use Rattle.costs.proofs.cost_with.Statement.{statement}
 use Rattle.costs.proofs.cost_with.Tie as tie
-
-place-of-requires : tie.Need-place-of-requires
-place-of-requires c κs = search needs
 
 wide-requires : tie.Need-wide-requires
 wide-requires c κs = search needs
@@ -18,9 +14,7 @@ prefix-cost-requires : tie.Need-prefix-cost-requires
 prefix-cost-requires c κs = search needs
 
 returns : tie.Need-returns
-returns c = rw (view-at, ← c .before .before .before .place-of .ensures .0, ← c .before .before .wide .ensures .0, ← c .before .wide2 .ensures .0) (c .prefix-cost .ensures .0)
+returns c = rw (← c .before .before .wide .ensures .0, ← c .before .wide2 .ensures .0) (c .prefix-cost .ensures .0)
 
 pub cost-with-spec : {M : Type 1} → statement M
-cost-with-spec =
-    tie.close
-    (tie.spec place-of-requires wide-requires wide-requires-2 prefix-cost-requires returns)
+cost-with-spec = tie.close (tie.spec wide-requires wide-requires-2 prefix-cost-requires returns)

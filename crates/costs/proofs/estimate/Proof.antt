@@ -1,8 +1,10 @@
--- `estimate` meets its contract: the unit's view is that at its place; with no value there is nothing to estimate.
+-- `estimate` meets its contract: with no value there is nothing to estimate, and else it is the least of all.
 -- Assumes nothing.
-use mathlib.Core.Path.{sym, _∙_}
+use mathlib.Core.Path.{sym, ap, _∙_}
+use native.Mathlib.Omega.{arith}
 use borrow.Author.Needs.{needs}
-use Rattle.costs.specs.Lent.Steps.{view-at, estimate-none}
+use Rattle.costs.specs.Instance.{domFrom}
+use Rattle.costs.specs.Lent.Steps.{estimate-none}
 use Rattle.costs.proofs.estimate.Statement.{statement}
 use Rattle.costs.proofs.estimate.Tie as tie
 
@@ -14,24 +16,22 @@ size-of-requires c κs = search needs
 
 returns : tie.Need-returns
 returns c =
-    let a = c .before .before .before .before .args in
     let p = c .before .before .place-of in
-    rw (view-at, ← p .ensures .0) (sym (estimate-none (p .result) (a .n) (a .sizes) (a .costs .now) (a .values) (a .k) (sym (c .before .size-of .ensures .0) ∙ c .if1 .taken)))
-
-add-others-before : tie.Need-add-others-before
-add-others-before c = search needs
-
-others-before-requires : tie.Need-others-before-requires
-others-before-requires c κs = search needs
+    let a = c .before .before .before .before .args in
+    sym (estimate-none (a .seat) (a .costs .now) (a .values) (a .k) (ap (domFrom (a .seat)) (sym (p .ensures .0)) ∙ sym (c .before .size-of .ensures .0) ∙ c .if1 .taken))
 
 wide-requires : tie.Need-wide-requires
 wide-requires c κs = search needs
 
 least-cost-requires : tie.Need-least-cost-requires
-least-cost-requires c κs = search needs
+least-cost-requires c κs =
+    let s = c .before .before .size-of in
+    let p = c .before .before .before .place-of in
+    let a = c .before .before .before .before .before .args in
+    (omega arith, omega arith, s .ensures .0 ∙ ap (domFrom (a .seat)) (p .ensures .0))
 
 returns-2 : tie.Need-returns-2
-returns-2 c = rw (view-at, ← c .before .before .before .before .before .place-of .ensures .0, ← c .before .wide .ensures .0) (c .least-cost .ensures)
+returns-2 c = rw (← c .before .wide .ensures .0) (c .least-cost .ensures)
 
 pub estimate-spec : {M : Type 1} → statement M
 estimate-spec =
@@ -40,8 +40,6 @@ estimate-spec =
     place-of-requires
     size-of-requires
     returns
-    add-others-before
-    others-before-requires
     wide-requires
     least-cost-requires
     returns-2)

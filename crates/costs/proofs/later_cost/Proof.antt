@@ -1,23 +1,28 @@
--- `later_cost` meets its contract. The loop's invariant: the whole is the sum and what comes from place j on; `passed` counts the values of the others before place j.
+-- `later_cost` meets its contract. The loop's invariant: the whole is the sum and what comes from place j on; `before` counts the values of the others before place j.
 -- Assumes nothing.
-use Prim.Native.Nat.{_≤_, _<_, _+_, _*_, _-_}
+use Prim.Native.Nat.{_≤_, _<_, _+_, _*_, _-_, pred}
 use mathlib.Core.Path.{_≡_, sym, _∙_}
+use mathlib.Core.Bool.{true}
 use native.Mathlib.Nat.{mul-le-mul, zero-add, add-zero, add-assoc}
 use native.Mathlib.Omega.{arith}
 use borrow.Author.Needs.{needs}
 use borrow.Author.Tests.{not-true, not-false}
+use Rattle.costs.specs.Instance.{isValue, domFrom, viewFrom}
 use Rattle.costs.specs.Bounds.{h}
-use Rattle.costs.specs.Lent.Parts.{viewAt, othersBefore, laterFrom}
+use Rattle.costs.specs.Lent.Parts.{othersBefore, laterFrom}
 use Rattle.costs.specs.Laws.Stream.{value-range}
 use Rattle.costs.specs.Lent.Steps.{others-later, later-start, later-step, later-done, later-no-value}
 use Rattle.costs.proofs.later_cost.Statement.{statement}
 use Rattle.costs.proofs.later_cost.Tie as tie
 
 abbrev Inv-loop : tie.InvT-loop
-Inv-loop place n sizes costs before v d count sum₀ passed₀ j₀ sum passed j = (place < j) × (j ≤ 255) × (h (viewAt place n sizes costs) v ≡ sum + laterFrom (viewAt place n sizes costs) v j) × (sum ≤ 65535 * j) × (passed ≡ othersBefore n sizes place j) × (passed ≤ 255 * j)
+Inv-loop seat costs v place d count before₀ sum₀ j₀ before sum j = (place < j) × (j ≤ 255) × (h (viewFrom seat costs) v ≡ sum + laterFrom (viewFrom seat costs) v j) × (sum ≤ 65535 * j) × (before ≡ othersBefore seat j) × (before ≤ 255 * j)
 
 abbrev μ-loop : tie.MeasureT-loop
-μ-loop place n sizes costs before v d count sum₀ passed₀ j₀ sum passed j = count - j
+μ-loop seat costs v place d count before₀ sum₀ j₀ before sum j = count - j
+
+place-of-requires : tie.Need-place-of-requires Inv-loop μ-loop
+place-of-requires c κs = search needs
 
 size-of-requires : tie.Need-size-of-requires Inv-loop μ-loop
 size-of-requires c κs = search needs
@@ -27,91 +32,68 @@ is-value-requires c κs = search needs
 
 returns : tie.Need-returns Inv-loop μ-loop
 returns c =
-    let a = c .before .before .before .before .args in
+    let a = c .before .before .before .before .before .args in
     let q = sym (c .before .is-value .ensures) ∙ not-true _ (c .if1 .taken) in
-    (sym (later-no-value (a .place) (a .n) (a .sizes) (a .costs .now) (a .v) (rw (c .before .before .size-of .ensures .0) at q)), omega arith)
+    (sym (later-no-value (a .seat) (a .costs .now) (a .v) (rw (c .before .before .size-of .ensures .0, c .before .before .before .place-of .ensures .0) at q)), omega arith)
 
 wide-requires : tie.Need-wide-requires Inv-loop μ-loop
 wide-requires c κs = search needs
+
+add-others-before : tie.Need-add-others-before Inv-loop μ-loop
+add-others-before c = search needs
+
+others-before-requires : tie.Need-others-before-requires Inv-loop μ-loop
+others-before-requires c κs = search needs
 
 add-j : tie.Need-add-j Inv-loop μ-loop
 add-j c = search needs
 
 loop-holds : tie.Need-loop-holds Inv-loop μ-loop
 loop-holds c =
-    let s = c .before .before .before .before .before in
-    let a = s .args in
-    (omega arith, omega arith, rw zero-add (later-start (a .place) (a .n) (a .sizes) (a .costs .now) (a .v)), omega arith, s .pre .1, s .pre .2)
+    let p = c .before .before .before .before .before in
+    let a = p .before .before .args in
+    let e = p .place-of .ensures .0 in
+    (omega arith, omega arith, rw (zero-add, e) (later-start (a .seat) (a .costs .now) (a .v)), omega arith, c .others-before .ensures .0, omega (arith, c .others-before .ensures .1))
 
 size-of-requires-2 : tie.Need-size-of-requires-2 Inv-loop μ-loop
 size-of-requires-2 c κs = search needs
 
-mul-least-run : tie.Need-mul-least-run Inv-loop μ-loop
-mul-least-run c =
-    let z = c .before .before in
-    let a = z .before .before .before .before .before .before .args in
-    let l = z .loop in
-    let t = sym (z .before .before .before .is-value .ensures) ∙ not-false _ (z .before .before .if1 .left) in
-    let r = value-range (z .before .before .before .before .size-of .result) (a .v) t in
-    let d : z .before .before .before .before .size-of .result ≤ 255 = omega arith in
-    let e : c .size-of2 .result ≤ 255 = omega arith in
-    let o : l .passed ≤ 65025 = omega arith in
+-- what holds in a turn: v is a value of the own unit, and neither part of the run's start is large
+is-own : (c : tie.After-size-of2 Inv-loop μ-loop) → let z = c .before .before .before .before .before .before .before in isValue (z .size-of .result) (z .before .before .before .args .v) ≡ true
+is-own c = let z = c .before .before .before .before .before in sym (z .before .is-value .ensures) ∙ not-false _ (z .if1 .left)
+
+small : (c : tie.After-size-of2 Inv-loop μ-loop)
+    → let z = c .before .before .before .before .before .before .before in
+    let v = z .before .before .before .args .v in
+    (1 ≤ v) × (z .size-of .result * c .before .before .loop .before ≤ 255 * 65025) × ((v - 1) * c .size-of2 .result ≤ 254 * 255)
+small c =
+    let z = c .before .before .before .before .before .before .before in
+    let a = z .before .before .before .args in
+    let r = value-range (z .size-of .result) (a .v) (is-own c) in
+    let o : c .before .before .loop .before ≤ 65025 = omega arith in
     let m : a .v - 1 ≤ 254 = omega arith in
-    omega (arith, mul-le-mul d o)
+    (r .0, mul-le-mul (z .size-of .ensures .1) o, mul-le-mul m (c .size-of2 .ensures .1))
+
+mul-least-run : tie.Need-mul-least-run Inv-loop μ-loop
+mul-least-run c = omega (arith, small c)
 
 sub-least-run : tie.Need-sub-least-run Inv-loop μ-loop
-sub-least-run c =
-    let z = c .before .before in
-    let a = z .before .before .before .before .before .before .args in
-    let l = z .loop in
-    let t = sym (z .before .before .before .is-value .ensures) ∙ not-false _ (z .before .before .if1 .left) in
-    let r = value-range (z .before .before .before .before .size-of .result) (a .v) t in
-    omega arith
+sub-least-run c = omega (arith, small c)
 
 mul-least-run-2 : tie.Need-mul-least-run-2 Inv-loop μ-loop
-mul-least-run-2 c =
-    let z = c .before .before in
-    let a = z .before .before .before .before .before .before .args in
-    let l = z .loop in
-    let t = sym (z .before .before .before .is-value .ensures) ∙ not-false _ (z .before .before .if1 .left) in
-    let r = value-range (z .before .before .before .before .size-of .result) (a .v) t in
-    let d : z .before .before .before .before .size-of .result ≤ 255 = omega arith in
-    let e : c .size-of2 .result ≤ 255 = omega arith in
-    let o : l .passed ≤ 65025 = omega arith in
-    let m : a .v - 1 ≤ 254 = omega arith in
-    omega (arith, mul-le-mul m e)
+mul-least-run-2 c = omega (arith, small c)
 
 add-least-run : tie.Need-add-least-run Inv-loop μ-loop
-add-least-run c =
-    let z = c .before .before in
-    let a = z .before .before .before .before .before .before .args in
-    let l = z .loop in
-    let t = sym (z .before .before .before .is-value .ensures) ∙ not-false _ (z .before .before .if1 .left) in
-    let r = value-range (z .before .before .before .before .size-of .result) (a .v) t in
-    let d : z .before .before .before .before .size-of .result ≤ 255 = omega arith in
-    let e : c .size-of2 .result ≤ 255 = omega arith in
-    let o : l .passed ≤ 65025 = omega arith in
-    let m : a .v - 1 ≤ 254 = omega arith in
-    omega (arith, mul-le-mul d o, mul-le-mul m e)
+add-least-run c = omega (arith, small c)
 
 least-run-requires : tie.Need-least-run-requires Inv-loop μ-loop
-least-run-requires c κs =
-    let z = c .before .before in
-    let a = z .before .before .before .before .before .before .args in
-    let l = z .loop in
-    let t = sym (z .before .before .before .is-value .ensures) ∙ not-false _ (z .before .before .if1 .left) in
-    let r = value-range (z .before .before .before .before .size-of .result) (a .v) t in
-    let d : z .before .before .before .before .size-of .result ≤ 255 = omega arith in
-    let e : c .size-of2 .result ≤ 255 = omega arith in
-    let o : l .passed ≤ 65025 = omega arith in
-    let m : a .v - 1 ≤ 254 = omega arith in
-    (omega (arith, mul-le-mul d o, mul-le-mul m e), omega arith)
+least-run-requires c κs = (omega (arith, small c), c .size-of2 .ensures .1)
 
 add-sum : tie.Need-add-sum Inv-loop μ-loop
 add-sum c = search needs
 
-add-passed : tie.Need-add-passed Inv-loop μ-loop
-add-passed c = search needs
+add-before : tie.Need-add-before Inv-loop μ-loop
+add-before c = search needs
 
 add-j-2 : tie.Need-add-j-2 Inv-loop μ-loop
 add-j-2 c = search needs
@@ -121,26 +103,25 @@ loop-less c = search needs
 
 loop-again : tie.Need-loop-again Inv-loop μ-loop
 loop-again c =
-    let z = c .before .before .before in
-    let a = z .before .before .before .before .before .before .args in
-    let l = z .loop in
-    let own = z .before .before .before .before .size-of in
-    let t = sym (z .before .before .before .is-value .ensures) ∙ not-false _ (z .before .before .if1 .left) in
-    let step = later-step (a .place) (a .n) (a .sizes) (a .costs .now) (a .v) (l .j) (l .inv .0) (omega arith) (rw (own .ensures .0) at t) in (
+    let l = c .before .before .before .loop in
+    let z = c .before .before .before .before .before .before .before .before in
+    let a = z .before .before .before .args in
+    let e = z .before .place-of .ensures .0 in
+    let past : pred (a .seat .own) < l .j = omega (arith, e) in
+    let step = later-step (a .seat) (a .costs .now) (a .v) (l .j) past (omega arith) (rw (z .size-of .ensures .0, e) at (is-own (c .before))) in (
       omega arith,
       omega arith,
-      rw (l .inv .2, step, ← own .ensures .0, ← c .before .size-of2 .ensures .0, ← l .inv .4, ← c .least-run .ensures .0, add-assoc),
+      rw (l .inv .2, step, ← l .inv .4, ← e, ← z .size-of .ensures .0, ← c .before .size-of2 .ensures .0, ← c .least-run .ensures .0, add-assoc),
       omega arith,
-      rw (l .inv .4, c .before .size-of2 .ensures .0, others-later (a .n) (a .sizes) (a .place) (l .j) (l .inv .0)),
+      rw (l .inv .4, c .before .size-of2 .ensures .0, others-later (a .seat) (l .j) past),
       omega arith,
     )
 
 returns-2 : tie.Need-returns-2 Inv-loop μ-loop
 returns-2 c =
-    let z = c .before in
-    let a = z .before .before .before .before .before .before .args in
-    let l = z .loop in
-    (sym (l .inv .2 ∙ rw (later-done (a .place) (a .n) (a .sizes) (a .costs .now) (a .v) (l .j) (omega arith), add-zero)), omega arith)
+    let l = c .before .loop in
+    let a = c .before .before .before .before .before .before .before .before .before .args in
+    (sym (l .inv .2 ∙ rw (later-done (a .seat) (a .costs .now) (a .v) (l .j) (omega arith), add-zero)), omega arith)
 
 pub later-cost-spec : {M : Type 1} → statement M
 later-cost-spec =
@@ -148,10 +129,13 @@ later-cost-spec =
     (tie.spec
     Inv-loop
     μ-loop
+    place-of-requires
     size-of-requires
     is-value-requires
     returns
     wide-requires
+    add-others-before
+    others-before-requires
     add-j
     loop-holds
     size-of-requires-2
@@ -161,7 +145,7 @@ later-cost-spec =
     add-least-run
     least-run-requires
     add-sum
-    add-passed
+    add-before
     add-j-2
     loop-less
     loop-again

@@ -4,29 +4,25 @@ use Prim.Native.Nat.{_≤_, _-_}
 use mathlib.Core.Path.{_≡_, sym, _∙_}
 use native.Mathlib.Omega.{arith}
 use borrow.Author.Needs.{needs}
-use Rattle.costs.specs.Lent.Parts.{viewAt, leastCost}
+use Rattle.costs.specs.Instance.{viewFrom}
+use Rattle.costs.specs.Lent.Parts.{leastCost}
 use Rattle.costs.specs.Lent.Steps.{estimate-least, leastCost-one, leastCost-more}
 use Rattle.costs.proofs.least_cost.Statement.{statement}
 use Rattle.costs.proofs.least_cost.Tie as tie
 
 abbrev Inv-loop : tie.InvT-loop
-Inv-loop place n sizes costs values k before d best₀ v₀ best v = (1 ≤ v) × (v ≤ d) × (best ≡ leastCost (viewAt place n sizes costs) values k v)
+Inv-loop seat costs values k d best₀ v₀ best v = (1 ≤ v) × (v ≤ d) × (best ≡ leastCost (viewFrom seat costs) values k v)
 
 abbrev μ-loop : tie.MeasureT-loop
-μ-loop place n sizes costs values k before d best₀ v₀ best v = d - v
-
-size-of-requires : tie.Need-size-of-requires Inv-loop μ-loop
-size-of-requires c κs = search needs
+μ-loop seat costs values k d best₀ v₀ best v = d - v
 
 value-cost-requires : tie.Need-value-cost-requires Inv-loop μ-loop
 value-cost-requires c κs = search needs
 
 loop-holds : tie.Need-loop-holds Inv-loop μ-loop
 loop-holds c =
-    let s = c .before .before .before in
-    let a = s .args in
-    let d = c .before .size-of .ensures .0 in
-    (omega arith, omega (arith, d, s .pre .4), c .value-cost .ensures ∙ sym (leastCost-one (viewAt (a .place) (a .n) (a .sizes) (a .costs .now)) (a .values) (a .k)))
+    let a = c .before .before .args in
+    (omega arith, omega arith, c .value-cost .ensures ∙ sym (leastCost-one (viewFrom (a .seat) (a .costs .now)) (a .values) (a .k)))
 
 add-v : tie.Need-add-v Inv-loop μ-loop
 add-v c = search needs
@@ -43,17 +39,17 @@ loop-less c = search needs
 loop-again : tie.Need-loop-again Inv-loop μ-loop
 loop-again c =
     let z = c .before .before .before in
-    let a = z .before .before .before .before .args in
+    let a = z .before .before .before .args in
     let l = z .loop in
-    (omega arith, omega arith, rw (c .lesser .ensures, l .inv .2, c .before .value-cost2 .ensures, leastCost-more (viewAt (a .place) (a .n) (a .sizes) (a .costs .now)) (a .values) (a .k) (l .v) (l .inv .0)))
+    (omega arith, omega arith, rw (c .lesser .ensures, l .inv .2, c .before .value-cost2 .ensures, leastCost-more (viewFrom (a .seat) (a .costs .now)) (a .values) (a .k) (l .v) (l .inv .0)))
 
 returns : tie.Need-returns Inv-loop μ-loop
 returns c =
-    let z = c .before in
-    let a = z .before .before .before .before .args in
-    let l = z .loop in
-    let e : l .v ≡ z .before .before .size-of .result = omega arith in
-    l .inv .2 ∙ rw (e, z .before .before .size-of .ensures .0) (sym (estimate-least (a .place) (a .n) (a .sizes) (a .costs .now) (a .values) (a .k)))
+    let s = c .before .before .before .before in
+    let a = s .args in
+    let l = c .before .loop in
+    let e : l .v ≡ a .d = omega arith in
+    l .inv .2 ∙ rw (e, s .pre .2) (sym (estimate-least (a .seat) (a .costs .now) (a .values) (a .k)))
 
 pub least-cost-spec : {M : Type 1} → statement M
 least-cost-spec =
@@ -61,7 +57,6 @@ least-cost-spec =
     (tie.spec
     Inv-loop
     μ-loop
-    size-of-requires
     value-cost-requires
     loop-holds
     add-v

@@ -18,7 +18,7 @@ returns : tie.Need-returns
 returns c =
     let a = c .before .before .before .args in
     let m = c .before .lent-count in
-    sym (refusal-length (a .own) (a .n) (a .sizes) (a .costs .now) (m .result) (m .ensures .0) (c .if1 .taken))
+    sym (refusal-length (a .seat .own) (a .seat .n) (a .seat .sizes) (a .costs .now) (m .result) (m .ensures .0) (c .if1 .taken))
 
 costs-good-requires : tie.Need-costs-good-requires
 costs-good-requires c κs = search needs
@@ -28,14 +28,14 @@ returns-2 c =
     let a = c .before .before .before .before .before .args in
     let m = c .before .before .before .lent-count in
     let g = sym (c .before .costs-good .ensures) ∙ not-true _ (c .if2 .taken) in
-    sym (refusal-costs (a .own) (a .n) (a .sizes) (a .costs .now) (m .result) (m .ensures .0) (c .before .before .if1 .left) false g)
+    sym (refusal-costs (a .seat .own) (a .seat .n) (a .seat .sizes) (a .costs .now) (m .result) (m .ensures .0) (c .before .before .if1 .left) false g)
 
 returns-3 : tie.Need-returns-3
 returns-3 c =
     let a = c .before .before .before .before .before .args in
     let m = c .before .before .before .lent-count in
     let g = sym (c .before .costs-good .ensures) ∙ not-false _ (c .if2 .left) in
-    sym (refusal-costs (a .own) (a .n) (a .sizes) (a .costs .now) (m .result) (m .ensures .0) (c .before .before .if1 .left) true g)
+    sym (refusal-costs (a .seat .own) (a .seat .n) (a .seat .sizes) (a .costs .now) (m .result) (m .ensures .0) (c .before .before .if1 .left) true g)
 
 pub lent-refusal-spec : {M : Type 1} → statement M
 lent-refusal-spec =

@@ -10,10 +10,10 @@ use Rattle.costs.proofs.others_before.Statement.{statement}
 use Rattle.costs.proofs.others_before.Tie as tie
 
 abbrev Inv-loop : tie.InvT-loop
-Inv-loop n sizes place j sum₀ b₀ sum b = (b ≤ j) × (sum ≡ othersBefore n sizes place b) × (sum ≤ 255 * b)
+Inv-loop seat j sum₀ b₀ sum b = (b ≤ j) × (sum ≡ othersBefore seat b) × (sum ≤ 255 * b)
 
 abbrev μ-loop : tie.MeasureT-loop
-μ-loop n sizes place j sum₀ b₀ sum b = j - b
+μ-loop seat j sum₀ b₀ sum b = j - b
 
 loop-holds : tie.Need-loop-holds Inv-loop μ-loop
 loop-holds c = search needs

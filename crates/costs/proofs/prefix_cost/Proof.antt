@@ -4,23 +4,27 @@ use Prim.Native.Nat.{_≤_, _*_, _-_}
 use mathlib.Core.Path.{_≡_, refl, sym}
 use native.Mathlib.Omega.{arith}
 use borrow.Author.Needs.{needs}
+use Rattle.costs.specs.Instance.{viewFrom}
 use Rattle.costs.specs.Bounds.{costWith}
-use Rattle.costs.specs.Lent.Parts.{viewAt, othersBefore}
+use Rattle.costs.specs.Lent.Parts.{othersBefore}
 use Rattle.costs.specs.Lent.Steps.{sumTo-more, cost-none, cost-more, pair-from}
 use Rattle.costs.proofs.prefix_cost.Statement.{statement}
 use Rattle.costs.proofs.prefix_cost.Tie as tie
 
 abbrev Inv-loop : tie.InvT-loop
-Inv-loop place n sizes costs values k v d sum₀ before₀ j₀ sum before j = (j ≤ k) × (sum ≡ costWith (viewAt place n sizes costs) values j v) × (sum ≤ 65535 * j) × (before ≡ othersBefore n sizes place j) × (before ≤ 255 * j)
+Inv-loop seat costs values k v place d sum₀ before₀ j₀ sum before j = (j ≤ k) × (sum ≡ costWith (viewFrom seat costs) values j v) × (sum ≤ 65535 * j) × (before ≡ othersBefore seat j) × (before ≤ 255 * j)
 
 abbrev μ-loop : tie.MeasureT-loop
-μ-loop place n sizes costs values k v d sum₀ before₀ j₀ sum before j = k - j
+μ-loop seat costs values k v place d sum₀ before₀ j₀ sum before j = k - j
+
+place-of-requires : tie.Need-place-of-requires Inv-loop μ-loop
+place-of-requires c κs = search needs
 
 size-of-requires : tie.Need-size-of-requires Inv-loop μ-loop
 size-of-requires c κs = search needs
 
 loop-holds : tie.Need-loop-holds Inv-loop μ-loop
-loop-holds c = let a = c .before .before .args in (omega arith, sym (cost-none (viewAt (a .place) (a .n) (a .sizes) (a .costs .now)) (a .values) (a .v)), omega arith, refl, omega arith)
+loop-holds c = let a = c .before .before .before .args in (omega arith, sym (cost-none (viewFrom (a .seat) (a .costs .now)) (a .values) (a .v)), omega arith, refl, omega arith)
 
 size-of-requires-2 : tie.Need-size-of-requires-2 Inv-loop μ-loop
 size-of-requires-2 c κs = search needs
@@ -49,13 +53,13 @@ loop-less c = search needs
 loop-again : tie.Need-loop-again Inv-loop μ-loop
 loop-again c =
     let z = c .before .before .before .before .before .before in
-    let a = z .before .before .args in
     let l = c .before .before .before .before .before .loop in (
       omega arith,
       rw (
         l .inv .1,
         c .before .pair-cost .ensures .0,
         z .size-of .ensures .0,
+        z .before .place-of .ensures .0,
         c .before .before .before .size-of2 .ensures .0,
         c .before .before .value-at .ensures .0,
         l .inv .3,
@@ -69,7 +73,7 @@ loop-again c =
 
 returns : tie.Need-returns Inv-loop μ-loop
 returns c =
-    let a = c .before .before .before .before .args in
+    let a = c .before .before .before .before .before .args in
     let l = c .before .loop in
     let e : l .j ≡ a .k = omega arith in
     (rw (← e) (l .inv .1), omega arith)
@@ -80,6 +84,7 @@ prefix-cost-spec =
     (tie.spec
     Inv-loop
     μ-loop
+    place-of-requires
     size-of-requires
     loop-holds
     size-of-requires-2

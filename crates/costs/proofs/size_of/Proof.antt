@@ -11,8 +11,8 @@ use Rattle.costs.proofs.size_of.Tie as tie
 returns : tie.Need-returns
 returns c =
     let a = c .before .args in
-    let h : length (a .t2) ≡ 16 = search needs in
-    (sym (dom-past-list (a .n) (a .t2) (a .b) (omega arith)), omega arith)
+    let h : length (a .t1 .sizes) ≡ 16 = search needs in
+    (sym (dom-past-list (a .t1 .n) (a .t1 .sizes) (a .b) (omega arith)), omega arith)
 
 wide-requires : tie.Need-wide-requires
 wide-requires c κs = search needs
@@ -20,19 +20,19 @@ wide-requires c κs = search needs
 returns-2 : tie.Need-returns-2
 returns-2 c =
     let a = c .before .before .before .args in
-    (sym (dom-past-count (a .n) (a .t2) (a .b) (omega arith)), omega arith)
+    (sym (dom-past-count (a .t1 .n) (a .t1 .sizes) (a .b) (omega arith)), omega arith)
 
-array-read-wide : tie.Need-array-read-wide
-array-read-wide c = search needs
+element-copy-out-wide : tie.Need-element-copy-out-wide
+element-copy-out-wide c = search needs
 
 wide-requires-2 : tie.Need-wide-requires-2
 wide-requires-2 c κs = search needs
 
 returns-3 : tie.Need-returns-3
 returns-3 c =
-    let a = c .before .before .before .before .args in
-    (c .wide2 .ensures .0 ∙ sym (dom-at (a .n) (a .t2) (a .b) (omega arith)), c .wide2 .ensures .1)
+    let a = c .before .before .before .before .before .args in
+    (c .wide2 .ensures .0 ∙ sym (dom-at (a .t1 .n) (a .t1 .sizes) (a .b) (omega arith)), c .wide2 .ensures .1)
 
 pub size-of-spec : {M : Type 1} → statement M
 size-of-spec =
-    tie.close (tie.spec returns wide-requires returns-2 array-read-wide wide-requires-2 returns-3)
+    tie.close (tie.spec returns wide-requires returns-2 element-copy-out-wide wide-requires-2 returns-3)

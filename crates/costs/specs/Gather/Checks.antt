@@ -13,7 +13,7 @@ use Rattle.table.specs.Stream.{unitsOf, needed}
 use Rattle.costs.specs.Instance.{domIn, isValue, rowStart, otherStart}
 use Rattle.costs.specs.Lent.{lentCount}
 use Rattle.costs.specs.Laws.Stream.{costs-in-stream}
-use Rattle.costs.specs.Gather.{domOf, sizesIn, gatherTo, gathered, gatherable, gatherCount, gatherInto, ShapeOf}
+use Rattle.costs.specs.Gather.{domOf, sizesIn, gatherTo, gathered, gatherable, gatherCount, gatherInto, SeatIn}
 use Rattle.costs.specs.Gather.Sizes.{dom-same}
 use Rattle.costs.specs.Gather.Laws.{length-gather}
 
@@ -89,12 +89,12 @@ module _ (s : List ℕ) (own n : ℕ) (sizes l : List ℕ) (units : n ≡ unitsO
       let same = rows-same w r most e q in
       nothing s own l (not-third (shapeGood (unitsOf s) (sizesIn s)) (isValue (unitsOf s) own) (leb (needed s) (length s)) (leb (length (gathered s own)) (length l)) (lt-leb (needed s) (length s) (too-short s (omega arith))))
 
-  pub shape-passed : (w r : ℕ) → n ≤ 16 → w ≡ n → r ≡ rowStart (domIn n sizes) n w → 1 + w + 2 * r ≤ length s → ShapeOf s n sizes
+  pub shape-passed : (w r : ℕ) → n ≤ 16 → w ≡ n → r ≡ rowStart (domIn n sizes) n w → 1 + w + 2 * r ≤ length s → SeatIn s (record { own = own; n = n; sizes = sizes })
   shape-passed w r most e q h =
       let same = rows-same w r most e q in
       record { units = units; array = array; most = most; long = long-enough s (omega arith) }
 
-  module _ (shape : ShapeOf s n sizes) (lo : 1 ≤ own) (hi : own ≤ n) (count : ℕ) (counted : count ≡ lentCount own n sizes) where
+  module _ (shape : SeatIn s (record { own = own; n = n; sizes = sizes })) (lo : 1 ≤ own) (hi : own ≤ n) (count : ℕ) (counted : count ≡ lentCount own n sizes) where
     pub gather-count : length (gatherTo s (pred own) n) ≡ 2 * count
     gather-count =
         let c : count ≡ otherStart (domOf s) (pred own) (unitsOf s) =

@@ -9,10 +9,11 @@ use lib.ListN.{length, getD, take, drop, set, length-append, length-take, length
 use lib.Seq.{take-all, getD-take, getD-drop, drop-cons, take-suc, set-at, length-take-le, take-append-seam, drop-append-add, drop-drop, paste, paste-zero, paste-suc}
 use Rattle.base.specs.Sums.{sumFrom}
 use Rattle.table.specs.Stream.{unitsOf}
-use Rattle.costs.specs.Instance.{domIn, pairStart}
+use Rattle.costs.specs.declared.Seat.{Seat}
+use Rattle.costs.specs.Instance.{domFrom, pairStart}
 use Rattle.costs.specs.Laws.Sums.{sumFrom-last}
 use Rattle.costs.specs.Laws.Stream.{pair-costs}
-use Rattle.costs.specs.Gather.{domOf, pairBytes, withOther, gatherTo, putAt, ShapeOf}
+use Rattle.costs.specs.Gather.{domOf, pairBytes, withOther, gatherTo, putAt, SeatIn}
 use Rattle.costs.specs.Gather.Sizes.{dom-same}
 use Rattle.costs.specs.Gather.Laws.{length-pair-bytes, with-own}
 
@@ -49,13 +50,13 @@ paste-next d at s from j hd hs =
 -- ---- parts put behind one another
 
 -- where the bytes of a pair stand and how many they are, from the numbers that the code works out
-module _ {s : List ℕ} {n : ℕ} {sizes : List ℕ} (shape : ShapeOf s n sizes) (i j w p a b : ℕ) (order : i < j) (inside : j < n)
-    (units : w ≡ n) (start : p ≡ pairStart (domIn n sizes) n i j) (lower : a ≡ domIn n sizes i) (higher : b ≡ domIn n sizes j) where
-  same : domIn n sizes ≡ domOf s
-  same = dom-same s (shape .units) (shape .array) (shape .most)
+module _ {s : List ℕ} {seat : Seat} (within : SeatIn s seat) (i j w p a b : ℕ) (order : i < j) (inside : j < seat .n)
+    (units : w ≡ seat .n) (start : p ≡ pairStart (domFrom seat) (seat .n) i j) (lower : a ≡ domFrom seat i) (higher : b ≡ domFrom seat j) where
+  same : domFrom seat ≡ domOf s
+  same = dom-same s (within .units) (within .array) (within .most)
 
   start-same : p ≡ pairStart (domOf s) (unitsOf s) i j
-  start-same = start ∙ ap (λ f. pairStart f n i j) same ∙ ap (λ m. pairStart (domOf s) m i j) (shape .units)
+  start-same = start ∙ ap (λ f. pairStart f (seat .n) i j) same ∙ ap (λ m. pairStart (domOf s) m i j) (within .units)
 
   sizes-same : a * b ≡ domOf s i * domOf s j
   sizes-same =
@@ -64,16 +65,16 @@ module _ {s : List ℕ} {n : ℕ} {sizes : List ℕ} (shape : ShapeOf s n sizes)
       rw (l, h)
 
   pub pair-count : 2 * (a * b) ≡ length (pairBytes s i j)
-  pair-count = ap (λ x. 2 * x) sizes-same ∙ sym (length-pair-bytes s (shape .long) i j order (omega (arith, shape .units)))
+  pair-count = ap (λ x. 2 * x) sizes-same ∙ sym (length-pair-bytes s (within .long) i j order (omega (arith, within .units)))
 
   pub pair-in-stream : 1 + w + 2 * p + 2 * (a * b) ≤ length s
-  pair-in-stream = omega (arith, start-same, sizes-same, shape .units, shape .long, pair-costs s (omega (arith, shape .long)) i j order (omega (arith, shape .units)))
+  pair-in-stream = omega (arith, start-same, sizes-same, within .units, within .long, pair-costs s (omega (arith, within .long)) i j order (omega (arith, within .units)))
 
   -- a part of a stream copied is the bytes of its pair
   pub put-pair : (d : List ℕ) (at : ℕ) → paste d at (drop (1 + w + 2 * p) s) (2 * (a * b)) ≡ putAt d at (pairBytes s i j)
   put-pair d at =
-      let f : 1 + w + 2 * p ≡ 1 + unitsOf s + 2 * pairStart (domOf s) (unitsOf s) i j = omega (arith, start-same, shape .units) in
-      let c : length (pairBytes s i j) ≡ 2 * (domOf s i * domOf s j) = length-pair-bytes s (shape .long) i j order (omega (arith, shape .units)) in
+      let f : 1 + w + 2 * p ≡ 1 + unitsOf s + 2 * pairStart (domOf s) (unitsOf s) i j = omega (arith, start-same, within .units) in
+      let c : length (pairBytes s i j) ≡ 2 * (domOf s i * domOf s j) = length-pair-bytes s (within .long) i j order (omega (arith, within .units)) in
       rw (f, sizes-same, c)
 
 -- nothing put changes nothing

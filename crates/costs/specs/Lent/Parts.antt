@@ -1,20 +1,17 @@
 -- The parts that the sums and least values over lent costs are worked out in. No public contract cites them.
 -- Assumes nothing.
-use Prim.Native.Nat.{ℕ, _+_, _*_, _-_}
+use Prim.Native.Nat.{ℕ, _+_, _*_, _-_, pred}
 use mathlib.Core.Bool.{cond, not, _&&_}
 use mathlib.Core.List.{List}
 use lib.Dec.{ltb, eqb}
 use Rattle.base.specs.Sums.{sumFrom, sumTo, least}
-use Rattle.costs.specs.Instance.{View, domIn, isValue, inPair, costNumber, lentCost}
+use Rattle.costs.specs.Instance.{View, domFrom, isValue, inPair, costNumber}
+use Rattle.costs.specs.declared.Seat.{Seat}
 use Rattle.costs.specs.Bounds.{costWith, h}
 
--- what the unit at place k sees in the costs lent with it
-unfoldable pub viewAt : ℕ → ℕ → List ℕ → List ℕ → View
-viewAt k n sizes costs = record { place = k; n = n; dom = domIn n sizes; pair = lentCost n (domIn n sizes) k costs }
-
--- how many values the units before place j have together, that at place k left out
-abbrev pub othersBefore : ℕ → List ℕ → ℕ → ℕ → ℕ
-othersBefore n sizes k j = sumTo (λ b. cond (eqb b k) 0 (domIn n sizes b)) j
+-- how many values the other units before place j have together
+abbrev pub othersBefore : Seat → ℕ → ℕ
+othersBefore seat j = sumTo (λ b. cond (eqb b (pred (seat .own))) 0 (domFrom seat b)) j
 
 -- the cost of own value v with value u of unit j, where the own unit, at place k, has d values and unit j has e,
 -- and the others before unit j have `before` values together

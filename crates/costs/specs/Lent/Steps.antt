@@ -13,9 +13,10 @@ use lib.ListN.{getD, take, length, length-take, List·getD-eq-default}
 use lib.Seq.{getD-take}
 use borrow.Author.Tests.{lt-ltb, le-ltb, le-leb, lt-leb, ltb-false, eq-eqb, ne-eqb}
 use Rattle.base.specs.Sums.{sumFrom, sumTo, least}
-use Rattle.costs.specs.Instance.{View, domIn, isValue, inPair, costNumber, lentCost, lentView}
+use Rattle.costs.specs.Instance.{View, domIn, isValue, inPair, costNumber, lentCost, lentView, domFrom, viewFrom}
+use Rattle.costs.specs.declared.Seat.{Seat}
 use Rattle.costs.specs.Bounds.{costWith, h, estimate}
-use Rattle.costs.specs.Lent.Parts.{viewAt, othersBefore, pairFrom, leastRun, laterFrom, leastCost}
+use Rattle.costs.specs.Lent.Parts.{othersBefore, pairFrom, leastRun, laterFrom, leastCost}
 
 -- ---- domain sizes
 
@@ -87,23 +88,19 @@ module _ (costs : List ℕ) (k j d e before u v : ℕ) where
   pair-higher h a b = rw (ne-eqb j k (λ q. omega arith), a, b, le-ltb j k (omega arith))
 
 -- the view's pair cost is made of these
-pub pair-from : (k n : ℕ) (sizes costs : List ℕ) (j u v : ℕ)
-    → viewAt k n sizes costs .pair j u v ≡ pairFrom costs k j (domIn n sizes k) (domIn n sizes j) (othersBefore n sizes k j) u v
-unfolding viewAt
-pair-from k n sizes costs j u v = go (ltb j n) refl
+pub pair-from : (seat : Seat) (costs : List ℕ) (j u v : ℕ)
+    → viewFrom seat costs .pair j u v ≡ pairFrom costs (pred (seat .own)) j (domFrom seat (pred (seat .own))) (domFrom seat j) (othersBefore seat j) u v
+unfolding lentView
+pair-from seat costs j u v = go (ltb j (seat .n)) refl
   where
-    go : (t : Bool) → ltb j n ≡ t → lentCost n (domIn n sizes) k costs j u v ≡ pairFrom costs k j (domIn n sizes k) (domIn n sizes j) (othersBefore n sizes k j) u v
+    go : (t : Bool) → ltb j (seat .n) ≡ t → lentCost (seat .n) (domFrom seat) (pred (seat .own)) costs j u v ≡ pairFrom costs (pred (seat .own)) j (domFrom seat (pred (seat .own))) (domFrom seat j) (othersBefore seat j) u v
     go true e = simp (e, and-true)
     go false e =
-        let z : domIn n sizes j ≡ 0 = dom-past-count n sizes j (ltb-false j n e) in
-        let w : isValue (domIn n sizes j) u ≡ false = rw z (no-value u) in
+        let z : domFrom seat j ≡ 0 = dom-past-count (seat .n) (seat .sizes) j (ltb-false j (seat .n) e) in
+        let w : isValue (domFrom seat j) u ≡ false = rw z (no-value u) in
         simp (e, w, and-false)
 
 -- ---- the cost with a prefix
-
-pub view-at : (own n : ℕ) (sizes costs : List ℕ) → lentView own n sizes costs ≡ viewAt (pred own) n sizes costs
-unfolding lentView viewAt
-view-at own n sizes costs = refl
 
 pub cost-none : (w : View) (values : List ℕ) (v : ℕ) → costWith w values 0 v ≡ 0
 unfolding costWith
@@ -115,50 +112,53 @@ cost-more w values j v = rw add-one
 
 -- ---- h
 
--- the others before the next place, once past the own
-pub others-later : (n : ℕ) (sizes : List ℕ) (k j : ℕ) → k < j → othersBefore n sizes k (j + 1) ≡ othersBefore n sizes k j + domIn n sizes j
-others-later n sizes k j l = rw (add-one, ne-eqb j k (λ q. omega arith))
+module _ (seat : Seat) where
+  -- the others before the next place, once past the own
+  pub others-later : (j : ℕ) → pred (seat .own) < j → othersBefore seat (j + 1) ≡ othersBefore seat j + domFrom seat j
+  others-later j l = rw (add-one, ne-eqb j (pred (seat .own)) (λ q. omega arith))
 
-module _ (k n : ℕ) (sizes costs : List ℕ) (v : ℕ) where
-  pub later-start : h (viewAt k n sizes costs) v ≡ laterFrom (viewAt k n sizes costs) v (k + 1)
-  unfolding h laterFrom viewAt
-  later-start = rw add-one
+  module _ (costs : List ℕ) (v : ℕ) where
+    pub later-start : h (viewFrom seat costs) v ≡ laterFrom (viewFrom seat costs) v (pred (seat .own) + 1)
+    unfolding h laterFrom lentView
+    later-start = rw add-one
 
-  pub later-done : (j : ℕ) → n ≤ j → laterFrom (viewAt k n sizes costs) v j ≡ 0
-  unfolding laterFrom viewAt
-  later-done j l = let e : n - j ≡ 0 = omega arith in rw e
+    pub later-done : (j : ℕ) → seat .n ≤ j → laterFrom (viewFrom seat costs) v j ≡ 0
+    unfolding laterFrom lentView
+    later-done j l = let e : seat .n - j ≡ 0 = omega arith in rw e
 
-  -- the costs of v with the values of a later unit are a run
-  later-run : (j : ℕ) → k < j → isValue (domIn n sizes k) v ≡ true
-      → least (λ u. viewAt k n sizes costs .pair j u v) (domIn n sizes j) ≡ leastRun costs (domIn n sizes k * othersBefore n sizes k j + (v - 1) * domIn n sizes j) (domIn n sizes j)
-  later-run j a c =
-      let start : ℕ = domIn n sizes k * othersBefore n sizes k j in
-      least-same (λ u. viewAt k n sizes costs .pair j u v) (λ u. costNumber costs (start + (v - 1) * domIn n sizes j + (u - 1))) (domIn n sizes j)
-      (λ u lo hi. pair-from k n sizes costs j u v
-      ∙ pair-higher costs k j (domIn n sizes k) (domIn n sizes j) (othersBefore n sizes k j) u v a (range-value (domIn n sizes j) u lo hi) c
-      ∙ ap (costNumber costs) (sym (add-assoc start ((v - 1) * domIn n sizes j) (u - 1))))
+    -- the costs of v with the values of a later unit are a run
+    later-run : (j : ℕ) → pred (seat .own) < j → isValue (domFrom seat (pred (seat .own))) v ≡ true
+        → least (λ u. viewFrom seat costs .pair j u v) (domFrom seat j) ≡ leastRun costs (domFrom seat (pred (seat .own)) * othersBefore seat j + (v - 1) * domFrom seat j) (domFrom seat j)
+    later-run j a c =
+        let d : ℕ = domFrom seat (pred (seat .own)) in
+        let start : ℕ = d * othersBefore seat j in
+        least-same (λ u. viewFrom seat costs .pair j u v) (λ u. costNumber costs (start + (v - 1) * domFrom seat j + (u - 1))) (domFrom seat j)
+        (λ u lo hi. pair-from seat costs j u v
+        ∙ pair-higher costs (pred (seat .own)) j d (domFrom seat j) (othersBefore seat j) u v a (range-value (domFrom seat j) u lo hi) c
+        ∙ ap (costNumber costs) (sym (add-assoc start ((v - 1) * domFrom seat j) (u - 1))))
 
-  -- one unit's part of h
-  pub later-step : (j : ℕ) → k < j → j < n → isValue (domIn n sizes k) v ≡ true
-      → laterFrom (viewAt k n sizes costs) v j
-      ≡ leastRun costs (domIn n sizes k * othersBefore n sizes k j + (v - 1) * domIn n sizes j) (domIn n sizes j) + laterFrom (viewAt k n sizes costs) v (j + 1)
-  unfolding laterFrom viewAt
-  later-step j a b c = let e : n - j ≡ suc (n - (j + 1)) = omega arith in rw (e, add-one, later-run j a c)
+    -- one unit's part of h
+    pub later-step : (j : ℕ) → pred (seat .own) < j → j < seat .n → isValue (domFrom seat (pred (seat .own))) v ≡ true
+        → laterFrom (viewFrom seat costs) v j
+        ≡ leastRun costs (domFrom seat (pred (seat .own)) * othersBefore seat j + (v - 1) * domFrom seat j) (domFrom seat j) + laterFrom (viewFrom seat costs) v (j + 1)
+    unfolding laterFrom lentView
+    later-step j a b c = let e : seat .n - j ≡ suc (seat .n - (j + 1)) = omega arith in rw (e, add-one, later-run j a c)
 
-  -- what is no value costs nothing
-  pub later-no-value : isValue (domIn n sizes k) v ≡ false → h (viewAt k n sizes costs) v ≡ 0
-  unfolding h viewAt
-  later-no-value c = sumFrom-zero _ (λ j. least-zero _ (λ u. rw (c, and-false)) (domIn n sizes j)) (suc k) (n - suc k)
+    -- what is no value costs nothing
+    pub later-no-value : isValue (domFrom seat (pred (seat .own))) v ≡ false → h (viewFrom seat costs) v ≡ 0
+    unfolding h lentView
+    later-no-value c = sumFrom-zero _ (λ j. least-zero _ (λ u. rw (c, and-false)) (domFrom seat j)) (suc (pred (seat .own))) (seat .n - suc (pred (seat .own)))
 
 -- ---- the estimate
 
-pub estimate-none : (k n : ℕ) (sizes costs values : List ℕ) (m : ℕ) → domIn n sizes k ≡ 0 → estimate (viewAt k n sizes costs) values m ≡ 0
-unfolding estimate viewAt
-estimate-none k n sizes costs values m e = rw e
+module _ (seat : Seat) (costs values : List ℕ) (m : ℕ) where
+  pub estimate-none : domFrom seat (pred (seat .own)) ≡ 0 → estimate (viewFrom seat costs) values m ≡ 0
+  unfolding estimate lentView
+  estimate-none e = rw e
 
-pub estimate-least : (k n : ℕ) (sizes costs values : List ℕ) (m : ℕ) → estimate (viewAt k n sizes costs) values m ≡ leastCost (viewAt k n sizes costs) values m (domIn n sizes k)
-unfolding estimate viewAt leastCost
-estimate-least k n sizes costs values m = refl
+  pub estimate-least : estimate (viewFrom seat costs) values m ≡ leastCost (viewFrom seat costs) values m (domFrom seat (pred (seat .own)))
+  unfolding estimate lentView leastCost
+  estimate-least = refl
 
 pub leastCost-one : (w : View) (values : List ℕ) (m : ℕ) → leastCost w values m 1 ≡ costWith w values m 1 + h w 1
 unfolding leastCost

@@ -1,8 +1,8 @@
 -- `gather` meets its contract: each way out settles the tests of the definition (Gather/Checks).
 -- Assumes nothing.
 use native.Mathlib.Omega.{arith}
-use Prim.Native.Nat.{_≤_}
-use mathlib.Core.Path.{sym, _∙_, subst}
+use Prim.Native.Nat.{pred}
+use mathlib.Core.Path.{refl, sym, _∙_}
 use borrow.Author.Tests.{not-true, not-false}
 use lib.ListN.{length}
 use Rattle.base.specs.Shape.{shape-n}
@@ -82,32 +82,28 @@ returns-5 c =
     let shape = shape-passed (a .stream .now) (a .own) (g .before .before .byte-at .result) (g .before .sizes-of .result) (a .out .now) (g .before .before .byte-at .ensures) (g .before .sizes-of .ensures) (c .before .before .before .before .wide .result) (c .before .before .before .row-start .result) most (c .before .before .before .before .wide .ensures .0) (c .before .before .before .row-start .ensures .0) (c .before .before .if4 .left) in
     short-out (a .stream .now) (a .own) (g .before .before .byte-at .result) (g .before .sizes-of .result) (a .out .now) (g .before .before .byte-at .ensures) (g .before .sizes-of .ensures) shape (c .before .before .before .before .before .before .if2 .left) (c .before .before .before .before .before .if3 .left) (c .before .lent-count .result) (c .before .lent-count .ensures .0) (c .if5 .taken)
 
-place-of-requires : tie.Need-place-of-requires
-place-of-requires c κs = search needs
-
 gather-all-requires : tie.Need-gather-all-requires
 gather-all-requires c κs =
-    let g = c .before .before .before .before .before .before .before .before .before .before in
+    let g = c .before .before .before .before .before .before .before .before .before in
     let a = g .before .before .before .before .before .args in
-    let good = sym (g .shape-good .ensures) ∙ not-false _ (c .before .before .before .before .before .before .before .before .before .if1 .left) in
+    let good = sym (g .shape-good .ensures) ∙ not-false _ (c .before .before .before .before .before .before .before .before .if1 .left) in
     let most = shape-n (g .before .before .byte-at .result) (g .before .sizes-of .result) good .1 in
-    let shape = shape-passed (a .stream .now) (a .own) (g .before .before .byte-at .result) (g .before .sizes-of .result) (a .out .now) (g .before .before .byte-at .ensures) (g .before .sizes-of .ensures) (c .before .before .before .before .before .before .wide .result) (c .before .before .before .before .before .row-start .result) most (c .before .before .before .before .before .before .wide .ensures .0) (c .before .before .before .before .before .row-start .ensures .0) (c .before .before .before .before .if4 .left) in
-    let p = c .before .place-of .ensures .0 in
-    let room = gather-count (a .stream .now) (a .own) (g .before .before .byte-at .result) (g .before .sizes-of .result) (a .out .now) (g .before .before .byte-at .ensures) (g .before .sizes-of .ensures) shape (c .before .before .before .before .before .before .before .before .if2 .left) (c .before .before .before .before .before .before .before .if3 .left) (c .before .before .before .lent-count .result) (c .before .before .before .lent-count .ensures .0) in
-    (shape, omega arith, subst (λ k. length (gatherTo (a .stream .now) k (g .before .before .byte-at .result)) ≤ length (a .out .now)) (sym p) (omega (arith, c .before .before .if5 .left)))
+    let shape = shape-passed (a .stream .now) (a .own) (g .before .before .byte-at .result) (g .before .sizes-of .result) (a .out .now) (g .before .before .byte-at .ensures) (g .before .sizes-of .ensures) (c .before .before .before .before .before .wide .result) (c .before .before .before .before .row-start .result) most (c .before .before .before .before .before .wide .ensures .0) (c .before .before .before .before .row-start .ensures .0) (c .before .before .before .if4 .left) in
+    let room = gather-count (a .stream .now) (a .own) (g .before .before .byte-at .result) (g .before .sizes-of .result) (a .out .now) (g .before .before .byte-at .ensures) (g .before .sizes-of .ensures) shape (c .before .before .before .before .before .before .before .if2 .left) (c .before .before .before .before .before .before .if3 .left) (c .before .before .lent-count .result) (c .before .before .lent-count .ensures .0) in
+    (shape, omega arith, omega (arith, c .before .if5 .left))
 
 same-length : tie.Need-same-length
 same-length c = search needs
 
 returns-6 : tie.Need-returns-6
 returns-6 c =
-    let g = c .before .before .before .before .before .before .before .before .before .before .before .before .before in
+    let g = c .before .before .before .before .before .before .before .before .before .before .before .before in
     let a = g .before .before .before .before .before .args in
-    let good = sym (g .shape-good .ensures) ∙ not-false _ (c .before .before .before .before .before .before .before .before .before .before .before .before .if1 .left) in
+    let good = sym (g .shape-good .ensures) ∙ not-false _ (c .before .before .before .before .before .before .before .before .before .before .before .if1 .left) in
     let most = shape-n (g .before .before .byte-at .result) (g .before .sizes-of .result) good .1 in
-    let shape = shape-passed (a .stream .now) (a .own) (g .before .before .byte-at .result) (g .before .sizes-of .result) (a .out .now) (g .before .before .byte-at .ensures) (g .before .sizes-of .ensures) (c .before .before .before .before .before .before .before .before .before .wide .result) (c .before .before .before .before .before .before .before .before .row-start .result) most (c .before .before .before .before .before .before .before .before .before .wide .ensures .0) (c .before .before .before .before .before .before .before .before .row-start .ensures .0) (c .before .before .before .before .before .before .before .if4 .left) in
+    let shape = shape-passed (a .stream .now) (a .own) (g .before .before .byte-at .result) (g .before .sizes-of .result) (a .out .now) (g .before .before .byte-at .ensures) (g .before .sizes-of .ensures) (c .before .before .before .before .before .before .before .before .wide .result) (c .before .before .before .before .before .before .before .row-start .result) most (c .before .before .before .before .before .before .before .before .wide .ensures .0) (c .before .before .before .before .before .before .before .row-start .ensures .0) (c .before .before .before .before .before .before .if4 .left) in
     let r = c .before .before .gather-all in
-    all-gathered (a .stream .now) (a .own) (g .before .before .byte-at .result) (g .before .sizes-of .result) (a .out .now) (g .before .before .byte-at .ensures) (g .before .sizes-of .ensures) shape (c .before .before .before .before .before .before .before .before .before .before .before .if2 .left) (c .before .before .before .before .before .before .before .before .before .before .if3 .left) (c .before .before .before .before .before .before .lent-count .result) (c .before .before .before .before .before .before .lent-count .ensures .0) good (c .before .before .before .before .before .if5 .left) (c .before .before .before .before .place-of .result) (r .result) _ (c .before .before .before .before .place-of .ensures .0) (r .ensures .0) (r .ensures .1)
+    all-gathered (a .stream .now) (a .own) (g .before .before .byte-at .result) (g .before .sizes-of .result) (a .out .now) (g .before .before .byte-at .ensures) (g .before .sizes-of .ensures) shape (c .before .before .before .before .before .before .before .before .before .before .if2 .left) (c .before .before .before .before .before .before .before .before .before .if3 .left) (c .before .before .before .before .before .lent-count .result) (c .before .before .before .before .before .lent-count .ensures .0) good (c .before .before .before .before .if5 .left) (pred (a .own)) (r .result) _ refl (r .ensures .0) (r .ensures .1)
 
 pub gather-spec : {M : Type 1} → statement M
 gather-spec =
@@ -128,7 +124,6 @@ gather-spec =
     lent-count-requires
     mul-if5
     returns-5
-    place-of-requires
     gather-all-requires
     same-length
     returns-6)

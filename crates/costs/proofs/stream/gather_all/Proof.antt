@@ -1,7 +1,7 @@
 -- `gather_all` meets its contract. The loop's invariant: the costs with the first j units stand in front, and `at` is where they end.
 -- Assumes nothing.
 use native.Mathlib.Omega.{arith}
-use Prim.Native.Nat.{_+_, _-_, _≤_}
+use Prim.Native.Nat.{_+_, _-_, _≤_, pred}
 use mathlib.Core.Path.{_≡_, refl, sym, ap, _∙_}
 use mathlib.Core.List.{_++_}
 use lib.ListN.{length, drop, length-append}
@@ -13,10 +13,10 @@ use Rattle.costs.proofs.stream.gather_all.Statement.{statement}
 use Rattle.costs.proofs.stream.gather_all.Tie as tie
 
 abbrev Inv-loop : tie.InvT-loop
-Inv-loop stream n sizes place out₀ count at₀ j₀ out at j = (count ≡ n) × (j ≤ n) × (at ≡ length (gatherTo stream place j)) × (length out ≡ length out₀) × (out ≡ gatherTo stream place j ++ drop (length (gatherTo stream place j)) out₀)
+Inv-loop stream seat out₀ count at₀ j₀ out at j = (count ≡ seat .n) × (j ≤ seat .n) × (at ≡ length (gatherTo stream (pred (seat .own)) j)) × (length out ≡ length out₀) × (out ≡ gatherTo stream (pred (seat .own)) j ++ drop (length (gatherTo stream (pred (seat .own)) j)) out₀)
 
 abbrev μ-loop : tie.MeasureT-loop
-μ-loop stream n sizes place out₀ count at₀ j₀ out at j = count - j
+μ-loop stream seat out₀ count at₀ j₀ out at j = count - j
 
 wide-requires : tie.Need-wide-requires Inv-loop μ-loop
 wide-requires c κs = search needs
@@ -24,14 +24,14 @@ wide-requires c κs = search needs
 loop-holds : tie.Need-loop-holds Inv-loop μ-loop
 loop-holds c =
     let a = c .before .before .before .args in
-    let e = gather-none (a .stream .now) (a .place) in
+    let e = gather-none (a .stream .now) (pred (a .seat .own)) in
     (c .wide .ensures .0, omega arith, rw e, refl, rw e)
 
 put-other-requires : tie.Need-put-other-requires Inv-loop μ-loop
 put-other-requires c κs =
     let s = c .before .before .before .before .before .before in
     let l = c .before .before .loop in
-    let room = gather-room (s .args .stream .now) (s .pre .0 .long) (s .args .place) (omega (arith, s .pre .0 .units)) (l .j) (s .args .n) (omega arith) in
+    let room = gather-room (s .args .stream .now) (s .pre .0 .long) (pred (s .args .seat .own)) (omega (arith, s .pre .0 .units)) (l .j) (s .args .seat .n) (omega arith) in
     (s .pre .0, s .pre .1, omega arith, omega arith)
 
 add-j : tie.Need-add-j Inv-loop μ-loop
@@ -44,9 +44,9 @@ loop-again : tie.Need-loop-again Inv-loop μ-loop
 loop-again c =
     let a = c .before .before .before .before .before .before .before .before .before .args in
     let l = c .before .before .before .before .before .loop in
-    let g = gatherTo (a .stream .now) (a .place) (l .j) in
-    let w = withOther (a .stream .now) (a .place) (l .j) in
-    let e : gatherTo (a .stream .now) (a .place) (l .j + 1) ≡ g ++ w = gather-next (a .stream .now) (a .place) (l .j) in (
+    let g = gatherTo (a .stream .now) (pred (a .seat .own)) (l .j) in
+    let w = withOther (a .stream .now) (pred (a .seat .own)) (l .j) in
+    let e : gatherTo (a .stream .now) (pred (a .seat .own)) (l .j + 1) ≡ g ++ w = gather-next (a .stream .now) (pred (a .seat .own)) (l .j) in (
       omega arith,
       omega arith,
       rw (e, length-append g w) (omega arith),
@@ -61,7 +61,7 @@ returns : tie.Need-returns Inv-loop μ-loop
 returns c =
     let a = c .before .before .before .before .before .args in
     let l = c .before .loop in
-    let e : l .j ≡ a .n = omega arith in
+    let e : l .j ≡ a .seat .n = omega arith in
     rw (← e) (l .inv .2, l .inv .4)
 
 pub gather-all-spec : {M : Type 1} → statement M

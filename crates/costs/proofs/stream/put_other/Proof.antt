@@ -1,7 +1,8 @@
 -- `put_other` meets its contract, by which of the two units comes first.
 -- Assumes nothing.
 use native.Mathlib.Omega.{arith}
-use mathlib.Core.Path.{_≡_}
+use Prim.Native.Nat.{pred}
+use mathlib.Core.Path.{_≡_, _∙_}
 use Rattle.costs.specs.Gather.{pairBytes, withOther}
 use Rattle.costs.specs.Gather.Laws.{with-before, with-after}
 use Rattle.costs.specs.Gather.Steps.{put-own}
@@ -9,43 +10,51 @@ use borrow.Author.Needs.{needs}
 use Rattle.costs.proofs.stream.put_other.Statement.{statement}
 use Rattle.costs.proofs.stream.put_other.Tie as tie
 
+place-of-requires : tie.Need-place-of-requires
+place-of-requires c κs = search needs
+
 returns : tie.Need-returns
-returns c = let s = c .before .before .before .args in put-own (s .stream .now) (s .out .now) (s .place) (s .j) (s .at) (c .if1 .taken)
+returns c = let s = c .before .before .before .before .args in put-own (s .stream .now) (s .out .now) (pred (s .seat .own)) (s .j) (s .at) (c .if1 .taken ∙ c .before .place-of .ensures .0)
 
 put-pair-requires : tie.Need-put-pair-requires
 put-pair-requires c κs =
-    let s = c .before .before .before .before .before in
-    let e : withOther (s .args .stream .now) (s .args .place) (s .args .j) ≡ pairBytes (s .args .stream .now) (s .args .j) (s .args .place) = with-before (s .args .stream .now) (s .args .place) (s .args .j) (omega arith) in
-    (s .pre .0, omega arith, omega arith, rw e at (s .pre .3))
+    let p = c .before .before .before .place-of in
+    let s = c .before .before .before .before .before .before in
+    let e : withOther (s .args .stream .now) (pred (s .args .seat .own)) (s .args .j) ≡ pairBytes (s .args .stream .now) (s .args .j) (pred (s .args .seat .own)) = with-before (s .args .stream .now) (pred (s .args .seat .own)) (s .args .j) (omega (arith, p .ensures .0)) in
+    (s .pre .0, omega arith, omega arith, rw (p .ensures .0) (rw e at (s .pre .3)))
 
 same-length : tie.Need-same-length
 same-length c = search needs
 
 returns-2 : tie.Need-returns-2
 returns-2 c =
-    let s = c .before .before .before .before .before .before .before .before .args in
-    let e : withOther (s .stream .now) (s .place) (s .j) ≡ pairBytes (s .stream .now) (s .j) (s .place) = with-before (s .stream .now) (s .place) (s .j) (omega arith) in
-    rw e (c .before .before .put-pair .ensures)
+    let p = c .before .before .before .before .before .before .place-of in
+    let s = c .before .before .before .before .before .before .before .before .before .args in
+    let e : withOther (s .stream .now) (pred (s .seat .own)) (s .j) ≡ pairBytes (s .stream .now) (s .j) (pred (s .seat .own)) = with-before (s .stream .now) (pred (s .seat .own)) (s .j) (omega (arith, p .ensures .0)) in
+    rw (e, ← p .ensures .0) (c .before .before .put-pair .ensures)
 
 put-pair-requires-2 : tie.Need-put-pair-requires-2
 put-pair-requires-2 c κs =
-    let s = c .before .before .before .before .before in
-    let e : withOther (s .args .stream .now) (s .args .place) (s .args .j) ≡ pairBytes (s .args .stream .now) (s .args .place) (s .args .j) = with-after (s .args .stream .now) (s .args .place) (s .args .j) (omega arith) in
-    (s .pre .0, omega arith, omega arith, rw e at (s .pre .3))
+    let p = c .before .before .before .place-of in
+    let s = c .before .before .before .before .before .before in
+    let e : withOther (s .args .stream .now) (pred (s .args .seat .own)) (s .args .j) ≡ pairBytes (s .args .stream .now) (pred (s .args .seat .own)) (s .args .j) = with-after (s .args .stream .now) (pred (s .args .seat .own)) (s .args .j) (omega (arith, p .ensures .0)) in
+    (s .pre .0, omega arith, omega arith, rw (p .ensures .0) (rw e at (s .pre .3)))
 
 same-length-2 : tie.Need-same-length-2
 same-length-2 c = search needs
 
 returns-3 : tie.Need-returns-3
 returns-3 c =
-    let s = c .before .before .before .before .before .before .before .before .args in
-    let e : withOther (s .stream .now) (s .place) (s .j) ≡ pairBytes (s .stream .now) (s .place) (s .j) = with-after (s .stream .now) (s .place) (s .j) (omega arith) in
-    rw e (c .before .before .put-pair2 .ensures)
+    let p = c .before .before .before .before .before .before .place-of in
+    let s = c .before .before .before .before .before .before .before .before .before .args in
+    let e : withOther (s .stream .now) (pred (s .seat .own)) (s .j) ≡ pairBytes (s .stream .now) (pred (s .seat .own)) (s .j) = with-after (s .stream .now) (pred (s .seat .own)) (s .j) (omega (arith, p .ensures .0)) in
+    rw (e, ← p .ensures .0) (c .before .before .put-pair2 .ensures)
 
 pub put-other-spec : {M : Type 1} → statement M
 put-other-spec =
     tie.close
     (tie.spec
+    place-of-requires
     returns
     put-pair-requires
     same-length

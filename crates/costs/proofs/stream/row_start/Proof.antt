@@ -5,16 +5,16 @@ use mathlib.Core.Path.{_≡_}
 use native.Mathlib.Omega.{arith}
 use native.Mathlib.Nat.{mul-le-mul}
 use native.Mathlib.Numerals.{add-one}
-use Rattle.costs.specs.Instance.{domIn, rowStart}
+use Rattle.costs.specs.Instance.{domFrom, rowStart}
 use borrow.Author.Needs.{needs}
 use Rattle.costs.proofs.stream.row_start.Statement.{statement}
 use Rattle.costs.proofs.stream.row_start.Tie as tie
 
 abbrev Inv-loop : tie.InvT-loop
-Inv-loop n sizes i sum₀ a₀ sum a = (a ≤ i) × (sum ≡ rowStart (domIn n sizes) n a) × (sum ≤ 1040400 * a)
+Inv-loop seat i sum₀ a₀ sum a = (a ≤ i) × (sum ≡ rowStart (domFrom seat) (seat .n) a) × (sum ≤ 1040400 * a)
 
 abbrev μ-loop : tie.MeasureT-loop
-μ-loop n sizes i sum₀ a₀ sum a = i - a
+μ-loop seat i sum₀ a₀ sum a = i - a
 
 loop-holds : tie.Need-loop-holds Inv-loop μ-loop
 loop-holds c = search needs

@@ -4,17 +4,17 @@ use Prim.Native.Nat.{_*_, _-_, _≤_}
 use mathlib.Core.Path.{_≡_}
 use native.Mathlib.Omega.{arith}
 use Rattle.base.specs.Sums.{sumFrom}
-use Rattle.costs.specs.Instance.{domIn}
+use Rattle.costs.specs.Instance.{domFrom}
 use Rattle.costs.specs.Gather.Steps.{sum-more}
 use borrow.Author.Needs.{needs}
 use Rattle.costs.proofs.stream.sum_sizes.Statement.{statement}
 use Rattle.costs.proofs.stream.sum_sizes.Tie as tie
 
 abbrev Inv-loop : tie.InvT-loop
-Inv-loop n sizes lo m sum₀ i₀ sum i = (i ≤ m) × (sum ≡ sumFrom (domIn n sizes) lo i) × (sum ≤ 255 * i)
+Inv-loop seat lo m sum₀ i₀ sum i = (i ≤ m) × (sum ≡ sumFrom (domFrom seat) lo i) × (sum ≤ 255 * i)
 
 abbrev μ-loop : tie.MeasureT-loop
-μ-loop n sizes lo m sum₀ i₀ sum i = m - i
+μ-loop seat lo m sum₀ i₀ sum i = m - i
 
 loop-holds : tie.Need-loop-holds Inv-loop μ-loop
 loop-holds c = search needs
