@@ -56,7 +56,10 @@ static void start(struct box *box, uint8_t own, const uint8_t *stream, size_t le
     box->own = own;
     box->n = stream[0];
     box->sizes = riksamoe_sizes(stream, length);
-    box->costs_length = riksamoe_costs(stream, length, own, box->costs, sizeof box->costs);
+    riksamoe_length_t costs = riksamoe_costs(stream, length, own, box->costs, sizeof box->costs);
+    if (costs.refusal != 0)
+        fail("refused", costs.refusal);
+    box->costs_length = costs.length;
     riksamoe_outcome_t made =
         riksamoe_unit_make(own, box->n, box->sizes, box->costs, box->costs_length, out, sizeof out);
     if (made.refusal != 0)

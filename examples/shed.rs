@@ -56,7 +56,7 @@ mod riksamoe {
     extern "C" {
         pub fn riksamoe_table_read(file: *const u8, length: usize, stream: *mut u8, room: usize) -> Length;
         pub fn riksamoe_sizes(stream: *const u8, length: usize) -> Sizes;
-        pub fn riksamoe_costs(stream: *const u8, length: usize, own: u8, out: *mut u8, room: usize) -> usize;
+        pub fn riksamoe_costs(stream: *const u8, length: usize, own: u8, out: *mut u8, room: usize) -> Length;
         pub fn riksamoe_unit_make(
             own: u8,
             n: u8,
@@ -118,8 +118,11 @@ impl Node {
         // every pointer comes with the length of the slice that it points into, and the library keeps none
         let (sizes, made) = unsafe {
             let sizes = riksamoe_sizes(stream.as_ptr(), stream.len());
-            let length = riksamoe_costs(stream.as_ptr(), stream.len(), own, costs.as_mut_ptr(), costs.len());
-            costs.truncate(length);
+            let gathered = riksamoe_costs(stream.as_ptr(), stream.len(), own, costs.as_mut_ptr(), costs.len());
+            if gathered.refusal != 0 {
+                return Err(gathered.refusal);
+            }
+            costs.truncate(gathered.length);
             (sizes, riksamoe_unit_make(own, n, sizes, costs.as_ptr(), costs.len(), out.as_mut_ptr(), out.len()))
         };
         if made.refusal != 0 {

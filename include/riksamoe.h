@@ -201,9 +201,8 @@ riksamoe_length_t riksamoe_table_write(const uint8_t *stream, size_t length, uin
  * call refuses by 5, it gives the first 16. */
 riksamoe_sizes_t riksamoe_sizes(const uint8_t *stream, size_t length);
 
-/* The costs that touch unit `own`, to the front of `out` (RIKSAMOE_COSTS bytes are always enough): gives how many bytes. It gives 0 and
- * writes nothing where n, a size or `own` is out of range, or the stream or `out` too short. */
-size_t riksamoe_costs(const uint8_t *stream, size_t length, uint8_t own, uint8_t *out, size_t room);
+/* The costs that touch unit `own`, to the front of `out` (RIKSAMOE_COSTS bytes are always enough): 5, 10, 6, 7, 13. */
+riksamoe_length_t riksamoe_costs(const uint8_t *stream, size_t length, uint8_t own, uint8_t *out, size_t room);
 
 /* ---- Messages. A box needs neither: making and steps read and write packets themselves. They are for tools that watch the radio. */
 

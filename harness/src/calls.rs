@@ -28,7 +28,7 @@ pub const CALLS: [(Call, &str, &[u8]); 13] = [
     (Call::Block, "table::read_block", &[1, 4, 2, 3]),
     (Call::Read, "table::read", &[13, 1, 4, 2, 3, 5, 6, 7]),
     (Call::Write, "table::write", &[5, 6, 7, 13]),
-    (Call::Lent, "costs::sizes_of and costs::gather", &[]),
+    (Call::Lent, "costs::sizes_of and costs::gather", &[5, 10, 6, 7, 13]),
     (Call::Parse, "message::parse", &[5, 8, 10, 9]),
     (Call::Encode, "message::write", &[5, 10, 9, 13]),
     (Call::Make, "unit::make", &[5, 10, 6, 7, 13]),
@@ -87,11 +87,10 @@ fn length_outcome(answer: Result<usize, u8>, lent: Vec<u8>) -> Outcome {
     Outcome { refusal, numbers: vec![length as u64], lent, ..Outcome::default() }
 }
 
-/// The sizes of a stream, and how many bytes of costs were written.
-pub fn lent_outcome(sizes: &Places, count: usize, lent: Vec<u8>) -> Outcome {
-    let mut numbers = vec![count as u64];
-    numbers.extend(sizes.map(u64::from));
-    Outcome { numbers, lent, ..Outcome::default() }
+/// The outcome of gathering, with the sizes of the stream.
+pub fn lent_outcome(sizes: &Places, mut gathered: Outcome) -> Outcome {
+    gathered.numbers.extend(sizes.map(u64::from));
+    gathered
 }
 
 /// The reference implementation's outcome.
@@ -105,8 +104,8 @@ pub fn reference(input: Input) -> Outcome {
         Input::Read { file, mut stream } => length_outcome(table::read(&file, &mut stream), stream),
         Input::Write { stream, mut file } => length_outcome(table::write(&stream, &mut file), file),
         Input::Lent { stream, own, mut out } => {
-            let count = costs::gather(&stream, own, &mut out);
-            lent_outcome(&costs::sizes_in(&stream), count, out)
+            let answer = costs::gather(&stream, own, &mut out);
+            lent_outcome(&costs::sizes_in(&stream), length_outcome(answer, out))
         }
         Input::Parse { n, sizes, packet } => match message::parse(n, &sizes, &packet) {
             Ok((kind, message)) => Outcome { numbers: vec![kind.into()], message, ..Outcome::default() },

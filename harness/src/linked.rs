@@ -116,7 +116,7 @@ extern "C" {
     fn riksamoe_table_read(file: *const u8, length: usize, stream: *mut u8, room: usize) -> Length;
     fn riksamoe_table_write(stream: *const u8, length: usize, file: *mut u8, room: usize) -> Length;
     fn riksamoe_sizes(stream: *const u8, length: usize) -> Sizes;
-    fn riksamoe_costs(stream: *const u8, length: usize, own: u8, out: *mut u8, room: usize) -> usize;
+    fn riksamoe_costs(stream: *const u8, length: usize, own: u8, out: *mut u8, room: usize) -> Length;
     fn riksamoe_message_parse(n: u8, sizes: Sizes, bytes: *const u8, length: usize) -> Parsed;
     fn riksamoe_message_write(n: u8, sizes: Sizes, kind: u8, message: Message, out: *mut u8, room: usize) -> u8;
     fn riksamoe_unit_make(
@@ -187,7 +187,7 @@ pub fn sizes(stream: &[u8]) -> Places {
     unsafe { riksamoe_sizes(stream.as_ptr(), stream.len()) }.places
 }
 
-pub fn costs(stream: &[u8], own: u8, out: &mut [u8]) -> usize {
+pub fn costs(stream: &[u8], own: u8, out: &mut [u8]) -> Length {
     unsafe { riksamoe_costs(stream.as_ptr(), stream.len(), own, out.as_mut_ptr(), out.len()) }
 }
 
@@ -364,8 +364,8 @@ pub fn linked(input: Input) -> Outcome {
         Input::Read { file, mut stream } => length_outcome(table_read(&file, &mut stream), stream),
         Input::Write { stream, mut file } => length_outcome(table_write(&stream, &mut file), file),
         Input::Lent { stream, own, mut out } => {
-            let count = costs(&stream, own, &mut out);
-            lent_outcome(&sizes(&stream), count, out)
+            let answer = costs(&stream, own, &mut out);
+            lent_outcome(&sizes(&stream), length_outcome(answer, out))
         }
         Input::Parse { n, sizes, packet } => {
             let answer = message_parse(n, &sizes, &packet);

@@ -16,6 +16,7 @@ fn lent(input: &Input) -> Option<Vec<u8>> {
     match input {
         Input::Read { stream: lent, .. }
         | Input::Write { file: lent, .. }
+        | Input::Lent { out: lent, .. }
         | Input::Encode { out: lent, .. }
         | Input::Make { out: lent, .. }
         | Input::Step { out: lent, .. }

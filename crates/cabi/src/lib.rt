@@ -17,7 +17,7 @@ ghost use lib.ListN.{length};
 ghost use Rattle.checksum.specs.Sum.{sumOf};
 ghost use Rattle.table.specs.Block.{blockRefusal};
 ghost use Rattle.table.specs.File.{readOf, readInto, writeOf, writeInto};
-ghost use Rattle.costs.specs.Gather.{sizesIn, gatherCount, gatherInto};
+ghost use Rattle.costs.specs.Gather.{sizesIn, gatherOf, gatherInto};
 ghost use Rattle.message.specs.Decode.{parseOf};
 ghost use Rattle.unit.specs.State.{noUnit};
 ghost use Rattle.unit.specs.Calls.{outcomeOf, bytesOf, makeOut};
@@ -149,8 +149,8 @@ pub extern "C" fn riksamoe_sizes(stream: &[u8]) -> Sizes
 }
 
 #[no_mangle]
-pub extern "C" fn riksamoe_costs(stream: &[u8], own: u8, out: &mut [u8]) -> usize
-    ensures { λ r. ⌜ (r ≡ gatherCount (now (stream .entry)) own (length (now (out .entry)))) × (now (out .exit) ≡ gatherInto (now (stream .entry)) own (now (out .entry))) ⌝ }
+pub extern "C" fn riksamoe_costs(stream: &[u8], own: u8, out: &mut [u8]) -> base::Length
+    ensures { λ r. ⌜ (r ≡ gatherOf (now (stream .entry)) own (length (now (out .entry)))) × (now (out .exit) ≡ gatherInto (now (stream .entry)) own (now (out .entry))) ⌝ }
 {
     costs::gather(stream, own, out)
 }

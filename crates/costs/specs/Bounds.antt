@@ -1,6 +1,6 @@
 -- What a unit works out from its view: the cost of a value with a prefix, h, the estimate; and the total of an assignment.
 -- Assumes nothing.
-use Prim.Native.Nat.{ℕ, suc, _+_, _-_, _≤_, _<_}
+use Prim.Native.Nat.{ℕ, zero, suc, _+_, _*_, _-_, _≤_, _<_}
 use mathlib.Core.List.{List}
 use lib.ListN.{getD}
 use Rattle.base.specs.Sums.{sumFrom, sumTo, least}
@@ -27,3 +27,14 @@ Assignment I l = (k : ℕ) → k < I .n → (1 ≤ getD l k 0) × (getD l k 0 �
 -- 01: "its total is the sum over all pairs"
 unfoldable pub total : Instance → List ℕ → ℕ
 total I l = sumTo (λ k. sumTo (λ i. I .cost i (getD l i 0) k (getD l k 0)) k) (I .n)
+
+-- ---- beginnings, 01: "the values of units 1 to i"
+
+-- how many of k units there are, by the domain sizes: d(1) × .. × d(k)
+abbrev pub prefixCount : (ℕ → ℕ) → ℕ → ℕ
+prefixCount dom zero = 1
+prefixCount dom (suc k) = prefixCount dom k * dom k
+
+-- 01: "N is d(1) + d(1) × d(2) + .. up to d(1) × .. × d(n-1); 0 for n = 1"
+abbrev pub N : Instance → ℕ
+N I = sumTo (λ k. prefixCount (I .dom) (suc k)) (I .n - 1)

@@ -3,31 +3,25 @@
 -- Assumes nothing.
 use Prim.Native.Nat.{ℕ, zero, suc, _+_, _*_, _≤_, pred}
 use mathlib.Core.Path.{_≡_}
-use mathlib.Core.Bool.{Bool, cond, _&&_}
+use mathlib.Core.Bool.{cond}
 use mathlib.Core.List.{List, [], _++_}
-use lib.Dec.{ltb, leb, eqb}
+use lib.Dec.{ltb, eqb}
 use lib.ListN.{length, take, drop, replicate}
-use Rattle.base.specs.Shape.{shapeGood}
-use Rattle.table.specs.Stream.{unitsOf, sizesOf, needed}
+use Rattle.base.specs.declared.Length.{Length}
+use Rattle.base.specs.Limits.{places}
+use Rattle.base.specs.Refusal.{orElse}
+use Rattle.table.specs.Stream.{unitsOf, sizesOf, needed, streamRefusal}
 use Rattle.costs.specs.declared.Seat.{Seat}
-use Rattle.costs.specs.Instance.{domIn, isValue, pairStart}
+use Rattle.base.specs.Shape.{isValue}
+use Rattle.costs.specs.Instance.{domOf, pairStart}
 pub mod Sizes
 pub mod Laws
 pub mod Steps
 pub mod Checks
 
--- ---- the parts of a stream
-
--- its domain sizes, and as an array of 16 places: the first n sizes, zero after
-abbrev pub domOf : List ℕ → ℕ → ℕ
-domOf s = domIn (unitsOf s) (drop 1 s)
-
+-- the sizes of a stream as an array of 16 places: the first n, zero after
 unfoldable pub sizesIn : List ℕ → List ℕ
-sizesIn s = take 16 (sizesOf s ++ replicate 16 0)
-
--- its costs
-abbrev pub costsOf : List ℕ → List ℕ
-costsOf s = drop (1 + unitsOf s) s
+sizesIn s = take places (sizesOf s ++ replicate places 0)
 
 -- ---- the costs of one unit
 
@@ -50,23 +44,22 @@ gathered s own = gatherTo s (pred own) (unitsOf s)
 
 -- ---- what gathering gives, whatever it is lent
 
--- n and the sizes are 1 to 16, `own` is one of the n units, the stream is as long as they need, and the bytes fit
-unfoldable pub gatherable : List ℕ → ℕ → ℕ → Bool
-gatherable s own room = shapeGood (unitsOf s) (sizesIn s) && isValue (unitsOf s) own && leb (needed s) (length s) && leb (length (gathered s own)) room
+-- 01, of making a unit: "5, 10, 6, 7, 13"; 5, 6 and 7 are the stream's, 13 is that the bytes don't fit
+unfoldable pub gatherRefusal : List ℕ → ℕ → ℕ → ℕ
+gatherRefusal s own room =
+    cond (eqb (streamRefusal s) 5) 5
+    (cond (isValue (unitsOf s) own) (orElse (streamRefusal s) (cond (ltb room (length (gathered s own))) 13 0))
+    10)
 
--- how many bytes it writes
-abbrev pub gatherCount : List ℕ → ℕ → ℕ → ℕ
-gatherCount s own room = cond (gatherable s own room) (length (gathered s own)) 0
+-- the refusal, or 0 and how many bytes it writes
+abbrev pub gatherOf : List ℕ → ℕ → ℕ → Length
+gatherOf s own room = cond (eqb (gatherRefusal s own room) 0) (record { refusal = 0; length = length (gathered s own) }) (record { refusal = gatherRefusal s own room; length = 0 })
 
 -- what the lent bytes then are: those gathered in front, the rest as it was
 abbrev pub gatherInto : List ℕ → ℕ → List ℕ → List ℕ
-gatherInto s own l = cond (gatherable s own (length l)) (gathered s own ++ drop (length (gathered s own)) l) l
+gatherInto s own l = cond (eqb (gatherRefusal s own (length l)) 0) (gathered s own ++ drop (length (gathered s own)) l) l
 
 -- ---- what the pieces of its code go by
-
--- the list m written over d from place `at` on
-abbrev pub putAt : List ℕ → ℕ → List ℕ → List ℕ
-putAt d at m = take at d ++ m ++ drop (at + length m) d
 
 -- n and the sizes of a seat are those of a stream that is long enough for them
 pub record SeatIn (s : List ℕ) (seat : Seat) : Type 0 where

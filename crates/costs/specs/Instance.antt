@@ -1,13 +1,15 @@
 -- The instance that a table describes, what one unit sees of it, and where the bytes of a pair cost stand.
 -- Units count from 0 here: place k is document 01's unit k + 1. Values count from 1, as in document 01.
 -- Assumes nothing.
-use Prim.Native.Nat.{ℕ, zero, suc, _+_, _*_, _-_, pred}
-use mathlib.Core.Bool.{Bool, true, false, cond, not, _&&_}
+use Prim.Native.Nat.{ℕ, suc, _+_, _*_, _-_, pred}
+use mathlib.Core.Bool.{cond, not, _&&_}
 use mathlib.Core.List.{List}
-use lib.Dec.{ltb, leb, eqb}
+use lib.Dec.{ltb, eqb}
 use lib.ListN.{getD, take, drop}
 use Rattle.base.specs.Bytes.{u16At}
+use Rattle.base.specs.Shape.{isValue}
 use Rattle.base.specs.Sums.{sumFrom, sumTo}
+use Rattle.table.specs.Stream.{unitsOf}
 use Rattle.costs.specs.declared.Seat.{Seat}
 
 -- ---- the instance
@@ -34,10 +36,6 @@ viewOf I k = record { place = k; n = I .n; dom = I .dom; pair = λ j u v. cond (
 abbrev pub domIn : ℕ → List ℕ → ℕ → ℕ
 domIn n sizes k = getD (take n sizes) k 0
 
--- v is a value of a unit of d values
-abbrev pub isValue : ℕ → ℕ → Bool
-isValue d v = leb 1 v && leb v d
-
 -- how many costs a table has before those of the pairs of unit i, and of the pair (i, j)
 -- 01: "for pairs (1,2), (1,3) .. (n-1,n)"
 abbrev pub rowStart : (ℕ → ℕ) → ℕ → ℕ → ℕ
@@ -60,11 +58,14 @@ tableCost n dom costs i u j v =
     cond (ltb i j && ltb j n && isValue (dom i) u && isValue (dom j) v) (costNumber costs (pairStart dom n i j + inPair (dom j) u v)) 0
 
 -- The instance of a stream: n, then n sizes, then the costs.
+abbrev pub domOf : List ℕ → ℕ → ℕ
+domOf s = domIn (unitsOf s) (drop 1 s)
+
+abbrev pub costsOf : List ℕ → List ℕ
+costsOf s = drop (1 + unitsOf s) s
+
 unfoldable pub instanceOf : List ℕ → Instance
-instanceOf s =
-    let n = getD s 0 0 in
-    let dom = domIn n (drop 1 s) in
-    record { n = n; dom = dom; cost = tableCost n dom (drop (1 + n) s) }
+instanceOf s = record { n = unitsOf s; dom = domOf s; cost = tableCost (unitsOf s) (domOf s) (costsOf s) }
 
 -- ---- the costs that touch one unit, 01: "by the other unit ascending, each pair in the stream's order"
 
@@ -72,19 +73,15 @@ instanceOf s =
 abbrev pub otherStart : (ℕ → ℕ) → ℕ → ℕ → ℕ
 otherStart dom k j = dom k * sumTo (λ b. cond (eqb b k) 0 (dom b)) j
 
--- the place of the cost of own value v with value u of unit j, among those with unit j
-abbrev pub inOther : (ℕ → ℕ) → ℕ → ℕ → ℕ → ℕ → ℕ
-inOther dom k j u v = cond (ltb j k) (inPair (dom k) u v) (inPair (dom j) v u)
-
+-- A cost of unit k's value v with value u of unit j, from the costs that touch unit k; 0 where there is no such pair of values.
 abbrev pub lentCost : ℕ → (ℕ → ℕ) → ℕ → List ℕ → ℕ → ℕ → ℕ → ℕ
 lentCost n dom k costs j u v =
-    cond (not (eqb j k) && ltb j n && isValue (dom j) u && isValue (dom k) v) (costNumber costs (otherStart dom k j + inOther dom k j u v)) 0
+    cond (not (eqb j k) && ltb j n && isValue (dom j) u && isValue (dom k) v)
+    (costNumber costs (otherStart dom k j + cond (ltb j k) (inPair (dom k) u v) (inPair (dom j) v u))) 0
 
 -- What unit `own` (1 to n) sees in the costs lent with it.
 unfoldable pub lentView : ℕ → ℕ → List ℕ → List ℕ → View
-lentView own n sizes costs =
-    let dom = domIn n sizes in
-    record { place = pred own; n = n; dom = dom; pair = lentCost n dom (pred own) costs }
+lentView own n sizes costs = record { place = pred own; n = n; dom = domIn n sizes; pair = lentCost n (domIn n sizes) (pred own) costs }
 
 -- The same of a unit's seat, which holds the first three; and the domain sizes there.
 abbrev pub domFrom : Seat → ℕ → ℕ

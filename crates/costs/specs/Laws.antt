@@ -1,6 +1,6 @@
--- The problem of an instance, that its bounds are bounds (L1 to L6 of the protocol's proof), and the limits of its costs.
+-- The problem of an instance, that its bounds are bounds (L1 to L6 of the protocol's proof), and the limit of its totals.
 -- In order: `Sound`, what holds of the instance of an accepted stream; the functions of a prefix, last unit first; the
--- laws; the limits. How these functions are specs/Bounds' is in Laws/Prefix. The laws go by one fact, `bound`: the cost so far
+-- laws; the limit. How these functions are specs/Bounds' is in Laws/Prefix. The laws go by one fact, `bound`: the cost so far
 -- and all estimates bound every full assignment, as one value more counts each pair of unassigned units once.
 -- Assumes nothing.
 use Prim.Native.Nat.{ℕ, zero, suc, _+_, _*_, _-_, _≤_, _<_}
@@ -12,8 +12,7 @@ use lib.ListN.{length}
 use Rattle.base.specs.Sums.{sumFrom, least}
 use Rattle.costs.specs.Instance.{Instance}
 use Rattle.costs.specs.Problem.{Problem, InDomains, Full, ClosedBy, Closed, Laws, closed-least}
-use Rattle.costs.specs.Laws.Sums.{sumFrom-le, sumFrom-add-le, least-le, least-add, least-bound}
-pub mod Sums
+use Rattle.base.specs.Sums.Laws.{sumFrom-add-le, least-le, least-add}
 pub mod Prefix
 pub mod Stream
 
@@ -96,7 +95,7 @@ module _ (I : Instance) where
         closed-by-estimates = by-estimates;
       }
 
--- ---- the limits. 01: "A paper or copy with k filled units costs at most 30,000 × k × (k-1), an estimate at most 7,200,000"
+-- ---- the limit of a total, 01: "A bound is at most 7,200,000"
 
 module _ (I : Instance) (s : Sound I) where
   pub against-limit : (j v : ℕ) (b : List ℕ) → against I j v b ≤ 60000 * length b
@@ -107,20 +106,8 @@ module _ (I : Instance) (s : Sound I) where
   cost-and-more [] = omega arith
   cost-and-more (v ∷ b) = omega (arith, cost-and-more b, against-limit (length b) v b)
 
-  pub cost-limit : (b : List ℕ) → costOf I b ≤ 30000 * length b * (length b - 1)
-  cost-limit [] = omega arith
-  cost-limit (v ∷ b) = let e : suc (length b) - 1 ≡ length b = omega arith in rw e (omega (arith, cost-and-more b, against-limit (length b) v b))
-
-  -- of a full assignment
   pub full-limit : (b : List ℕ) → length b ≤ I .n → costOf I b ≤ 7200000
   full-limit b l = let k : length b ≤ 16 = omega (arith, s .n16) in omega (arith, cost-and-more b, mul-le-mul k (le-refl (length b)))
-
-  pub h-limit : (k v : ℕ) → hOf I k v ≤ 60000 * (I .n - suc k)
-  h-limit k v = sumFrom-le (λ j. least (λ u. I .cost k v j u) (I .dom j)) 60000 (suc k) (I .n - suc k) (λ j. least-bound (λ u. I .cost k v j u) (I .dom j) 60000 (λ u. s .small k v j u))
-
-  -- an estimate is over one value's pairs only
-  pub estimate-limit : (k : ℕ) (b : List ℕ) → k < I .n → length b ≤ k → estimateOf I k b ≤ 900000
-  estimate-limit k b h l = least-bound (λ v. against I k v b + hOf I k v) (I .dom k) 900000 (λ v. omega (arith, against-limit k v b, h-limit k v, s .n16))
 
 -- ---- there is a full assignment: each unit's first value
 

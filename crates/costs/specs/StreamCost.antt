@@ -14,11 +14,11 @@ use borrow.Author.Tests.{lt-ltb, ltb-true, ltb-false}
 use Rattle.base.specs.Bytes.{u16At}
 use Rattle.base.specs.Sums.{sumFrom}
 use Rattle.table.specs.Stream.{unitsOf}
-use Rattle.costs.specs.Instance.{isValue, inPair, costNumber, pairStart, rowStart, tableCost, viewOf, instanceOf}
+use Rattle.base.specs.Shape.{isValue}
+use Rattle.costs.specs.Instance.{inPair, costNumber, pairStart, rowStart, tableCost, viewOf, instanceOf, domOf, costsOf}
 use Rattle.costs.specs.Bounds.{costWith}
-use Rattle.costs.specs.Laws.Sums.{sumTo-sumFrom}
+use Rattle.base.specs.Sums.Laws.{sumTo-sumFrom}
 use Rattle.costs.specs.Lent.Steps.{dom-past-count, no-value, sumFrom-zero, cost-none, cost-more}
-use Rattle.costs.specs.Gather.{domOf, costsOf}
 
 -- a unit with a value is one of the n
 pub value-inside : (s : List ℕ) (k v : ℕ) → isValue (domOf s k) v ≡ true → k < unitsOf s
@@ -89,45 +89,57 @@ module _ (s values : List ℕ) (place v : ℕ) where
     sum-most = omega arith;
   }
 
-  module _ (later between row sum j e paid : ℕ) (own : isValue (domOf s place) v ≡ true) (now : Running s values place v later between row sum j) (more : j < place) (size : e ≡ domOf s j) (byte : e ≤ 255) where
-    in-units : j < unitsOf s
-    in-units = omega (arith, value-inside s place v own)
+-- what holds in a turn, before the pair with the unit at place j, of e values
+pub record Turn (s values : List ℕ) (place v later between row sum j e : ℕ) : Type 0 where
+  pub own : isValue (domOf s place) v ≡ true
+  pub now : Running s values place v later between row sum j
+  pub more : j < place
+  pub size : e ≡ domOf s j
+  pub byte : e ≤ 255
 
-    pub later-after : later ≡ e + sumFrom (domOf s) (suc j) (unitsOf s - suc j)
-    later-after = now .later-sizes ∙ sizes-after (domOf s) j (unitsOf s) in-units ∙ rw size
+module _ {s values : List ℕ} {place v later between row sum j e : ℕ} (t : Turn s values place v later between row sum j e) where
+  pub later-after : later ≡ e + sumFrom (domOf s) (suc j) (unitsOf s - suc j)
+  later-after =
+      let inside : j < unitsOf s = omega (arith, value-inside s place v (t .own)) in
+      t .now .later-sizes ∙ sizes-after (domOf s) j (unitsOf s) inside ∙ rw (t .size)
 
-    pub between-after : between ≡ e + sumFrom (domOf s) (suc j) (place - suc j)
-    between-after = now .between-sizes ∙ sizes-after (domOf s) j place more ∙ rw size
+  pub between-after : between ≡ e + sumFrom (domOf s) (suc j) (place - suc j)
+  between-after = t .now .between-sizes ∙ sizes-after (domOf s) j place (t .more) ∙ rw (t .size)
 
-    pub place-most : row + e * (between - e) ≤ 16581375 * place
-    place-most =
-        let b : between - e ≤ 65025 = omega (arith, now .between-most) in
-        omega (arith, mul-le-mul byte b, now .row-most)
+  pub place-most : row + e * (between - e) ≤ 16581375 * place
+  place-most =
+      let b : between - e ≤ 65025 = omega (arith, t .now .between-most) in
+      omega (arith, mul-le-mul (t .byte) b, t .now .row-most)
 
-    -- where the costs of the pair start
-    pub pair-begins : row + e * (between - e) ≡ pairStart (domOf s) (unitsOf s) j place
-    pair-begins =
-        let b : between - e ≡ sumFrom (domOf s) (suc j) (place - suc j) = omega (arith, between-after) in
-        rw (now .row-start, b, size)
+  pub row-after : row + e * (later - e) ≤ 16581375 * (j + 1)
+  row-after =
+      let l : later - e ≤ 65025 = omega (arith, t .now .later-most) in
+      omega (arith, t .now .row-most, mul-le-mul (t .byte) l)
 
-    pub running-next : paid < 65536 → paid ≡ cond (isValue e (getD values j 0)) (u16At s (1 + unitsOf s + 2 * (row + e * (between - e)) + 2 * inPair (domOf s place) (getD values j 0) v)) 0
-        → Running s values place v (later - e) (between - e) (row + e * (later - e)) (sum + paid) (j + 1)
-    running-next small is =
-        let a : later - e ≡ sumFrom (domOf s) (suc j) (unitsOf s - suc j) = omega (arith, later-after) in
-        let b : between - e ≡ sumFrom (domOf s) (suc j) (place - suc j) = omega (arith, between-after) in
-        let from : 1 + unitsOf s + 2 * (row + e * (between - e)) ≡ 1 + unitsOf s + 2 * pairStart (domOf s) (unitsOf s) j place = ap (λ (x : ℕ). 1 + unitsOf s + 2 * x) pair-begins in
-        let l : later - e ≤ 65025 = omega (arith, now .later-most) in
-        let pair : paid ≡ viewOf (instanceOf s) place .pair j (getD values j 0) v =
-        is ∙ ap (λ (x : ℕ). cond (isValue x (getD values j 0)) (u16At s (1 + unitsOf s + 2 * (row + e * (between - e)) + 2 * inPair (domOf s place) (getD values j 0) v)) 0) size
-        ∙ sym (stream-pair s place j (getD values j 0) v (1 + unitsOf s + 2 * (row + e * (between - e))) own more from) in
-        record {
-          inside = omega arith;
-          later-sizes = rw add-one a;
-          between-sizes = rw add-one b;
-          row-start = rw (add-one, now .row-start, a, size);
-          cost-so-far = rw (now .cost-so-far, pair, cost-more);
-          later-most = l;
-          between-most = omega (arith, now .between-most);
-          row-most = omega (arith, now .row-most, mul-le-mul byte l);
-          sum-most = omega (arith, now .sum-most);
-        }
+  -- where the costs of the pair start
+  pair-begins : row + e * (between - e) ≡ pairStart (domOf s) (unitsOf s) j place
+  pair-begins =
+      let b : between - e ≡ sumFrom (domOf s) (suc j) (place - suc j) = omega (arith, between-after) in
+      rw (t .now .row-start, b, t .size)
+
+  pub running-next : (paid : ℕ) → paid < 65536
+      → paid ≡ cond (isValue e (getD values j 0)) (u16At s (1 + unitsOf s + 2 * (row + e * (between - e)) + 2 * inPair (domOf s place) (getD values j 0) v)) 0
+      → Running s values place v (later - e) (between - e) (row + e * (later - e)) (sum + paid) (j + 1)
+  running-next paid small is =
+      let a : later - e ≡ sumFrom (domOf s) (suc j) (unitsOf s - suc j) = omega (arith, later-after) in
+      let b : between - e ≡ sumFrom (domOf s) (suc j) (place - suc j) = omega (arith, between-after) in
+      let from : 1 + unitsOf s + 2 * (row + e * (between - e)) ≡ 1 + unitsOf s + 2 * pairStart (domOf s) (unitsOf s) j place = ap (λ (x : ℕ). 1 + unitsOf s + 2 * x) pair-begins in
+      let pair : paid ≡ viewOf (instanceOf s) place .pair j (getD values j 0) v =
+      is ∙ ap (λ (x : ℕ). cond (isValue x (getD values j 0)) (u16At s (1 + unitsOf s + 2 * (row + e * (between - e)) + 2 * inPair (domOf s place) (getD values j 0) v)) 0) (t .size)
+      ∙ sym (stream-pair s place j (getD values j 0) v (1 + unitsOf s + 2 * (row + e * (between - e))) (t .own) (t .more) from) in
+      record {
+        inside = omega (arith, t .more);
+        later-sizes = rw add-one a;
+        between-sizes = rw add-one b;
+        row-start = rw (add-one, t .now .row-start, a, t .size);
+        cost-so-far = rw (t .now .cost-so-far, pair, cost-more);
+        later-most = omega (arith, t .now .later-most);
+        between-most = omega (arith, t .now .between-most);
+        row-most = row-after;
+        sum-most = omega (arith, t .now .sum-most);
+      }

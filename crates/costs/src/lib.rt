@@ -3,6 +3,8 @@
 mod prefix; // the cost of a value with those before it, straight from a stream
 mod stream; // what is read out of a stream
 
+use base::is_value;
+use base::wide;
 pub use prefix::stream_cost_with;
 pub use stream::gather;
 pub use stream::sizes_of;
@@ -11,7 +13,8 @@ ghost use mathlib.Core.Bool.{cond};
 ghost use Prim.Native.Nat.{_+_, _*_, _≤_, pred, min};
 ghost use lib.Dec.{eqb};
 ghost use lib.ListN.{getD};
-ghost use Rattle.costs.specs.Instance.{domFrom, isValue, inPair, costNumber, viewFrom};
+ghost use Rattle.base.specs.Sums.{sumFrom};
+ghost use Rattle.costs.specs.Instance.{domFrom, inPair, costNumber, viewFrom};
 ghost use Rattle.costs.specs.Bounds.{costWith, h, estimate};
 ghost use Rattle.costs.specs.Lent.{lentCostsGood, lentCount, lentRefusal};
 ghost use Rattle.costs.specs.Lent.Parts.{othersBefore, pairFrom, leastRun};
@@ -77,7 +80,7 @@ fn costs_good(costs: &[u8], m: usize) -> bool
 {
     let mut i = 0;
     while i < m {
-        if 60000 < base::u16_at(costs, 2 * i) {
+        if base::PAIR_LIMIT < base::u16_at(costs, 2 * i) {
             return false;
         }
         i += 1;
@@ -213,26 +216,29 @@ fn lesser(a: u32, b: u32) -> u32
     b
 }
 
-// Whether v is a value of a unit of d values.
-fn is_value(d: usize, v: usize) -> bool
-    ensures { λ r. ⌜ r ≡ isValue d v ⌝ }
-{
-    if v < 1 {
-        return false;
-    }
-    v <= d
-}
-
 // How many values the other units before place j have together.
 fn others_before(seat: Seat, j: usize) -> usize
     requires { ⌜ j ≤ 256 ⌝ }
     ensures { λ r. ⌜ (r ≡ othersBefore seat j) × (r ≤ 255 * j) ⌝ }
 {
+    let all = sum_sizes(seat, 0, j);
+    let place = place_of(seat);
+    if j <= place {
+        return all;
+    }
+    all - size_of(seat, place)
+}
+
+// The sizes of m units from place lo on, added up.
+fn sum_sizes(seat: Seat, lo: usize, m: usize) -> usize
+    requires { ⌜ (lo ≤ 256) × (m ≤ 256) ⌝ }
+    ensures { λ r. ⌜ (r ≡ sumFrom (domFrom seat) lo m) × (r ≤ 255 * m) ⌝ }
+{
     let mut sum = 0;
-    let mut b = 0;
-    while b < j {
-        sum += other_size(seat, b);
-        b += 1;
+    let mut i = 0;
+    while i < m {
+        sum += size_of(seat, lo + i);
+        i += 1;
     }
     sum
 }
@@ -264,10 +270,17 @@ fn size_of(seat: Seat, b: usize) -> usize
 fn place_of(seat: Seat) -> usize
     ensures { λ r. ⌜ (r ≡ pred (seat .own)) × (r ≤ 254) ⌝ }
 {
-    if seat.own == 0 {
+    place_at(seat.own)
+}
+
+// The place of unit `own`.
+fn place_at(own: u8) -> usize
+    ensures { λ r. ⌜ (r ≡ pred own) × (r ≤ 254) ⌝ }
+{
+    if own == 0 {
         return 0;
     }
-    wide(seat.own) - 1
+    wide(own) - 1
 }
 
 // The value of the unit at place j, 0 past the end.
@@ -278,11 +291,4 @@ fn value_at(values: [u8; 16], j: usize) -> usize
         return 0;
     }
     wide(values[j])
-}
-
-// A byte as a wider number.
-fn wide(x: u8) -> usize
-    ensures { λ r. ⌜ (r ≡ x) × (r ≤ 255) ⌝ }
-{
-    x as usize
 }

@@ -1,29 +1,30 @@
 // The cost of a value with the values before it, straight from a stream.
 
-use crate::is_value;
+use crate::place_at;
 use crate::stream::size_at;
 use crate::value_at;
-use crate::wide;
+use base::is_value;
+use base::wide;
 ghost use mathlib.Core.Path.{_≡_};
 ghost use mathlib.Core.Bool.{cond, true};
-ghost use Prim.Native.Nat.{ℕ, _+_, _*_, _≤_, _<_};
+ghost use Prim.Native.Nat.{_+_, _*_, _≤_, _<_, pred};
 ghost use Rattle.base.specs.Bytes.{u16At};
+ghost use Rattle.base.specs.Shape.{isValue};
 ghost use Rattle.base.specs.Sums.{sumFrom};
-ghost use Rattle.costs.specs.Instance.{isValue, inPair, viewOf, instanceOf};
+ghost use Rattle.costs.specs.Instance.{inPair, viewOf, instanceOf, domOf};
 ghost use Rattle.costs.specs.Bounds.{costWith};
-ghost use Rattle.costs.specs.Gather.{domOf};
 
-// The cost of value v of the unit at place k with the values of the units before it.
-pub fn stream_cost_with(stream: &[u8], values: [u8; 16], k: u8, v: u8) -> u32
-    ensures { λ r. ⌜ r ≡ costWith (viewOf (instanceOf (now (stream .entry))) k) values k v ⌝ }
+// The cost of value v of unit `own` with the values of the units before it; there is none before unit 1, nor where `own` is 0.
+pub fn stream_cost_with(stream: &[u8], values: [u8; 16], own: u8, v: u8) -> u32
+    ensures { λ r. ⌜ r ≡ costWith (viewOf (instanceOf (now (stream .entry))) (pred own)) values (pred own) v ⌝ }
 {
-    let place = wide(k);
-    let own = wide(v);
+    let place = place_at(own);
+    let value = wide(v);
     let d = wide(size_at(stream, place));
-    if !is_value(d, own) {
+    if !is_value(d, value) {
         return 0;
     }
-    cost_before(stream, values, place, d, own)
+    cost_before(stream, values, place, d, value)
 }
 
 // The same for a value v of the unit at `place`, which has d values. The costs of its pair with the unit at place j follow those of the

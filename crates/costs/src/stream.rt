@@ -4,41 +4,33 @@ use crate::Seat;
 use crate::lent_count;
 use crate::place_of;
 use crate::size_of;
-use crate::wide;
+use crate::sum_sizes;
+use base::Length;
+use base::is_value;
+use base::wide;
 ghost use mathlib.Core.Path.{_≡_};
 ghost use mathlib.Core.List.{_++_};
-ghost use Prim.Native.Nat.{ℕ, _+_, _*_, _≤_, _<_, pred};
+ghost use Prim.Native.Nat.{_+_, _*_, _≤_, _<_, pred};
 ghost use lib.ListN.{length, drop};
 ghost use lib.Seq.{paste};
-ghost use Rattle.base.specs.Sums.{sumFrom};
-ghost use Rattle.costs.specs.Instance.{domFrom, rowStart, pairStart};
-ghost use Rattle.costs.specs.Gather.{domOf, sizesIn, pairBytes, withOther, gatherTo, gatherCount, gatherInto, putAt, SeatIn};
+ghost use Rattle.base.specs.Put.{putAt};
+ghost use Rattle.table.specs.Stream.{unitsOf};
+ghost use Rattle.costs.specs.Instance.{domFrom, rowStart, pairStart, domOf};
+ghost use Rattle.costs.specs.Gather.{sizesIn, pairBytes, withOther, gathered, gatherRefusal, gatherOf, gatherInto, SeatIn};
 
-// The bytes of the costs that touch unit `own` are written to the front of `out`; gives how many. Where n, a size or `own` is out of
-// range, or the stream or `out` too short, nothing is written and it gives 0.
-pub fn gather(stream: &[u8], own: u8, out: &mut [u8]) -> usize
-    ensures { λ r. ⌜ (r ≡ gatherCount (now (stream .entry)) own (length (now (out .entry)))) × (now (out .exit) ≡ gatherInto (now (stream .entry)) own (now (out .entry))) ⌝ }
+// The bytes of the costs that touch unit `own` are written to the front of `out`: how many, or the refusal and nothing is written.
+pub fn gather(stream: &[u8], own: u8, out: &mut [u8]) -> Length
+    ensures { λ r. ⌜ (r ≡ gatherOf (now (stream .entry)) own (length (now (out .entry)))) × (now (out .exit) ≡ gatherInto (now (stream .entry)) own (now (out .entry))) ⌝ }
 {
     let n = base::byte_at(stream, 0);
     let sizes = sizes_of(stream);
-    if !base::shape_good(n, sizes) {
-        return 0;
-    }
-    if own < 1 {
-        return 0;
-    }
-    if n < own {
-        return 0;
-    }
-    let units = wide(n);
     let seat = Seat { own, n, sizes };
-    if stream.len() < 1 + units + 2 * row_start(seat, units) {
-        return 0;
+    let refusal = gather_refusal(stream, seat, out.len());
+    if refusal != 0 {
+        return Length { refusal, length: 0 };
     }
-    if out.len() < 2 * lent_count(seat) {
-        return 0;
-    }
-    gather_all(stream, seat, out)
+    let length = gather_all(stream, seat, out);
+    Length { refusal: 0, length }
 }
 
 // The first n sizes, zero after.
@@ -54,10 +46,31 @@ pub fn sizes_of(stream: &[u8]) -> [u8; 16]
     sizes
 }
 
+// The first refusal of gathering that applies, or 0.
+fn gather_refusal(stream: &[u8], seat: Seat, room: usize) -> u8
+    requires { ⌜ (seat .n ≡ unitsOf (now stream)) × (seat .sizes ≡ sizesIn (now stream)) ⌝ }
+    ensures { λ r. ⌜ r ≡ gatherRefusal (now (stream .entry)) (seat .own) room ⌝ }
+{
+    let refusal = table::stream_refusal(stream);
+    if refusal == 5 {
+        return 5;
+    }
+    if !is_value(wide(seat.n), wide(seat.own)) {
+        return 10;
+    }
+    if refusal != 0 {
+        return refusal;
+    }
+    if room < 2 * lent_count(seat) {
+        return 13;
+    }
+    0
+}
+
 // The bytes of the costs of the unit with every other.
 fn gather_all(stream: &[u8], seat: Seat, out: &mut [u8]) -> usize
-    requires { ⌜ SeatIn (now stream) seat × (pred (seat .own) < seat .n) × (length (gatherTo (now stream) (pred (seat .own)) (seat .n)) ≤ length (now out)) ⌝ }
-    ensures { λ r. ⌜ (r ≡ length (gatherTo (now (stream .entry)) (pred (seat .own)) (seat .n))) × (now (out .exit) ≡ gatherTo (now (stream .entry)) (pred (seat .own)) (seat .n) ++ drop (length (gatherTo (now (stream .entry)) (pred (seat .own)) (seat .n))) (now (out .entry))) ⌝ }
+    requires { ⌜ SeatIn (now stream) seat × (pred (seat .own) < seat .n) × (length (gathered (now stream) (seat .own)) ≤ length (now out)) ⌝ }
+    ensures { λ r. ⌜ (r ≡ length (gathered (now (stream .entry)) (seat .own))) × (now (out .exit) ≡ gathered (now (stream .entry)) (seat .own) ++ drop (length (gathered (now (stream .entry)) (seat .own))) (now (out .entry))) ⌝ }
 {
     let count = wide(seat.n);
     let mut at = 0;
@@ -93,20 +106,6 @@ fn put_pair(stream: &[u8], seat: Seat, i: usize, j: usize, out: &mut [u8], at: u
     let count = 2 * (size_of(seat, i) * size_of(seat, j));
     copy_part(stream, from, count, out, at);
     at + count
-}
-
-// The sizes of m units from place lo on, added up.
-fn sum_sizes(seat: Seat, lo: usize, m: usize) -> usize
-    requires { ⌜ (lo ≤ 16) × (m ≤ 16) ⌝ }
-    ensures { λ r. ⌜ (r ≡ sumFrom (domFrom seat) lo m) × (r ≤ 255 * m) ⌝ }
-{
-    let mut sum = 0;
-    let mut i = 0;
-    while i < m {
-        sum += size_of(seat, lo + i);
-        i += 1;
-    }
-    sum
 }
 
 // How many costs stand before those of the pairs of the unit at place i.

@@ -21,9 +21,10 @@ use Rattle.table.specs.Stream.{unitsOf, streamRefusal, Accepted}
 use Rattle.table.specs.StreamLaws.{accepted-units}
 use Rattle.costs.specs.Instance.{viewOf, instanceOf}
 use Rattle.costs.specs.Bounds.{costWith}
-use Rattle.costs.specs.Gather.{sizesIn, gathered, gatherCount, gatherInto}
+use Rattle.base.specs.declared.Length.{Length}
+use Rattle.costs.specs.Gather.{sizesIn, gathered, gatherOf, gatherInto}
 use Rattle.costs.specs.Gather.Sizes.{length-sizes, accepted-sizes-first, accepted-sizes-good}
-use Rattle.costs.specs.Gather.Laws.{gathered-view, gathered-good, gathered-most, accepted-gatherable, gather-front}
+use Rattle.costs.specs.Gather.Laws.{gathered-view, gathered-good, gathered-most, gather-enough, gather-front}
 use Rattle.message.specs.Decode.{parseFor}
 use Rattle.message.specs.Message.{Packet, isUnit, every}
 use Rattle.message.specs.Laws.{every-at}
@@ -152,11 +153,11 @@ receiver-range n bytes l = go (isUnit n (getD bytes 2 0)) refl
 -- ---- the gathered costs, in front of a buffer of 7,680 bytes or more
 
 module _ (s : List ℕ) (ok : Accepted s) (own : ℕ) (first : 1 ≤ own) (last : own ≤ unitsOf s) where
-  pub lent-count : (room count : ℕ) → 7680 ≤ room → count ≡ gatherCount s own room → count ≤ 7680
-  lent-count room count h e = rw (e, accepted-gatherable s ok own first last room h) (gathered-most s ok own first last)
+  pub lent-count : (room : ℕ) (g : Length) → 7680 ≤ room → g ≡ gatherOf s own room → g .length ≤ 7680
+  lent-count room g h e = rw (e, gather-enough s ok own first last room h) (gathered-most s ok own first last)
 
-  pub lent-front : (l out : List ℕ) (count : ℕ) → 7680 ≤ length l → count ≡ gatherCount s own (length l) → out ≡ gatherInto s own l → take (count - 0) (drop 0 out) ≡ gathered s own
-  lent-front l out count h e f = rw (sub-zero, e, f) (gather-front s ok own first last l h)
+  pub lent-front : (l out : List ℕ) (g : Length) → 7680 ≤ length l → g ≡ gatherOf s own (length l) → out ≡ gatherInto s own l → take (g .length - 0) (drop 0 out) ≡ gathered s own
+  lent-front l out g h e f = rw (sub-zero, e, f) (gather-front s ok own first last l h)
 
 -- ---- the step
 

@@ -89,7 +89,7 @@ fn unit_in_range(k: u8, n: u8, sizes: [u8; 16], stream: &[u8], u: Unit) -> bool
     ensures { λ r. ⌜ r ≡ inRangePaid n sizes k (costWith (viewOf (instanceOf (now (stream .entry))) k) (u .values) k (getD (u .values) k 0)) u ⌝ }
 {
     let values = u.values;
-    let paid = costs::stream_cost_with(stream, values, k, values[k as usize]);
+    let paid = costs::stream_cost_with(stream, values, k + 1, values[k as usize]);
     unit::in_range_paid(k, n, sizes, paid, u)
 }
 
@@ -135,7 +135,8 @@ fn step(u: Unit, stream: &[u8], own: u8, packet: &[u8], out: &mut [u8]) -> Outco
     let n = base::byte_at(stream, 0);
     let sizes = costs::sizes_of(stream);
     let mut costs = [0u8; 7680];
-    let count = costs::gather(stream, own, &mut costs);
+    let gathered = costs::gather(stream, own, &mut costs);
+    let count = gathered.length;
     unit::step(u, own, n, sizes, &costs[0..count], packet, out)
 }
 

@@ -4,13 +4,17 @@
 -- Units count from 0 here: unit k is 01's unit k + 1. A prefix of k units is the list of their values, the LAST unit's first, so
 -- `v ∷ b` is the prefix b with the value v of unit `length b` behind it. A value is its place, from 1, in the order tried.
 -- Assumes nothing.
-use Prim.Native.Nat.{ℕ, zero, suc, _*_, _-_, _≤_, _<_}
-use mathlib.Core.Path.{_≡_}
+use Prim.Native.Nat.{ℕ, suc, _-_, _≤_, _<_}
+use mathlib.Core.Path.{_≡_, refl}
 use mathlib.Core.Logic.{_⊎_, inl, inr}
 use mathlib.Core.List.{List, []}
 use native.Mathlib.Omega.{arith}
 use Rattle.base.specs.Sums.{sumTo}
 pub use Rattle.message.specs.Message.{NONE}
+use Rattle.costs.specs.Instance.{Instance}
+use Rattle.costs.specs.Bounds as Bounds
+use Rattle.costs.specs.Laws.{problemOf}
+pub use Rattle.costs.specs.Bounds.{prefixCount}
 pub use Rattle.costs.specs.Problem.{Problem, InDomains, Full, Closed, Laws, closed-mono, closed-by-values, closed-full, closed-least}
 
 module _ (P : Problem) where
@@ -22,11 +26,10 @@ module _ (P : Problem) where
   valid-le-none l (inl h) = omega (arith, h .0)
   valid-le-none l (inr h) = omega (arith, h .2)
 
-  -- how many prefixes of k units there are
-  abbrev pub prefixCount : ℕ → ℕ
-  prefixCount zero = 1
-  prefixCount (suc k) = prefixCount k * P .size k
-
   -- 01: "N is d(1) + d(1) × d(2) + .. up to d(1) × .. × d(n-1); 0 for n = 1"
   abbrev pub N : ℕ
-  N = sumTo (λ k. prefixCount (suc k)) (P .n - 1)
+  N = sumTo (λ k. prefixCount (P .size) (suc k)) (P .n - 1)
+
+-- of a table's problem it is the table's N
+pub N-of-instance : (I : Instance) → N (problemOf I) ≡ Bounds.N I
+N-of-instance I = refl

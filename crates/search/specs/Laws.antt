@@ -8,14 +8,15 @@ use mathlib.Core.List.{List}
 use native.Mathlib.Omega.{arith}
 use lib.Dec.{eqb, ltb}
 use borrow.Author.Tests.{ltb-false, eq-eqb, ne-eqb, eqb-true, eqb-false}
+use Rattle.base.specs.Limits.{searchLimit}
 use Rattle.table.specs.Stream.{streamRefusal, Accepted}
 use Rattle.costs.specs.Instance.{instanceOf}
 use Rattle.costs.specs.Bounds.{total}
 use Rattle.costs.specs.Laws.Stream.{sound-of}
-use Rattle.search.specs.Search.{bestOf, countOf, searchRefusal, refusedBy, foundBest, searchOf}
+use Rattle.search.specs.Search.{bestOf, assignmentCount, searchRefusal, refusedBy, foundBest, searchOf}
 use Rattle.search.specs.Least.{LeastFirst, Padded}
 use Rattle.search.specs.Least.Order.{least-unique, first-unique}
-use Rattle.search.specs.Least.Kept.{best-least-first, best-of-padded}
+use Rattle.search.specs.Least.Picked.{best-least-first, best-of-padded}
 
 -- ---- the refusal
 
@@ -26,9 +27,9 @@ not-refused false r k e h = absurd (eqb-false k 0 e h)
 
 module _ (s : List ℕ) where
   -- a stream that is searched passes 5, 6 and 7 and has at most 1,048,576 assignments
-  pub searched : searchRefusal s ≡ 0 → Accepted s × (countOf (instanceOf s) ≤ 1048576)
+  pub searched : searchRefusal s ≡ 0 → Accepted s × (assignmentCount (instanceOf s) ≤ searchLimit)
   unfolding searchRefusal Accepted
-  searched h = let q = not-refused (eqb (streamRefusal s) 0) (ltb 1048576 (countOf (instanceOf s))) (streamRefusal s) refl h in (q .0, ltb-false 1048576 (countOf (instanceOf s)) (q .1))
+  searched h = let q = not-refused (eqb (streamRefusal s) 0) (ltb searchLimit (assignmentCount (instanceOf s))) (streamRefusal s) refl h in (q .0, ltb-false searchLimit (assignmentCount (instanceOf s)) (q .1))
 
   -- the number in the answer
   pub search-refusal : searchOf s .refusal ≡ searchRefusal s
@@ -76,10 +77,10 @@ module _ (s : List ℕ) where
       let q : eqb (streamRefusal s) 0 ≡ false = ne-eqb (streamRefusal s) 0 (λ z. h (e ∙ z)) in
       simp (e, q)
 
-  pub answer-too-many : streamRefusal s ≡ 0 → ltb 1048576 (countOf (instanceOf s)) ≡ true → refusedBy 16 ≡ searchOf s
+  pub answer-too-many : streamRefusal s ≡ 0 → ltb searchLimit (assignmentCount (instanceOf s)) ≡ true → refusedBy 16 ≡ searchOf s
   unfolding searchRefusal searchOf
   answer-too-many e h = simp (eq-eqb (streamRefusal s) 0 e, h)
 
-  pub answer-found : streamRefusal s ≡ 0 → ltb 1048576 (countOf (instanceOf s)) ≡ false → foundBest (bestOf (instanceOf s)) ≡ searchOf s
+  pub answer-found : streamRefusal s ≡ 0 → ltb searchLimit (assignmentCount (instanceOf s)) ≡ false → foundBest (bestOf (instanceOf s)) ≡ searchOf s
   unfolding searchRefusal searchOf
   answer-found e h = simp (eq-eqb (streamRefusal s) 0 e, h)

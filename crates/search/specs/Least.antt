@@ -8,7 +8,7 @@ use lib.ListN.{length, getD}
 use Rattle.costs.specs.Instance.{Instance}
 use Rattle.costs.specs.Bounds.{Assignment, total}
 pub mod Order
-pub mod Kept
+pub mod Picked
 
 -- l comes before m in ascending order of n units: the first unit at which they differ has the lower value in l
 pub record Before (n : ℕ) (l m : List ℕ) : Type 0 where

@@ -2,22 +2,23 @@
 -- with its first lotting in ascending order." Every full assignment is totalled on its own here; the code carries the cost of what is chosen.
 -- specs/Least says of the answer, without the search, which one it is.
 -- Assumes nothing.
-use Prim.Native.Nat.{ℕ, zero, suc, _*_}
+use Prim.Native.Nat.{ℕ, zero, suc}
 use mathlib.Core.Bool.{cond}
 use mathlib.Core.List.{List}
 use lib.Dec.{ltb, eqb}
 use lib.ListN.{set, replicate}
+use Rattle.base.specs.Limits.{NONE, searchLimit}
 use Rattle.table.specs.Stream.{streamRefusal}
 use Rattle.costs.specs.Instance.{Instance, instanceOf}
-use Rattle.costs.specs.Bounds.{total}
+use Rattle.costs.specs.Bounds.{total, prefixCount}
 use Rattle.search.specs.declared.Best.{Best}
 use Rattle.search.specs.declared.Found.{Found}
 
 -- ---- the best assignment
 
--- no assignment yet; 01: "*None* as a bound is 4,294,967,295"
+-- no assignment yet
 abbrev pub nothing : Best
-nothing = record { values = replicate 16 0; total = 4294967295 }
+nothing = record { values = replicate 16 0; total = NONE }
 
 -- the assignment l, which totals t, takes b's place only where t is lower: the first of equal totals stays
 abbrev pub keep : Best → ℕ → List ℕ → Best
@@ -40,18 +41,14 @@ bestOf I = bestFrom I (I .n) 0 (replicate 16 0) nothing
 
 -- ---- how many assignments there are
 
-unfoldable pub productTo : (ℕ → ℕ) → ℕ → ℕ
-productTo f zero = 1
-productTo f (suc k) = productTo f k * f k
-
-abbrev pub countOf : Instance → ℕ
-countOf I = productTo (I .dom) (I .n)
+abbrev pub assignmentCount : Instance → ℕ
+assignmentCount I = prefixCount (I .dom) (I .n)
 
 -- ---- the answer
 
 -- 01: "Bench: 5, 6, 7, 16", and 16 is "more than 1,048,576 lottings"
 unfoldable pub searchRefusal : List ℕ → ℕ
-searchRefusal s = cond (eqb (streamRefusal s) 0) (cond (ltb 1048576 (countOf (instanceOf s))) 16 0) (streamRefusal s)
+searchRefusal s = cond (eqb (streamRefusal s) 0) (cond (ltb searchLimit (assignmentCount (instanceOf s))) 16 0) (streamRefusal s)
 
 abbrev pub refusedBy : ℕ → Found
 refusedBy k = record { refusal = k; total = 0; values = replicate 16 0 }

@@ -12,21 +12,22 @@ use lib.Dec.{eqb, ltb}
 use lib.ListN.{length, getD, set, length-set}
 use lib.Seq.{getD-set-same, getD-set-other}
 use borrow.Author.Tests.{lt-ltb, le-ltb, eqb-true, eqb-false}
+use Rattle.base.specs.Limits.{pairLimit, totalLimit, searchLimit, streamSize}
 use Rattle.base.specs.Bytes.{u16At}
 use Rattle.base.specs.Sums.{sumFrom}
 use Rattle.table.specs.Stream.{unitsOf, Accepted}
 use Rattle.table.specs.StreamLaws.{accepted-units, accepted-length, accepted-most}
-use Rattle.costs.specs.Instance.{Instance, instanceOf, viewOf, pairStart, inPair}
-use Rattle.costs.specs.Bounds.{costWith, total}
-use Rattle.costs.specs.Gather.{domOf}
+use Rattle.costs.specs.Instance.{Instance, instanceOf, viewOf, pairStart, inPair, domOf}
+use Rattle.costs.specs.Bounds.{costWith, total, prefixCount}
 use Rattle.costs.specs.Gather.Steps.{size-some}
-use Rattle.costs.specs.Lent.Steps.{range-value, cost-more}
+use Rattle.base.specs.Shape.{range-value}
+use Rattle.costs.specs.Lent.Steps.{cost-more}
 use Rattle.costs.specs.Laws.{costOf, full-limit}
-use Rattle.costs.specs.Laws.Sums.{sumFrom-last}
+use Rattle.base.specs.Sums.Laws.{sumFrom-last}
 use Rattle.costs.specs.Laws.Prefix.{pre, length-pre, pre-set-next, pair-before, cost-next, total-prefix}
 use Rattle.costs.specs.Laws.Stream.{instance-units, instance-dom, cost-number-at, sound-of, pair-costs}
 use Rattle.search.specs.declared.Best.{Best}
-use Rattle.search.specs.Search.{keep, over, bestFrom, productTo, countOf}
+use Rattle.search.specs.Search.{keep, over, bestFrom, assignmentCount}
 
 -- ---- where the costs of a pair begin
 
@@ -53,7 +54,7 @@ pub record Extending (s : List ℕ) (starts : List ℕ) (left level cost : ℕ) 
   pub most : level + left ≤ 16
   pub values : Within (instanceOf s) level chosen
   pub costs : cost ≡ costOf (instanceOf s) (pre level chosen)
-  pub small : cost ≤ 7200000
+  pub small : cost ≤ totalLimit
 
 -- at one value v of the next unit, which has d
 pub record Adding (s : List ℕ) (starts : List ℕ) (level d : ℕ) (chosen : List ℕ) (v : ℕ) : Type 0 where
@@ -141,7 +142,7 @@ module _ {s starts : List ℕ} {k d v : ℕ} {l : List ℕ} (x : Adding s starts
       → costWith (viewOf (instanceOf s) k) l i v + u16At s at ≡ costWith (viewOf (instanceOf s) k) l (i + 1) v
   cost-turn at e = sym (cost-more (viewOf (instanceOf s) k) l i v ∙ rw (pair-read, place-read at e))
 
-  pub cost-small : (at : ℕ) → at ≡ getD starts (16 * k + i) 0 + 2 * ((getD l i 0 - 1) * d + (v - 1)) → u16At s at ≤ 60000
+  pub cost-small : (at : ℕ) → at ≡ getD starts (16 * k + i) 0 + 2 * ((getD l i 0 - 1) * d + (v - 1)) → u16At s at ≤ pairLimit
   cost-small at e =
       let q : u16At s at ≡ instanceOf s .cost i (getD l i 0) k v = rw (place-read at e) (sym pair-read ∙ pair-before (instanceOf s) k i (getD l i 0) v h) in
       rw q (sound-of s (x .accepted) .small i (getD l i 0) k v)
@@ -207,40 +208,31 @@ module _ {s starts : List ℕ} {left level cost : ℕ} {chosen : List ℕ} (x : 
 
 -- ---- how many assignments
 
-pub count-none : (f : ℕ → ℕ) → productTo f 0 ≡ 1
-unfolding productTo
-count-none f = refl
-
-pub count-more : (f : ℕ → ℕ) (i : ℕ) → productTo f (i + 1) ≡ productTo f i * f i
-unfolding productTo
-count-more f i = rw add-one
-
-count-up : (f : ℕ → ℕ) (i m : ℕ) → ((k : ℕ) → k < i + m → 1 ≤ f k) → productTo f i ≤ productTo f (i + m)
-unfolding productTo
+count-up : (f : ℕ → ℕ) (i m : ℕ) → ((k : ℕ) → k < i + m → 1 ≤ f k) → prefixCount f i ≤ prefixCount f (i + m)
 count-up f i zero h = rw (add-zero i) (omega arith)
 count-up f i (suc m) h =
     let e : i + suc m ≡ suc (i + m) = omega arith in
-    rw e (omega (arith, count-up f i m (λ k b. h k (omega arith)), mul-le-mul (le-refl (productTo f (i + m))) (h (i + m) (omega arith))))
+    rw e (omega (arith, count-up f i m (λ k b. h k (omega arith)), mul-le-mul (le-refl (prefixCount f (i + m))) (h (i + m) (omega arith))))
 
 -- sizes of at least 1 never lower the product
-pub count-grows : (f : ℕ → ℕ) (i n : ℕ) → i ≤ n → ((k : ℕ) → k < n → 1 ≤ f k) → productTo f i ≤ productTo f n
+pub count-grows : (f : ℕ → ℕ) (i n : ℕ) → i ≤ n → ((k : ℕ) → k < n → 1 ≤ f k) → prefixCount f i ≤ prefixCount f n
 count-grows f i n h g = let e : i + (n - i) ≡ n = omega arith in rw e at (count-up f i (n - i) (λ k b. g k (omega arith)))
 
-module _ (s : List ℕ) (ok : Accepted s) (i count d : ℕ) (so-far : count ≡ productTo (instanceOf s .dom) i) where
-  pub count-turn : i < unitsOf s → d ≡ getD s (1 + i) 0 → count * d ≡ productTo (instanceOf s .dom) (i + 1)
-  count-turn h e = rw (so-far, e, dom-of s i h) (sym (count-more (instanceOf s .dom) i))
+module _ (s : List ℕ) (ok : Accepted s) (i count d : ℕ) (so-far : count ≡ prefixCount (instanceOf s .dom) i) where
+  pub count-turn : i < unitsOf s → d ≡ getD s (1 + i) 0 → count * d ≡ prefixCount (instanceOf s .dom) (i + 1)
+  count-turn h e = rw (so-far, e, dom-of s i h) (rw add-one)
 
-  pub count-above : i < unitsOf s → d ≡ getD s (1 + i) 0 → 1048576 < count * d → true ≡ ltb 1048576 (countOf (instanceOf s))
+  pub count-above : i < unitsOf s → d ≡ getD s (1 + i) 0 → searchLimit < count * d → true ≡ ltb searchLimit (assignmentCount (instanceOf s))
   count-above h e l =
       let n : instanceOf s .n ≡ unitsOf s = instance-units s in
       let g = count-grows (instanceOf s .dom) (i + 1) (instanceOf s .n) (omega arith) (sound-of s ok .dom1) in
-      sym (lt-ltb 1048576 (countOf (instanceOf s)) (omega (arith, count-turn h e)))
+      sym (lt-ltb searchLimit (assignmentCount (instanceOf s)) (omega (arith, count-turn h e)))
 
-  pub count-within : i ≡ unitsOf s → count ≤ 1048576 → false ≡ ltb 1048576 (countOf (instanceOf s))
+  pub count-within : i ≡ unitsOf s → count ≤ searchLimit → false ≡ ltb searchLimit (assignmentCount (instanceOf s))
   count-within e l =
       let n : i ≡ instanceOf s .n = e ∙ sym (instance-units s) in
-      let q : countOf (instanceOf s) ≡ count = rw (← n) (sym so-far) in
-      sym (le-ltb 1048576 (countOf (instanceOf s)) (omega arith))
+      let q : assignmentCount (instanceOf s) ≡ count = rw (← n) (sym so-far) in
+      sym (le-ltb searchLimit (assignmentCount (instanceOf s)) (omega arith))
 
 -- ---- the starts of the pairs, one by one
 
@@ -261,7 +253,7 @@ start-row s i =
     rw (m, add-one i) (omega arith)
 
 -- a start fits: its costs lie in the stream
-pub start-fits : (s : List ℕ) (i j : ℕ) → Accepted s → i < j → j < unitsOf s → startAt s i j ≤ 61457
+pub start-fits : (s : List ℕ) (i j : ℕ) → Accepted s → i < j → j < unitsOf s → startAt s i j ≤ streamSize
 start-fits s i j ok a b =
     let there : 1 + unitsOf s ≤ length s = omega (arith, accepted-length s ok) in
     omega (arith, accepted-length s ok, accepted-most s ok, pair-costs s there i j a b)

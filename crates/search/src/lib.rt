@@ -4,10 +4,11 @@ ghost use mathlib.Core.Path.{_≡_};
 ghost use Prim.Native.Nat.{_+_, _*_, _-_, _≤_, _<_};
 ghost use lib.Dec.{ltb};
 ghost use lib.ListN.{getD};
+ghost use Rattle.base.specs.Limits.{pairLimit, searchLimit};
 ghost use Rattle.table.specs.Stream.{unitsOf, Accepted};
 ghost use Rattle.costs.specs.Instance.{instanceOf, viewOf};
 ghost use Rattle.costs.specs.Bounds.{costWith};
-ghost use Rattle.search.specs.Search.{keep, bestFrom, countOf, searchOf};
+ghost use Rattle.search.specs.Search.{keep, bestFrom, assignmentCount, searchOf};
 ghost use Rattle.search.specs.Steps.{Filled, Filling, Adding, Extending};
 
 // What the search gives: the refusal, or 0 with the least total and its first assignment, places past n zero.
@@ -47,7 +48,7 @@ pub fn exhaustive(stream: &[u8]) -> Found
     let starts = pair_starts(stream, n);
     let nothing = Best {
         values: none,
-        total: 4294967295,
+        total: base::NONE,
     };
     let best = extend(stream, &starts, n, 0, 0, none, nothing);
     let values = best.values;
@@ -61,13 +62,13 @@ pub fn exhaustive(stream: &[u8]) -> Found
 // Whether there are more than 1,048,576 assignments; the product stops once it is above.
 fn too_many(stream: &[u8], n: usize) -> bool
     requires { ⌜ Accepted (now stream) × (n ≡ unitsOf (now stream)) ⌝ }
-    ensures { λ r. ⌜ r ≡ ltb 1048576 (countOf (instanceOf (now (stream .entry)))) ⌝ }
+    ensures { λ r. ⌜ r ≡ ltb searchLimit (assignmentCount (instanceOf (now (stream .entry)))) ⌝ }
 {
     let mut count = 1;
     let mut i = 0;
     while i < n {
         count *= byte(stream, 1 + i);
-        if 1048576 < count {
+        if base::SEARCH_LIMIT < count {
             return true;
         }
         i += 1;
@@ -126,7 +127,7 @@ fn added_cost(
     v: usize,
 ) -> u32
     requires { ⌜ Adding (now stream) (now starts) level d chosen v ⌝ }
-    ensures { λ r. ⌜ (r ≡ costWith (viewOf (instanceOf (now (stream .entry))) level) chosen level v) × (r ≤ 60000 * level) ⌝ }
+    ensures { λ r. ⌜ (r ≡ costWith (viewOf (instanceOf (now (stream .entry))) level) chosen level v) × (r ≤ pairLimit * level) ⌝ }
 {
     let column = 16 * level;
     let mut sum: u32 = 0;
@@ -144,7 +145,7 @@ fn cost_place(start: u32, d: usize, u: u8, v: usize) -> usize
     requires { ⌜ (d < 256) × (1 ≤ u) × (1 ≤ v) × (v < 256) ⌝ }
     ensures { λ r. ⌜ r ≡ start + 2 * ((u - 1) * d + (v - 1)) ⌝ }
 {
-    start as usize + 2 * ((value(u) - 1) * d + (v - 1))
+    start as usize + 2 * ((base::wide(u) - 1) * d + (v - 1))
 }
 
 // Where in the stream the costs of each pair of places i < j begin, at 16 × j + i.
@@ -183,11 +184,4 @@ fn byte(stream: &[u8], k: usize) -> usize
     ensures { λ r. ⌜ (r ≡ getD (now (stream .entry)) k 0) × (r < 256) ⌝ }
 {
     base::wide_at(stream, k) as usize
-}
-
-// A value as a wider number.
-fn value(x: u8) -> usize
-    ensures { λ r. ⌜ (r ≡ x) × (r < 256) ⌝ }
-{
-    x as usize
 }

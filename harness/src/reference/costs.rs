@@ -1,6 +1,6 @@
 //! Pair costs, as a whole table and as one unit sees them; units and values count from 1.
 
-use super::Places;
+use super::{table, Places, Refusal};
 use std::cell::Cell;
 
 /// How many costs the whole table has.
@@ -40,20 +40,22 @@ pub fn sizes_in(stream: &[u8]) -> Places {
     std::array::from_fn(|k| if k < n { stream.get(1 + k).copied().unwrap_or(0) } else { 0 })
 }
 
-/// The costs that touch a unit, out of any bytes taken as a stream; nothing where n, a size or the unit is out of range, or the bytes or
-/// the buffer too short. Bytes behind the table are not looked at.
-pub fn gather(stream: &[u8], own: u8, out: &mut [u8]) -> usize {
-    let sizes = sizes_in(stream);
-    let Some(n) = stream.first().filter(|n| super::check_sizes(**n, &sizes).is_ok() && (1..=**n).contains(&own)) else {
-        return 0;
-    };
-    let (n, own) = (*n as usize, own as usize);
-    if stream.len() < 1 + n + 2 * pairs_in_table(n, &sizes) || out.len() < 2 * pairs_of_unit(own, n, &sizes) {
-        return 0;
+/// The costs that touch a unit, out of any bytes taken as a stream: how many bytes were written. Refusals in making's order, 5, 10, 6, 7, 13.
+pub fn gather(stream: &[u8], own: u8, out: &mut [u8]) -> Result<usize, Refusal> {
+    let checked = table::check_stream(stream);
+    if checked == Err(5) {
+        return Err(5);
     }
-    let costs = of_unit(stream, own);
+    if !(1..=stream.first().copied().unwrap_or(0)).contains(&own) {
+        return Err(10);
+    }
+    checked?;
+    let costs = of_unit(stream, own as usize);
+    if out.len() < costs.len() {
+        return Err(13);
+    }
     out[..costs.len()].copy_from_slice(&costs);
-    costs.len()
+    Ok(costs.len())
 }
 
 /// The cost of a full assignment: the sum over all pairs.

@@ -7,10 +7,11 @@ use native.Mathlib.Nat.{mul-le-mul, zero-add, add-zero, add-assoc}
 use native.Mathlib.Omega.{arith}
 use borrow.Author.Needs.{needs}
 use borrow.Author.Tests.{not-true, not-false}
-use Rattle.costs.specs.Instance.{isValue, domFrom, viewFrom}
+use Rattle.base.specs.Shape.{isValue}
+use Rattle.costs.specs.Instance.{viewFrom}
 use Rattle.costs.specs.Bounds.{h}
 use Rattle.costs.specs.Lent.Parts.{othersBefore, laterFrom}
-use Rattle.costs.specs.Laws.Stream.{value-range}
+use Rattle.base.specs.Shape.{value-range}
 use Rattle.costs.specs.Lent.Steps.{others-later, later-start, later-step, later-done, later-no-value}
 use Rattle.costs.proofs.later_cost.Statement.{statement}
 use Rattle.costs.proofs.later_cost.Tie as tie

@@ -1,58 +1,45 @@
--- `others_before` meets its contract. The loop's invariant: the sum is that of the places passed, at most 255 for each.
+-- `others_before` meets its contract: all sizes before place j, less the own one if it is among them.
 -- Assumes nothing.
-use Prim.Native.Nat.{_≤_, _*_, _-_}
-use mathlib.Core.Path.{_≡_}
+use Prim.Native.Nat.{_+_}
+use mathlib.Core.Path.{_≡_, ap, sym, _∙_}
 use native.Mathlib.Omega.{arith}
 use borrow.Author.Needs.{needs}
+use Rattle.costs.specs.Instance.{domFrom}
 use Rattle.costs.specs.Lent.Parts.{othersBefore}
-use Rattle.costs.specs.Lent.Steps.{sumTo-more}
+use Rattle.costs.specs.Lent.Steps.{others-none, others-all}
 use Rattle.costs.proofs.others_before.Statement.{statement}
 use Rattle.costs.proofs.others_before.Tie as tie
 
-abbrev Inv-loop : tie.InvT-loop
-Inv-loop seat j sum₀ b₀ sum b = (b ≤ j) × (sum ≡ othersBefore seat b) × (sum ≤ 255 * b)
+sum-sizes-requires : tie.Need-sum-sizes-requires
+sum-sizes-requires c κs = search needs
 
-abbrev μ-loop : tie.MeasureT-loop
-μ-loop seat j sum₀ b₀ sum b = j - b
+place-of-requires : tie.Need-place-of-requires
+place-of-requires c κs = search needs
 
-loop-holds : tie.Need-loop-holds Inv-loop μ-loop
-loop-holds c = search needs
-
-other-size-requires : tie.Need-other-size-requires Inv-loop μ-loop
-other-size-requires c κs = search needs
-
-add-sum : tie.Need-add-sum Inv-loop μ-loop
-add-sum c = search needs
-
-add-b : tie.Need-add-b Inv-loop μ-loop
-add-b c = search needs
-
-loop-less : tie.Need-loop-less Inv-loop μ-loop
-loop-less c = search needs
-
-loop-again : tie.Need-loop-again Inv-loop μ-loop
-loop-again c =
-    let a = c .before .before .before .args in
-    let l = c .before .before .loop in
-    (omega arith, rw (l .inv .1, c .other-size .ensures .0, sumTo-more), omega arith)
-
-returns : tie.Need-returns Inv-loop μ-loop
+returns : tie.Need-returns
 returns c =
-    let a = c .before .before .args in
-    let l = c .before .loop in
-    let e : l .b ≡ a .j = omega arith in
-    (rw (← e) (l .inv .1), omega arith)
+    let a = c .before .before .before .args in
+    (c .before .before .sum-sizes .ensures .0 ∙ others-none (a .seat) (a .j) (omega (arith, c .before .place-of .ensures .0)), c .before .before .sum-sizes .ensures .1)
+
+size-of-requires : tie.Need-size-of-requires
+size-of-requires c κs = search needs
+
+-- the own size is among them
+whole : (c : tie.After-size-of) → let a = c .before .before .before .before .args in c .before .before .before .sum-sizes .result ≡ othersBefore (a .seat) (a .j) + c .size-of .result
+whole c =
+    let a = c .before .before .before .before .args in
+    let p = c .before .before .place-of in
+    c .before .before .before .sum-sizes .ensures .0
+    ∙ others-all (a .seat) (a .j) (omega (arith, p .ensures .0))
+    ∙ ap (λ x. othersBefore (a .seat) (a .j) + x) (ap (domFrom (a .seat)) (sym (p .ensures .0)) ∙ sym (c .size-of .ensures .0))
+
+sub-result : tie.Need-sub-result
+sub-result c = omega (arith, whole c)
+
+returns-2 : tie.Need-returns-2
+returns-2 c = (omega (arith, whole c), omega (arith, c .before .before .before .sum-sizes .ensures .1))
 
 pub others-before-spec : {M : Type 1} → statement M
 others-before-spec =
     tie.close
-    (tie.spec
-    Inv-loop
-    μ-loop
-    loop-holds
-    other-size-requires
-    add-sum
-    add-b
-    loop-less
-    loop-again
-    returns)
+    (tie.spec sum-sizes-requires place-of-requires returns size-of-requires sub-result returns-2)

@@ -31,7 +31,7 @@ wide-requires-2 c κs = search needs
 returns-3 : tie.Need-returns-3
 returns-3 c =
     let a = c .before .before .before .before .before .args in
-    (c .wide2 .ensures .0 ∙ sym (dom-at (a .t1 .n) (a .t1 .sizes) (a .b) (omega arith)), c .wide2 .ensures .1)
+    (c .wide2 .ensures .0 ∙ sym (dom-at (a .t1 .n) (a .t1 .sizes) (a .b) (omega arith)), omega arith)
 
 pub size-of-spec : {M : Type 1} → statement M
 size-of-spec =

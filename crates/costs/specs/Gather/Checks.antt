@@ -1,123 +1,96 @@
--- What gathering gives on each way out, from the numbers that the code works out: each test that fails settles `gatherable`, and all that pass do.
--- Assumes nothing.
-use Prim.Native.Nat.{ℕ, _+_, _*_, _≤_, _<_, pred}
+-- The refusals of gathering, from the tests that the code makes; and what passes them is an accepted stream, one of its units, and room for the bytes.
+-- Each by taking the definition's tests apart. Assumes nothing.
+use Prim.Native.Nat.{ℕ, _*_, _≤_, _<_, pred}
 use mathlib.Core.Path.{_≡_, refl, sym, ap, _∙_}
-use mathlib.Core.Bool.{Bool, true, false, _&&_, true≢false}
+use mathlib.Core.Bool.{Bool, true, false, cond}
 use mathlib.Core.List.{List, _++_}
 use native.Mathlib.Omega.{arith}
-use lib.Dec.{ltb, leb}
+use lib.Dec.{ltb, eqb}
 use lib.ListN.{length, drop}
-use borrow.Author.Tests.{ltb-true, ltb-false, le-leb, lt-leb}
-use Rattle.base.specs.Shape.{shapeGood}
-use Rattle.table.specs.Stream.{unitsOf, needed}
-use Rattle.costs.specs.Instance.{domIn, isValue, rowStart, otherStart}
+use borrow.Author.Tests.{ltb-false, lt-ltb, le-ltb, eq-eqb, ne-eqb}
+use Rattle.base.specs.Shape.{isValue, value-range}
+use Rattle.base.specs.Refusal.{orElse, or-left, or-right, or-first}
+use Rattle.table.specs.Stream.{unitsOf, streamRefusal, Accepted}
+use Rattle.table.specs.StreamLaws.{accepted-units}
+use Rattle.costs.specs.declared.Seat.{Seat}
+use Rattle.costs.specs.Instance.{otherStart, domFrom}
 use Rattle.costs.specs.Lent.{lentCount}
-use Rattle.costs.specs.Laws.Stream.{costs-in-stream}
-use Rattle.costs.specs.Gather.{domOf, sizesIn, gatherTo, gathered, gatherable, gatherCount, gatherInto, SeatIn}
+use Rattle.costs.specs.Laws.Stream.{accepted-fit}
+use Rattle.costs.specs.Gather.{sizesIn, gathered, gatherRefusal, gatherOf, gatherInto, SeatIn}
 use Rattle.costs.specs.Gather.Sizes.{dom-same}
-use Rattle.costs.specs.Gather.Laws.{length-gather}
+use Rattle.costs.specs.Gather.Laws.{gathered-length}
 
--- ---- one of four tests fails
+-- ---- each refusal by its test
 
-not-first : (a b c d : Bool) → a ≡ false → (a && b && c && d) ≡ false
-not-first true b c d e = absurd (true≢false e)
-not-first false b c d e = refl
+module _ (s : List ℕ) (own room : ℕ) where
+  pub refused-5 : streamRefusal s ≡ 5 → 5 ≡ gatherRefusal s own room
+  unfolding gatherRefusal
+  refused-5 e = rw (eq-eqb (streamRefusal s) 5 e)
 
-not-second : (a b c d : Bool) → b ≡ false → (a && b && c && d) ≡ false
-not-second true b c d e = rw e
-not-second false b c d e = refl
+  module _ (not5 : streamRefusal s ≡ 5 → ⊥) where
+    pub refused-10 : isValue (unitsOf s) own ≡ false → 10 ≡ gatherRefusal s own room
+    unfolding gatherRefusal
+    refused-10 e = rw (ne-eqb (streamRefusal s) 5 not5, e)
 
-not-third : (a b c d : Bool) → c ≡ false → (a && b && c && d) ≡ false
-not-third true true c d e = rw e
-not-third true false c d e = refl
-not-third false b c d e = refl
+    module _ (unit : isValue (unitsOf s) own ≡ true) where
+      pub refused-stream : (streamRefusal s ≡ 0 → ⊥) → streamRefusal s ≡ gatherRefusal s own room
+      unfolding gatherRefusal
+      refused-stream h = rw (ne-eqb (streamRefusal s) 5 not5, unit) (sym (or-first (streamRefusal s) _ h))
 
-not-fourth : (a b c d : Bool) → d ≡ false → (a && b && c && d) ≡ false
-not-fourth true true true d e = e
-not-fourth true true false d e = refl
-not-fourth true false c d e = refl
-not-fourth false b c d e = refl
+      -- the stream is accepted: the room decides
+      by-room : Accepted s → gatherRefusal s own room ≡ cond (ltb room (length (gathered s own))) 13 0
+      unfolding gatherRefusal Accepted
+      by-room ok = rw (ne-eqb (streamRefusal s) 5 not5, unit, ok)
 
-value-past : (d v : ℕ) → d < v → isValue d v ≡ false
-value-past d v h = let lo : 1 ≤ v = omega arith in rw (le-leb 1 v lo, lt-leb v d h)
+      pub refused-13 : Accepted s → room < length (gathered s own) → 13 ≡ gatherRefusal s own room
+      refused-13 ok h = sym (by-room ok ∙ rw (lt-ltb room (length (gathered s own)) h))
 
--- ---- the stream's length
+      pub refused-none : Accepted s → length (gathered s own) ≤ room → 0 ≡ gatherRefusal s own room
+      refused-none ok h = sym (by-room ok ∙ rw (le-ltb room (length (gathered s own)) h))
 
-long-enough : (s : List ℕ) → 1 + unitsOf s + 2 * rowStart (domOf s) (unitsOf s) (unitsOf s) ≤ length s → needed s ≤ length s
-long-enough s h = omega (arith, costs-in-stream s (omega arith))
+-- ---- what passes
 
-too-short : (s : List ℕ) → length s < 1 + unitsOf s + 2 * rowStart (domOf s) (unitsOf s) (unitsOf s) → length s < needed s
-too-short s h = go (ltb (length s) (1 + unitsOf s)) refl
+pub record Gatherable (s : List ℕ) (own room : ℕ) : Type 0 where
+  pub accepted : Accepted s
+  pub unit : (1 ≤ own) × (own ≤ unitsOf s)
+  pub fits : length (gathered s own) ≤ room
+
+pub gatherable : (s : List ℕ) (own room : ℕ) → gatherRefusal s own room ≡ 0 → Gatherable s own room
+unfolding gatherRefusal Accepted
+gatherable s own room e = go (eqb (streamRefusal s) 5) (isValue (unitsOf s) own) refl e
   where
-    go : (t : Bool) → ltb (length s) (1 + unitsOf s) ≡ t → length s < needed s
-    go true e = omega (arith, ltb-true (length s) (1 + unitsOf s) e)
-    go false e = omega (arith, costs-in-stream s (ltb-false (length s) (1 + unitsOf s) e))
+    room-for : (t : Bool) → ltb room (length (gathered s own)) ≡ t → _≡_ {A = ℕ} (cond t 13 0) 0 → length (gathered s own) ≤ room
+    room-for true q z = absurd (omega arith)
+    room-for false q z = ltb-false room (length (gathered s own)) q
 
--- ---- the ways out
+    go : (a b : Bool) → isValue (unitsOf s) own ≡ b → _≡_ {A = ℕ} (cond a 5 (cond b (orElse (streamRefusal s) (cond (ltb room (length (gathered s own))) 13 0)) 10)) 0 → Gatherable s own room
+    go true b q z = absurd (omega arith)
+    go false false q z = absurd (omega arith)
+    go false true q z = record {
+      accepted = or-left (streamRefusal s) _ z;
+      unit = value-range (unitsOf s) own q;
+      fits = room-for (ltb room (length (gathered s own))) refl (or-right (streamRefusal s) _ z);
+    }
 
--- nothing is gathered
-abbrev pub Nothing : List ℕ → ℕ → List ℕ → Type 0
-Nothing s own l = (0 ≡ gatherCount s own (length l)) × (l ≡ gatherInto s own l)
+-- ---- what gathering gives
 
-nothing : (s : List ℕ) (own : ℕ) (l : List ℕ) → gatherable s own (length l) ≡ false → Nothing s own l
-nothing s own l e = rw e (refl, refl)
+module _ (s : List ℕ) (own : ℕ) (l : List ℕ) where
+  pub gather-refused : (r : ℕ) → r ≡ gatherRefusal s own (length l) → (r ≡ 0 → ⊥) → (record { refusal = r; length = 0 } ≡ gatherOf s own (length l)) × (l ≡ gatherInto s own l)
+  gather-refused r e h = rw (← e, ne-eqb r 0 h) (refl, refl)
 
-module _ (s : List ℕ) (own n : ℕ) (sizes l : List ℕ) (units : n ≡ unitsOf s) (array : sizes ≡ sizesIn s) where
-  pub bad-shape : shapeGood n sizes ≡ false → Nothing s own l
-  unfolding gatherable
-  bad-shape e = nothing s own l (not-first (shapeGood (unitsOf s) (sizesIn s)) (isValue (unitsOf s) own) (leb (needed s) (length s)) (leb (length (gathered s own)) (length l)) (rw (units, array) at e))
+  pub gather-done : gatherRefusal s own (length l) ≡ 0 → (count : ℕ) (m : List ℕ) → count ≡ length (gathered s own) → m ≡ gathered s own ++ drop (length (gathered s own)) l
+      → (record { refusal = 0; length = count } ≡ gatherOf s own (length l)) × (m ≡ gatherInto s own l)
+  gather-done e count m c f = rw (eq-eqb (gatherRefusal s own (length l)) 0 e, c, f) (refl, refl)
 
-  pub no-unit-zero : own < 1 → Nothing s own l
-  unfolding gatherable
-  no-unit-zero h = nothing s own l (not-second (shapeGood (unitsOf s) (sizesIn s)) (isValue (unitsOf s) own) (leb (needed s) (length s)) (leb (length (gathered s own)) (length l)) (rw (lt-leb 1 own h)))
+-- ---- the seat of a unit of an accepted stream
 
-  pub no-unit-past : n < own → Nothing s own l
-  unfolding gatherable
-  no-unit-past h =
-      let past : unitsOf s < own = omega arith in
-      nothing s own l (not-second (shapeGood (unitsOf s) (sizesIn s)) (isValue (unitsOf s) own) (leb (needed s) (length s)) (leb (length (gathered s own)) (length l)) (value-past (unitsOf s) own past))
+module _ (s : List ℕ) (seat : Seat) (units : seat .n ≡ unitsOf s) (array : seat .sizes ≡ sizesIn s) (ok : Accepted s) where
+  pub seated : SeatIn s seat
+  seated = record { units = units; array = array; most = omega (arith, accepted-units s ok); long = accepted-fit s ok }
 
-  -- the rows that the code counts are the stream's
-  rows-same : (w r : ℕ) → n ≤ 16 → w ≡ n → r ≡ rowStart (domIn n sizes) n w → (w ≡ unitsOf s) × (r ≡ rowStart (domOf s) (unitsOf s) (unitsOf s))
-  rows-same w r most e q =
-      let at : w ≡ unitsOf s = e ∙ units in
-      (at, q ∙ ap (λ f. rowStart f n w) (dom-same s units array most) ∙ ap (λ m. rowStart (domOf s) m w) units ∙ ap (λ m. rowStart (domOf s) (unitsOf s) m) at)
-
-  pub short-stream : (w r : ℕ) → n ≤ 16 → w ≡ n → r ≡ rowStart (domIn n sizes) n w → length s < 1 + w + 2 * r → Nothing s own l
-  unfolding gatherable
-  short-stream w r most e q h =
-      let same = rows-same w r most e q in
-      nothing s own l (not-third (shapeGood (unitsOf s) (sizesIn s)) (isValue (unitsOf s) own) (leb (needed s) (length s)) (leb (length (gathered s own)) (length l)) (lt-leb (needed s) (length s) (too-short s (omega arith))))
-
-  pub shape-passed : (w r : ℕ) → n ≤ 16 → w ≡ n → r ≡ rowStart (domIn n sizes) n w → 1 + w + 2 * r ≤ length s → SeatIn s (record { own = own; n = n; sizes = sizes })
-  shape-passed w r most e q h =
-      let same = rows-same w r most e q in
-      record { units = units; array = array; most = most; long = long-enough s (omega arith) }
-
-  module _ (shape : SeatIn s (record { own = own; n = n; sizes = sizes })) (lo : 1 ≤ own) (hi : own ≤ n) (count : ℕ) (counted : count ≡ lentCount own n sizes) where
-    pub gather-count : length (gatherTo s (pred own) n) ≡ 2 * count
-    gather-count =
-        let c : count ≡ otherStart (domOf s) (pred own) (unitsOf s) =
-        counted ∙ ap (λ f. otherStart f (pred own) n) (dom-same s units array (shape .most)) ∙ ap (λ m. otherStart (domOf s) (pred own) m) units in
-        ap (λ m. length (gatherTo s (pred own) m)) units ∙ length-gather s (shape .long) (pred own) (omega arith) (unitsOf s) (omega arith) ∙ ap (λ x. 2 * x) (sym c)
-
-    gathered-count : length (gathered s own) ≡ 2 * count
-    unfolding gathered
-    gathered-count = ap (λ m. length (gatherTo s (pred own) m)) (sym units) ∙ gather-count
-
-    pub short-out : length l < 2 * count → Nothing s own l
-    unfolding gatherable
-    short-out h = nothing s own l (not-fourth (shapeGood (unitsOf s) (sizesIn s)) (isValue (unitsOf s) own) (leb (needed s) (length s)) (leb (length (gathered s own)) (length l)) (lt-leb (length (gathered s own)) (length l) (omega (arith, gathered-count))))
-
-    -- all tests passed
-    pub all-gathered : shapeGood n sizes ≡ true → 2 * count ≤ length l → (place r : ℕ) (m : List ℕ) → place ≡ pred own → r ≡ length (gatherTo s place n) → m ≡ gatherTo s place n ++ drop (length (gatherTo s place n)) l
-        → (r ≡ gatherCount s own (length l)) × (m ≡ gatherInto s own l)
-    unfolding gatherable gathered
-    all-gathered good room place r m ep er em =
-        let g : gatherTo s place n ≡ gathered s own = ap (λ p. gatherTo s p n) ep ∙ ap (λ x. gatherTo s (pred own) x) units in
-        let past : own ≤ unitsOf s = omega arith in
-        let shaped : shapeGood (unitsOf s) (sizesIn s) ≡ true = rw (units, array) at good in
-        let fits : length (gathered s own) ≤ length l = omega (arith, gathered-count) in
-        let all : gatherable s own (length l) ≡ true =
-        simp (shaped, le-leb 1 own lo, le-leb own (unitsOf s) past, le-leb (needed s) (length s) (shape .long), le-leb (length (gathered s own)) (length l) fits) in
-        rw all (er ∙ ap length g, em ∙ ap (λ f. f ++ drop (length f) l) g)
+  -- the costs that touch it are as many as the code counts
+  pub gathered-count : 1 ≤ seat .own → seat .own ≤ unitsOf s → length (gathered s (seat .own)) ≡ 2 * lentCount (seat .own) (seat .n) (seat .sizes)
+  gathered-count lo hi =
+      gathered-length s ok (seat .own) lo hi
+      ∙ ap (λ f. 2 * otherStart f (pred (seat .own)) (unitsOf s)) (sym (dom-same s units array (seated .most)))
+      ∙ ap (λ m. 2 * otherStart (domFrom seat) (pred (seat .own)) m) (sym units)

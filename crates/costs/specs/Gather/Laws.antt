@@ -15,13 +15,14 @@ use borrow.Author.Tests.{lt-ltb, le-ltb, ltb-true, ltb-false, eq-eqb, ne-eqb, le
 use Rattle.base.specs.Sums.{sumTo}
 use Rattle.table.specs.Stream.{unitsOf, sizesOf, needed, costAt, Accepted}
 use Rattle.table.specs.StreamLaws.{accepted-units, accepted-cost}
-use Rattle.costs.specs.Instance.{View, viewOf, isValue, pairStart, inPair, costNumber, instanceOf, otherStart, lentCost, lentView}
+use Rattle.base.specs.Shape.{isValue, range-value}
+use Rattle.costs.specs.Instance.{View, viewOf, pairStart, inPair, costNumber, instanceOf, otherStart, lentCost, lentView, domOf, costsOf}
 use Rattle.costs.specs.Lent.{lentCostsGood, lentCount, lentRefusal}
 use Rattle.costs.specs.Lent.Checks.{refusal-costs}
-use Rattle.costs.specs.Laws.Sums.{sumTo-le}
-use Rattle.costs.specs.Laws.Stream.{in-pair-lt, value-range, cost-number-at, pair-costs, accepted-fit, dom-most}
-use Rattle.costs.specs.Gather.Sizes.{accepted-sizes-good}
-use Rattle.costs.specs.Gather.{domOf, costsOf, pairBytes, withOther, gatherTo, gathered, gatherable, gatherCount, gatherInto}
+use Rattle.base.specs.Sums.Laws.{sumTo-le}
+use Rattle.base.specs.Shape.{value-range}
+use Rattle.costs.specs.Laws.Stream.{in-pair-lt, cost-number-at, pair-costs, accepted-fit, dom-most}
+use Rattle.costs.specs.Gather.{pairBytes, withOther, gatherTo, gathered, gatherRefusal, gatherOf, gatherInto}
 
 -- ---- which of two units comes first
 
@@ -288,12 +289,13 @@ module _ (s : List ℕ) (ok : Accepted s) (own : ℕ) (lo : 1 ≤ own) (hi : own
       omega (arith, gathered-length, mul-le-mul (dom-most s ok k) others)
 
   -- 7,680 bytes are room enough
-  pub accepted-gatherable : (room : ℕ) → 7680 ≤ room → gatherable s own room ≡ true
-  unfolding gatherable
-  accepted-gatherable room h =
-      let room-left : length (gathered s own) ≤ room = omega (arith, gathered-most) in
-      simp (accepted-sizes-good s ok, le-leb 1 own lo, le-leb own (unitsOf s) hi, le-leb (needed s) (length s) (accepted-fit s ok), le-leb (length (gathered s own)) room room-left)
+  enough : (room : ℕ) → 7680 ≤ room → gatherRefusal s own room ≡ 0
+  unfolding gatherRefusal Accepted
+  enough room h = simp (ok, range-value (unitsOf s) own lo hi, le-ltb room (length (gathered s own)) (omega (arith, gathered-most)))
+
+  pub gather-enough : (room : ℕ) → 7680 ≤ room → gatherOf s own room ≡ record { refusal = 0; length = length (gathered s own) }
+  gather-enough room h = rw (enough room h)
 
   -- so the bytes in front are those gathered
-  pub gather-front : (l : List ℕ) → 7680 ≤ length l → take (gatherCount s own (length l)) (gatherInto s own l) ≡ gathered s own
-  gather-front l h = rw (accepted-gatherable (length l) h) (take-append-seam (gathered s own) (drop (length (gathered s own)) l))
+  pub gather-front : (l : List ℕ) → 7680 ≤ length l → take (gatherOf s own (length l) .length) (gatherInto s own l) ≡ gathered s own
+  gather-front l h = rw (enough (length l) h) (take-append-seam (gathered s own) (drop (length (gathered s own)) l))

@@ -1,19 +1,20 @@
 -- How gathering goes on by one turn of a loop: a size, a sum, a byte copied. Each by a law on lists at the next place.
 -- Assumes nothing.
-use Prim.Native.Nat.{ℕ, suc, _+_, _*_, _-_, _≤_, _<_}
+use Prim.Native.Nat.{ℕ, _+_, _*_, _≤_, _<_}
 use mathlib.Core.Path.{_≡_, refl, sym, ap, _∙_}
 use mathlib.Core.List.{List, [], _++_, append-assoc, append-nil}
 use native.Mathlib.Numerals.{add-one}
 use native.Mathlib.Omega.{arith}
 use lib.ListN.{length, getD, take, drop, set, length-append, length-take, length-drop, drop-of-length-le, List·getD-eq-default}
-use lib.Seq.{take-all, getD-take, getD-drop, drop-cons, take-suc, set-at, length-take-le, take-append-seam, drop-append-add, drop-drop, paste, paste-zero, paste-suc}
+use lib.Seq.{take-all, getD-take, getD-drop, drop-drop, paste, paste-zero}
 use Rattle.base.specs.Sums.{sumFrom}
+use Rattle.base.specs.Put.{putAt, put-next, paste-more}
 use Rattle.table.specs.Stream.{unitsOf}
 use Rattle.costs.specs.declared.Seat.{Seat}
-use Rattle.costs.specs.Instance.{domFrom, pairStart}
-use Rattle.costs.specs.Laws.Sums.{sumFrom-last}
+use Rattle.costs.specs.Instance.{domFrom, pairStart, domOf}
+use Rattle.base.specs.Sums.Laws.{sumFrom-last}
 use Rattle.costs.specs.Laws.Stream.{pair-costs}
-use Rattle.costs.specs.Gather.{domOf, pairBytes, withOther, gatherTo, putAt, SeatIn}
+use Rattle.costs.specs.Gather.{pairBytes, withOther, gatherTo, SeatIn}
 use Rattle.costs.specs.Gather.Sizes.{dom-same}
 use Rattle.costs.specs.Gather.Laws.{length-pair-bytes, with-own}
 
@@ -30,12 +31,7 @@ size-some s k h = sym (getD-take (unitsOf s) (drop 1 s) k 0 h ∙ getD-drop 1 s 
 pub sum-more : (f : ℕ → ℕ) (lo i : ℕ) → sumFrom f lo (i + 1) ≡ sumFrom f lo i + f (lo + i)
 sum-more f lo i = rw add-one (sumFrom-last f lo i)
 
--- an array filled from the front
-pub fill-next : (i : ℕ) (s t : List ℕ) → i < length s → i < length t → set (take i s ++ drop i t) i (getD s i 0) ≡ take (i + 1) s ++ drop (i + 1) t
-fill-next i s t hs ht =
-    let e : length (take i s) ≡ i = length-take-le i s (omega arith) in
-    rw (drop-cons t i 0 ht, set-at (take i s) (getD t i 0) (drop (suc i) t) (getD s i 0) i e, add-one, take-suc s i 0 hs, append-assoc)
-
+-- an array filled from the front, to its end
 pub fill-done : (i : ℕ) (s t : List ℕ) → length s ≤ i → length t ≤ i → take i s ++ drop i t ≡ s
 fill-done i s t hs ht = rw (take-all i s hs, drop-of-length-le t ht, append-nil)
 
@@ -45,7 +41,7 @@ pub paste-next : (d : List ℕ) (at : ℕ) (s : List ℕ) (from j : ℕ) → at 
 paste-next d at s from j hd hs =
     let e : getD (drop from s) j 0 ≡ getD s (from + j) 0 = getD-drop from s j 0 in
     let l : j < length (drop from s) = simp length-drop (omega arith) in
-    rw (← e, add-one) (paste-suc d at (drop from s) j 0 hd l)
+    rw (← e) (paste-more d at (drop from s) j hd l)
 
 -- ---- parts put behind one another
 
@@ -87,8 +83,7 @@ put-own s d k j at e = rw (e, with-own s k) (omega arith, put-nothing d at)
 
 -- what is put behind the front of a list joins that front
 pub put-behind : (g w d : List ℕ) (at : ℕ) → at ≡ length g → putAt (g ++ drop (length g) d) at w ≡ (g ++ w) ++ drop (length (g ++ w)) d
-put-behind g w d at e =
-    rw (e, take-append-seam g (drop (length g) d), drop-append-add g (drop (length g) d) (length w), drop-drop (length w) (length g) d, length-append g w)
+put-behind g w d at e = put-next g (drop (length g) d) w at (sym e) ∙ rw (drop-drop (length w) (length g) d, length-append g w, append-assoc)
 
 -- one unit more
 pub gather-next : (s : List ℕ) (k j : ℕ) → gatherTo s k (j + 1) ≡ gatherTo s k j ++ withOther s k j

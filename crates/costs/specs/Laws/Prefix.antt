@@ -1,7 +1,7 @@
 -- The functions of a prefix (a list, last unit first) are specs/Bounds' functions of an array of values (first unit first):
 -- `pre k l` is the prefix that the first k places of l are. By induction on k; the view's test on the units falls to one side.
 -- Assumes nothing.
-use Prim.Native.Nat.{ℕ, zero, suc, _+_, _*_, _-_, _≤_, _<_}
+use Prim.Native.Nat.{ℕ, zero, suc, _+_, _-_, _≤_, _<_}
 use mathlib.Core.Path.{_≡_, refl, ap, _∙_, subst}
 use mathlib.Core.Bool.{Bool, true, false}
 use mathlib.Core.List.{List, [], _∷_}
@@ -14,8 +14,8 @@ use Rattle.base.specs.Sums.{sumTo, least}
 use Rattle.costs.specs.Instance.{Instance, viewOf}
 use Rattle.costs.specs.Bounds.{costWith, h, estimate, Assignment, total}
 use Rattle.costs.specs.Problem.{InDomains, Full, Closed, closed-least}
-use Rattle.costs.specs.Laws.Sums.{sumFrom-cong, sumTo-cong, least-cong}
-use Rattle.costs.specs.Laws.{Sound, against, costOf, hOf, lookaheadOf, estimateOf, problemOf, cost-limit, full-limit, estimate-limit}
+use Rattle.base.specs.Sums.Laws.{sumFrom-cong, sumTo-cong, least-cong}
+use Rattle.costs.specs.Laws.{Sound, against, costOf, hOf, lookaheadOf, estimateOf, problemOf, full-limit}
 
 -- ---- the first k places, the last first
 
@@ -122,14 +122,8 @@ module _ (I : Instance) where
   pub closed-total : (B : ℕ) → Closed (problemOf I) [] B → (l : List ℕ) → Assignment I l → B ≤ total I l
   closed-total B c l a = rw (total-prefix l) (closed-least (problemOf I) B c (pre (I .n) l) (assignment-full l a))
 
--- ---- the limits, of arrays
+-- ---- the limit, of arrays
 
 module _ (I : Instance) (s : Sound I) where
   pub total-limit : (l : List ℕ) → total I l ≤ 7200000
   total-limit l = rw (total-prefix I l) (full-limit I s (pre (I .n) l) (omega (arith, length-pre (I .n) l)))
-
-  pub prefix-limit : (k : ℕ) (l : List ℕ) → costOf I (pre k l) ≤ 30000 * k * (k - 1)
-  prefix-limit k l = subst (λ m. costOf I (pre k l) ≤ 30000 * m * (m - 1)) (length-pre k l) (cost-limit I s (pre k l))
-
-  pub estimate-of-view-limit : (k : ℕ) (values : List ℕ) (m : ℕ) → k < I .n → m ≤ k → estimate (viewOf I k) values m ≤ 900000
-  estimate-of-view-limit k values m h le = rw (estimate-prefix I k values m le) (estimate-limit I s k (pre m values) h (omega (arith, length-pre m values)))

@@ -7,17 +7,16 @@ use mathlib.Core.Bool.{Bool, true, false, cond, _&&_, false≢true}
 use mathlib.Core.List.{List, [], _∷_}
 use native.Mathlib.Omega.{arith}
 use native.Mathlib.Nat.{mul-le-mul, mul-add, le-refl, zero-add}
-use lib.Dec.{ltb, leb}
+use lib.Dec.{ltb}
 use lib.ListN.{length, getD, drop, length-drop, List·getD-eq-default}
 use lib.Seq.{getD-drop, getD-take, length-take-le}
-use borrow.Author.Tests.{leb-true, ltb-true, ltb-false}
+use borrow.Author.Tests.{ltb-true, ltb-false}
 use Rattle.base.specs.Sums.{sumFrom}
-use Rattle.base.specs.Shape.{and-left, and-right}
 use Rattle.table.specs.Stream.{unitsOf, sizesOf, sumList, pairsIn, needed, costAt, Accepted}
 use Rattle.table.specs.StreamLaws.{accepted-units, accepted-size, accepted-length, accepted-sizes-length, accepted-cost}
-use Rattle.costs.specs.Instance.{isValue, rowStart, pairStart, inPair, costNumber, tableCost, instanceOf}
-use Rattle.costs.specs.Laws.Sums.{sumTo-mono, sumTo-sumFrom, sumFrom-last, sumFrom-split}
-use Rattle.costs.specs.Gather.{domOf, costsOf}
+use Rattle.base.specs.Shape.{isValue, value-range}
+use Rattle.costs.specs.Instance.{rowStart, pairStart, inPair, costNumber, tableCost, instanceOf, domOf, costsOf}
+use Rattle.base.specs.Sums.Laws.{sumTo-mono, sumTo-sumFrom, sumFrom-last, sumFrom-split}
 use Rattle.costs.specs.Laws.{Sound}
 
 -- ---- a cost's place
@@ -75,10 +74,6 @@ all-four true true true false e = absurd (false≢true e)
 all-four true true false d e = absurd (false≢true e)
 all-four true false c d e = absurd (false≢true e)
 all-four false b c d e = absurd (false≢true e)
-
--- a value is one of its unit's
-pub value-range : (d v : ℕ) → isValue d v ≡ true → (1 ≤ v) × (v ≤ d)
-value-range d v e = (leb-true 1 v (and-left (leb 1 v) (leb v d) e), leb-true v d (and-right (leb 1 v) (leb v d) e))
 
 -- ---- an accepted stream
 

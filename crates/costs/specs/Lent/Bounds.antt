@@ -13,9 +13,10 @@ use borrow.Author.Tests.{leb-true, ltb-true, ltb-false, eqb-true}
 use Rattle.base.specs.Bytes.{u16-past}
 use Rattle.base.specs.Shape.{and-left, and-right}
 use Rattle.base.specs.Sums.{least}
-use Rattle.costs.specs.Instance.{View, domIn, isValue, costNumber, otherStart, inOther, lentView}
+use Rattle.base.specs.Shape.{isValue}
+use Rattle.costs.specs.Instance.{View, domIn, costNumber, lentView}
 use Rattle.costs.specs.Bounds.{costWith, h, estimate}
-use Rattle.costs.specs.Laws.Sums.{sumFrom-le, sumTo-le, least-bound}
+use Rattle.base.specs.Sums.Laws.{sumFrom-le, sumTo-le, least-bound}
 use Rattle.costs.specs.Lent.{lentCostsGood, lentCount, lentRefusal}
 
 -- ---- any view
@@ -83,19 +84,4 @@ module _ (own n : ℕ) (sizes costs : List ℕ) (ok : lentRefusal own n sizes co
   unfolding lentView
   lent-pair-most j u v =
       cond-most (not (eqb j (pred own)) && ltb j n && isValue (domIn n sizes j) u && isValue (domIn n sizes (pred own)) v) _ 60000
-      (lent-number-most (otherStart (domIn n sizes) (pred own) j + inOther (domIn n sizes) (pred own) j u v))
-
-  pub lent-cost-most : (values : List ℕ) (k v : ℕ) → costWith (lentView own n sizes costs) values k v ≤ 60000 * k
-  lent-cost-most values k v = cost-most (lentView own n sizes costs) lent-pair-most values k v
-
-  pub lent-h-most : 1 ≤ own → (v : ℕ) → h (lentView own n sizes costs) v ≤ 60000 * (n - own)
-  unfolding lentView
-  lent-h-most l v = let e : suc (pred own) ≡ own = omega arith in rw e at (h-most (lentView own n sizes costs) lent-pair-most v)
-
-  pub lent-estimate-most : own ≤ n → (values : List ℕ) (k : ℕ) → k < own → estimate (lentView own n sizes costs) values k ≤ 60000 * (n - 1)
-  unfolding lentView
-  lent-estimate-most l values k b = let e : suc (pred own) ≡ own = omega arith in omega (arith, rw e at (estimate-most (lentView own n sizes costs) lent-pair-most values k))
-
-  -- 01: "an estimate at most 7,200,000"
-  pub lent-estimate-limit : n ≤ 16 → own ≤ n → (values : List ℕ) (k : ℕ) → k < own → estimate (lentView own n sizes costs) values k ≤ 7200000
-  lent-estimate-limit s l values k b = omega (arith, lent-estimate-most l values k b)
+      (lent-number-most _)

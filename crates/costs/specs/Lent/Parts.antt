@@ -5,7 +5,8 @@ use mathlib.Core.Bool.{cond, not, _&&_}
 use mathlib.Core.List.{List}
 use lib.Dec.{ltb, eqb}
 use Rattle.base.specs.Sums.{sumFrom, sumTo, least}
-use Rattle.costs.specs.Instance.{View, domFrom, isValue, inPair, costNumber}
+use Rattle.base.specs.Shape.{isValue}
+use Rattle.costs.specs.Instance.{View, domFrom, inPair, costNumber}
 use Rattle.costs.specs.declared.Seat.{Seat}
 use Rattle.costs.specs.Bounds.{costWith, h}
 

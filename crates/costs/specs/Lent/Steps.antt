@@ -3,17 +3,19 @@
 -- Assumes nothing.
 use Prim.Native.Nat.{ℕ, zero, suc, _+_, _*_, _-_, _≤_, _<_, pred, min}
 use mathlib.Core.Path.{_≡_, refl, sym, ap, _∙_}
-use mathlib.Core.Bool.{Bool, true, false, and-true, and-false}
+use mathlib.Core.Bool.{Bool, true, false, cond, and-true, and-false}
 use mathlib.Core.List.{List}
 use native.Mathlib.Nat.{add-assoc, add-sub-cancel, add-zero, sub-self}
 use native.Mathlib.Numerals.{add-one}
 use native.Mathlib.Omega.{arith}
-use lib.Dec.{ltb}
+use lib.Dec.{ltb, eqb}
 use lib.ListN.{getD, take, length, length-take, List·getD-eq-default}
 use lib.Seq.{getD-take}
-use borrow.Author.Tests.{lt-ltb, le-ltb, le-leb, lt-leb, ltb-false, eq-eqb, ne-eqb}
+use borrow.Author.Tests.{lt-ltb, le-ltb, lt-leb, ltb-true, ltb-false, eq-eqb, ne-eqb}
 use Rattle.base.specs.Sums.{sumFrom, sumTo, least}
-use Rattle.costs.specs.Instance.{View, domIn, isValue, inPair, costNumber, lentCost, lentView, domFrom, viewFrom}
+use Rattle.base.specs.Sums.Laws.{sumTo-cong, sumTo-sumFrom}
+use Rattle.base.specs.Shape.{isValue, range-value}
+use Rattle.costs.specs.Instance.{View, domIn, inPair, costNumber, lentCost, lentView, domFrom, viewFrom}
 use Rattle.costs.specs.declared.Seat.{Seat}
 use Rattle.costs.specs.Bounds.{costWith, h, estimate}
 use Rattle.costs.specs.Lent.Parts.{othersBefore, pairFrom, leastRun, laterFrom, leastCost}
@@ -29,10 +31,6 @@ dom-past-list n sizes k h = List·getD-eq-default (take n sizes) 0 (simp length-
 
 pub dom-at : (n : ℕ) (sizes : List ℕ) (k : ℕ) → k < n → domIn n sizes k ≡ getD sizes k 0
 dom-at n sizes k h = getD-take n sizes k 0 h
-
--- what is a value; Laws.Stream has the way back
-pub range-value : (d v : ℕ) → 1 ≤ v → v ≤ d → isValue d v ≡ true
-range-value d v l h = simp (le-leb 1 v l, le-leb v d h)
 
 pub no-value : (v : ℕ) → isValue 0 v ≡ false
 no-value zero = refl
@@ -112,7 +110,27 @@ cost-more w values j v = rw add-one
 
 -- ---- h
 
+-- a sum with the term at place k left out: the same before k, and less by that term after it
+sum-before : (f : ℕ → ℕ) (k j : ℕ) → j ≤ k → sumTo (λ b. cond (eqb b k) 0 (f b)) j ≡ sumTo f j
+sum-before f k j h = sumTo-cong _ f j (λ b l. rw (ne-eqb b k (λ e. omega arith)))
+
+sum-without : (f : ℕ → ℕ) (k j : ℕ) → k < j → sumTo (λ b. cond (eqb b k) 0 (f b)) j + f k ≡ sumTo f j
+sum-without f k zero h = absurd (omega arith)
+sum-without f k (suc j) h = go (ltb k j) refl (λ l. sum-without f k j l)
+  where
+    go : (t : Bool) → ltb k j ≡ t → (k < j → sumTo (λ b. cond (eqb b k) 0 (f b)) j + f k ≡ sumTo f j) → sumTo (λ b. cond (eqb b k) 0 (f b)) (suc j) + f k ≡ sumTo f (suc j)
+    go true e ih = let l = ltb-true k j e in rw (ne-eqb j k (λ q. omega arith)) (omega (arith, ih l))
+    go false e ih =
+        let q : j ≡ k = omega (arith, ltb-false k j e) in
+        rw (eq-eqb j k q) (omega (arith, sum-before f k j (omega arith), ap f q))
+
 module _ (seat : Seat) where
+  pub others-none : (j : ℕ) → j ≤ pred (seat .own) → sumFrom (domFrom seat) 0 j ≡ othersBefore seat j
+  others-none j h = sym (sumTo-sumFrom (domFrom seat) j) ∙ sym (sum-before (domFrom seat) (pred (seat .own)) j h)
+
+  pub others-all : (j : ℕ) → pred (seat .own) < j → sumFrom (domFrom seat) 0 j ≡ othersBefore seat j + domFrom seat (pred (seat .own))
+  others-all j h = sym (sumTo-sumFrom (domFrom seat) j) ∙ sym (sum-without (domFrom seat) (pred (seat .own)) j h)
+
   -- the others before the next place, once past the own
   pub others-later : (j : ℕ) → pred (seat .own) < j → othersBefore seat (j + 1) ≡ othersBefore seat j + domFrom seat j
   others-later j l = rw (add-one, ne-eqb j (pred (seat .own)) (λ q. omega arith))

@@ -12,7 +12,8 @@ use lib.Dec.{ltb}
 use lib.ListN.{length, getD, set, take, drop, replicate, length-append}
 use Rattle.table.specs.Stream.{unitsOf, Accepted}
 use Rattle.table.specs.StreamLaws.{accepted-units}
-use Rattle.costs.specs.Instance.{viewOf, instanceOf, isValue}
+use Rattle.base.specs.Shape.{isValue}
+use Rattle.costs.specs.Instance.{viewOf, instanceOf}
 use Rattle.costs.specs.Laws.{laws-of, problemOf}
 use Rattle.costs.specs.Laws.Stream.{sound-of}
 use Rattle.costs.specs.Gather.{sizesIn}

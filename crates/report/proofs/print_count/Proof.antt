@@ -5,34 +5,24 @@ use lib.ListN.{length}
 use borrow.Author.Needs.{needs}
 use Rattle.report.proofs.print_count.Statement.{statement}
 use Rattle.report.proofs.print_count.Tie as tie
-use Rattle.report.proofs.print_count.Reads as reads
-use Rattle.report.proofs.print_count.Lts as lts
-use Rattle.io.proofs.write_all.Reads as write-all-reads
-use Rattle.network.proofs.digits.Reads as digits-reads
 
--- src/lib.rt:100:9
 digits-requires : tie.Need-digits-requires
 digits-requires c κs = search needs
 
--- src/lib.rt:103:34
 sub-write-all : tie.Need-sub-write-all
 sub-write-all c = search needs
 
--- src/lib.rt:103:34
 part-write-all-start : tie.Need-part-write-all-start
 part-write-all-start c = search needs
 
--- src/lib.rt:103:34
 part-write-all-end : tie.Need-part-write-all-end
 part-write-all-end c =
     let h : length (c .before .before .digits .result .text) ≡ 40 = search needs in
     search needs
 
--- src/lib.rt:103:5
 write-all-requires : tie.Need-write-all-requires
 write-all-requires c κs = search needs
 
--- src/lib.rt:99:1
 returns : tie.Need-returns
 returns c = search needs
 

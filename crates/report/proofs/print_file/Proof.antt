@@ -4,7 +4,7 @@ use Prim.Native.Nat.{ℕ, _-_}
 use mathlib.Core.Path.{_≡_}
 use native.Mathlib.Nat.{sub-zero}
 use mathlib.Core.List.{List}
-use lib.ListN.{length, take, replicate, length-replicate}
+use lib.ListN.{take, replicate, length-replicate}
 use Rattle.table.specs.File.{streamOf}
 use Rattle.report.specs.Report.{refusalBy, unread, read-fits, read-front, read-report}
 use borrow.Author.Needs.{needs}

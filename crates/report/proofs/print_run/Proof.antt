@@ -4,33 +4,22 @@ use Rattle.report.specs.Report.{settled-refusal}
 use borrow.Author.Needs.{needs}
 use Rattle.report.proofs.print_run.Statement.{statement}
 use Rattle.report.proofs.print_run.Tie as tie
-use Rattle.report.proofs.print_run.Reads as reads
-use Rattle.report.proofs.print_run.Lts as lts
-use Rattle.network.proofs.settle.Reads as settle-reads
-use Rattle.report.proofs.print_network.Reads as print-network-reads
-use Rattle.report.proofs.refuse.Reads as refuse-reads
 
--- src/lib.rt:65:42
 slice-aggregate-settle : tie.Need-slice-aggregate-settle
 slice-aggregate-settle c = search needs
 
--- src/lib.rt:65:9
 settle-requires : tie.Need-settle-requires
 settle-requires c κs = search needs
 
--- src/lib.rt:68:9
 refuse-requires : tie.Need-refuse-requires
 refuse-requires c κs = search needs
 
--- src/lib.rt:69:9
 returns : tie.Need-returns
 returns c = let x = c .before .before .before .settle in settled-refusal (c .before .before .before .before .before .before .args .stream .now) (x .result) (x .ensures .0)
 
--- src/lib.rt:72:5
 print-network-requires : tie.Need-print-network-requires
 print-network-requires c κs = search needs
 
--- src/lib.rt:61:1
 returns-2 : tie.Need-returns-2
 returns-2 c = let x = c .before .before .before .before .settle in settled-refusal (c .before .before .before .before .before .before .before .args .stream .now) (x .result) (x .ensures .0)
 

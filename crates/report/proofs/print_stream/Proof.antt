@@ -1,6 +1,6 @@
 -- `print_stream` meets its contract: in each arm `settled` is known, so `refusalBy` is what that arm's call gives.
 -- Assumes nothing.
-use mathlib.Core.Path.{_≡_, sym, ap, _∙_}
+use mathlib.Core.Path.{sym, ap, _∙_}
 use Rattle.report.specs.Report.{refusalBy}
 use borrow.Author.Needs.{needs}
 use Rattle.report.proofs.print_stream.Statement.{statement}

@@ -4,6 +4,7 @@ use borrow.Author.Needs.{needs}
 use Prim.Native.Nat.{ℕ, _*_, _-_, _≤_, _<_}
 use mathlib.Core.Path.{_≡_, refl, sym, ap, _∙_}
 use native.Mathlib.Omega.{arith}
+use Rattle.base.specs.Limits.{pairLimit}
 use Rattle.costs.specs.Instance.{instanceOf, viewOf}
 use Rattle.costs.specs.Bounds.{costWith}
 use Rattle.costs.specs.Lent.Steps.{cost-none}
@@ -12,7 +13,7 @@ use Rattle.search.proofs.added_cost.Statement.{statement}
 use Rattle.search.proofs.added_cost.Tie as tie
 
 abbrev Inv-loop : tie.InvT-loop
-Inv-loop stream starts level d v chosen column sum₀ i₀ sum i = (i ≤ level) × (column ≡ 16 * level) × (sum ≡ costWith (viewOf (instanceOf stream) level) chosen i v) × (sum ≤ 60000 * i)
+Inv-loop stream starts level d v chosen column sum₀ i₀ sum i = (i ≤ level) × (column ≡ 16 * level) × (sum ≡ costWith (viewOf (instanceOf stream) level) chosen i v) × (sum ≤ pairLimit * i)
 
 abbrev μ-loop : tie.MeasureT-loop
 μ-loop stream starts level d v chosen column sum₀ i₀ sum i = level - i

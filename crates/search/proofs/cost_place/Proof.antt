@@ -1,53 +1,48 @@
 -- `cost_place` meets its contract: bytes and sizes are far below what overflows.
 -- Assumes nothing.
 use borrow.Author.Needs.{needs}
-use Prim.Native.Nat.{_-_, _≤_}
+use Prim.Native.Nat.{_*_, _-_, _≤_}
 use native.Mathlib.Omega.{arith}
 use native.Mathlib.Nat.{mul-le-mul}
 use Rattle.search.proofs.cost_place.Statement.{statement}
 use Rattle.search.proofs.cost_place.Tie as tie
 
-value-requires : tie.Need-value-requires
-value-requires c κs = search needs
+wide-requires : tie.Need-wide-requires
+wide-requires c κs = search needs
 
 sub-result : tie.Need-sub-result
 sub-result c = search needs
 
-mul-result : tie.Need-mul-result
-mul-result c =
-    let u : c .value .result - 1 ≤ 255 = omega arith in
+-- the part that is a product
+small : (c : tie.After-wide) → (c .wide .result - 1) * c .before .args .d ≤ 255 * 255
+small c =
+    let u : c .wide .result - 1 ≤ 255 = omega arith in
     let d : c .before .args .d ≤ 255 = omega arith in
-    omega (arith, mul-le-mul u d)
+    mul-le-mul u d
+
+mul-result : tie.Need-mul-result
+mul-result c = omega (arith, small c)
 
 sub-result-2 : tie.Need-sub-result-2
 sub-result-2 c = search needs
 
 add-result : tie.Need-add-result
-add-result c =
-    let u : c .value .result - 1 ≤ 255 = omega arith in
-    let d : c .before .args .d ≤ 255 = omega arith in
-    omega (arith, mul-le-mul u d)
+add-result c = omega (arith, small c)
 
 mul-result-2 : tie.Need-mul-result-2
-mul-result-2 c =
-    let u : c .value .result - 1 ≤ 255 = omega arith in
-    let d : c .before .args .d ≤ 255 = omega arith in
-    omega (arith, mul-le-mul u d)
+mul-result-2 c = omega (arith, small c)
 
 add-result-2 : tie.Need-add-result-2
-add-result-2 c =
-    let u : c .value .result - 1 ≤ 255 = omega arith in
-    let d : c .before .args .d ≤ 255 = omega arith in
-    omega (arith, mul-le-mul u d)
+add-result-2 c = omega (arith, small c)
 
 returns : tie.Need-returns
-returns c = rw (c .value .ensures .0)
+returns c = rw (c .wide .ensures .0)
 
 pub cost-place-spec : {M : Type 1} → statement M
 cost-place-spec =
     tie.close
     (tie.spec
-    value-requires
+    wide-requires
     sub-result
     mul-result
     sub-result-2

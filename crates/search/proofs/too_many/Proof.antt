@@ -2,23 +2,24 @@
 -- Assumes nothing.
 use borrow.Author.Needs.{needs}
 use Prim.Native.Nat.{_-_, _≤_}
-use mathlib.Core.Path.{_≡_, sym}
+use mathlib.Core.Path.{_≡_, refl}
 use native.Mathlib.Omega.{arith}
 use native.Mathlib.Nat.{mul-le-mul}
+use Rattle.base.specs.Limits.{searchLimit}
 use Rattle.costs.specs.Instance.{instanceOf}
-use Rattle.search.specs.Search.{productTo}
-use Rattle.search.specs.Steps.{count-none, count-turn, count-above, count-within}
+use Rattle.costs.specs.Bounds.{prefixCount}
+use Rattle.search.specs.Steps.{count-turn, count-above, count-within}
 use Rattle.search.proofs.too_many.Statement.{statement}
 use Rattle.search.proofs.too_many.Tie as tie
 
 abbrev Inv-loop : tie.InvT-loop
-Inv-loop stream n count₀ i₀ count i = (i ≤ n) × (count ≡ productTo (instanceOf stream .dom) i) × (count ≤ 1048576)
+Inv-loop stream n count₀ i₀ count i = (i ≤ n) × (count ≡ prefixCount (instanceOf stream .dom) i) × (count ≤ searchLimit)
 
 abbrev μ-loop : tie.MeasureT-loop
 μ-loop stream n count₀ i₀ count i = n - i
 
 loop-holds : tie.Need-loop-holds Inv-loop μ-loop
-loop-holds c = let a = c .before .args in (omega arith, sym (count-none (instanceOf (a .stream .now) .dom)), omega arith)
+loop-holds c = (omega arith, refl, omega arith)
 
 add-byte : tie.Need-add-byte Inv-loop μ-loop
 add-byte c = search needs

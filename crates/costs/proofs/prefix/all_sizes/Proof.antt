@@ -6,7 +6,7 @@ use native.Mathlib.Nat.{zero-add}
 use native.Mathlib.Omega.{arith}
 use borrow.Author.Needs.{needs}
 use Rattle.base.specs.Sums.{sumFrom}
-use Rattle.costs.specs.Gather.{domOf}
+use Rattle.costs.specs.Instance.{domOf}
 use Rattle.costs.specs.Gather.Steps.{sum-more}
 use Rattle.costs.proofs.prefix.all_sizes.Statement.{statement}
 use Rattle.costs.proofs.prefix.all_sizes.Tie as tie

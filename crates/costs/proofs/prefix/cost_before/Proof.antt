@@ -1,20 +1,15 @@
 -- `cost_before` meets its contract. The loop's invariant: what is counted along stands at the pair with the unit at place j.
 -- Assumes nothing.
-use Prim.Native.Nat.{ℕ, _+_, _*_, _-_, _≤_}
+use Prim.Native.Nat.{ℕ, _-_, _≤_}
 use mathlib.Core.Path.{_≡_, sym, ap, _∙_}
-use native.Mathlib.Nat.{mul-le-mul}
 use native.Mathlib.Omega.{arith}
 use borrow.Author.Needs.{needs}
-use mathlib.Core.Bool.{true, cond}
-use lib.ListN.{getD}
-use Rattle.base.specs.Bytes.{u16At}
 use Rattle.base.specs.Sums.{sumFrom}
-use Rattle.costs.specs.Instance.{isValue, inPair, viewOf, instanceOf}
-use Rattle.costs.specs.Bounds.{costWith}
-use Rattle.costs.specs.Gather.{domOf}
-use Rattle.costs.specs.Laws.Stream.{value-range}
-use Rattle.costs.specs.StreamCost.{Running, running-first, later-after, between-after, place-most, running-next}
+use Rattle.base.specs.Shape.{isValue, value-range}
 use Rattle.table.specs.Stream.{unitsOf}
+use Rattle.costs.specs.Instance.{viewOf, instanceOf, domOf}
+use Rattle.costs.specs.Bounds.{costWith}
+use Rattle.costs.specs.StreamCost.{Running, Turn, running-first, later-after, between-after, place-most, row-after, running-next}
 use Rattle.costs.proofs.prefix.cost_before.Statement.{statement}
 use Rattle.costs.proofs.prefix.cost_before.Tie as tie
 
@@ -42,7 +37,7 @@ loop-holds c =
     let a = z .args in
     let n : c .before .before .wide .result ≡ unitsOf (a .stream .now) = c .before .before .wide .ensures .0 ∙ c .before .before .before .byte-at .ensures in (
       n,
-      c .before .before .wide .ensures .1,
+      omega (arith, c .before .before .wide .ensures .1),
       running-first (a .stream .now) (a .values) (a .place) (a .v) (c .before .all-sizes .result) (c .all-sizes2 .result) (omega arith) (omega arith)
           (c .before .all-sizes .ensures .0 ∙ ap (λ (m : ℕ). sumFrom (domOf (a .stream .now)) 0 m) n) (c .all-sizes2 .ensures .0) (omega arith) (omega arith),
     )
@@ -53,100 +48,60 @@ size-at-requires c κs = omega (arith, c .before .loop .inv .2 .inside)
 wide-requires-2 : tie.Need-wide-requires-2 Inv-loop μ-loop
 wide-requires-2 c κs = search needs
 
-sub-later : tie.Need-sub-later Inv-loop μ-loop
-sub-later c =
+-- what the laws of a turn go by
+turn : (c : tie.After-wide2 Inv-loop μ-loop)
+    → let l = c .before .before .before .loop in
+    let a = c .before .before .before .before .before .before .before .before .before .args in
+    Turn (a .stream .now) (a .values) (a .place) (a .v) (l .later) (l .between) (l .row) (l .sum) (l .j) (c .wide2 .result)
+turn c =
     let z = c .before .before .before .before .before .before .before .before .before in
-    let a = z .args in
-    let l = c .before .before .before .loop in
-    let own : isValue (domOf (a .stream .now) (a .place)) (a .v) ≡ true = ap (λ (x : ℕ). isValue x (a .v)) (sym (z .pre .1)) ∙ z .pre .3 in
-    let e = later-after (a .stream .now) (a .values) (a .place) (a .v) (l .later) (l .between) (l .row) (l .sum) (l .j) (c .wide2 .result) 0 own (l .inv .2) (c .before .before .loop-test .taken) (c .wide2 .ensures .0 ∙ c .before .size-at .ensures) (c .wide2 .ensures .1) in
-    omega arith
+    record {
+      own = ap (λ (x : ℕ). isValue x (z .args .v)) (sym (z .pre .1)) ∙ z .pre .3;
+      now = c .before .before .before .loop .inv .2;
+      more = c .before .before .loop-test .taken;
+      size = c .wide2 .ensures .0 ∙ c .before .size-at .ensures;
+      byte = omega (arith, c .wide2 .ensures .1);
+    }
+
+sub-later : tie.Need-sub-later Inv-loop μ-loop
+sub-later c = omega (arith, later-after (turn c))
 
 sub-between : tie.Need-sub-between Inv-loop μ-loop
-sub-between c =
-    let z = c .before .before .before .before .before .before .before .before .before in
-    let a = z .args in
-    let l = c .before .before .before .loop in
-    let own : isValue (domOf (a .stream .now) (a .place)) (a .v) ≡ true = ap (λ (x : ℕ). isValue x (a .v)) (sym (z .pre .1)) ∙ z .pre .3 in
-    let e = between-after (a .stream .now) (a .values) (a .place) (a .v) (l .later) (l .between) (l .row) (l .sum) (l .j) (c .wide2 .result) 0 own (l .inv .2) (c .before .before .loop-test .taken) (c .wide2 .ensures .0 ∙ c .before .size-at .ensures) (c .wide2 .ensures .1) in
-    omega arith
+sub-between c = omega (arith, between-after (turn c))
 
 value-at-requires : tie.Need-value-at-requires Inv-loop μ-loop
 value-at-requires c κs = search needs
 
 add-cost-in-pair : tie.Need-add-cost-in-pair Inv-loop μ-loop
-add-cost-in-pair c =
-    let z = c .before .before .before .before .before .before .before .before .before .before in
-    let a = z .args in
-    let l = c .before .before .before .before .loop in
-    let own : isValue (domOf (a .stream .now) (a .place)) (a .v) ≡ true = ap (λ (x : ℕ). isValue x (a .v)) (sym (z .pre .1)) ∙ z .pre .3 in
-    let e = place-most (a .stream .now) (a .values) (a .place) (a .v) (l .later) (l .between) (l .row) (l .sum) (l .j) (c .before .wide2 .result) 0 own (l .inv .2) (c .before .before .before .loop-test .taken) (c .before .wide2 .ensures .0 ∙ c .before .before .size-at .ensures) (c .before .wide2 .ensures .1) in
-    omega arith
+add-cost-in-pair c = search needs
 
 mul-cost-in-pair : tie.Need-mul-cost-in-pair Inv-loop μ-loop
-mul-cost-in-pair c =
-    let z = c .before .before .before .before .before .before .before .before .before .before in
-    let a = z .args in
-    let l = c .before .before .before .before .loop in
-    let own : isValue (domOf (a .stream .now) (a .place)) (a .v) ≡ true = ap (λ (x : ℕ). isValue x (a .v)) (sym (z .pre .1)) ∙ z .pre .3 in
-    let e = place-most (a .stream .now) (a .values) (a .place) (a .v) (l .later) (l .between) (l .row) (l .sum) (l .j) (c .before .wide2 .result) 0 own (l .inv .2) (c .before .before .before .loop-test .taken) (c .before .wide2 .ensures .0 ∙ c .before .before .size-at .ensures) (c .before .wide2 .ensures .1) in
-    omega arith
+mul-cost-in-pair c = omega (arith, place-most (turn (c .before)))
 
 add-cost-in-pair-2 : tie.Need-add-cost-in-pair-2 Inv-loop μ-loop
-add-cost-in-pair-2 c =
-    let z = c .before .before .before .before .before .before .before .before .before .before in
-    let a = z .args in
-    let l = c .before .before .before .before .loop in
-    let own : isValue (domOf (a .stream .now) (a .place)) (a .v) ≡ true = ap (λ (x : ℕ). isValue x (a .v)) (sym (z .pre .1)) ∙ z .pre .3 in
-    let e = place-most (a .stream .now) (a .values) (a .place) (a .v) (l .later) (l .between) (l .row) (l .sum) (l .j) (c .before .wide2 .result) 0 own (l .inv .2) (c .before .before .before .loop-test .taken) (c .before .wide2 .ensures .0 ∙ c .before .before .size-at .ensures) (c .before .wide2 .ensures .1) in
-    omega arith
+add-cost-in-pair-2 c = omega (arith, place-most (turn (c .before)))
 
 mul-cost-in-pair-2 : tie.Need-mul-cost-in-pair-2 Inv-loop μ-loop
-mul-cost-in-pair-2 c =
-    let z = c .before .before .before .before .before .before .before .before .before .before in
-    let a = z .args in
-    let l = c .before .before .before .before .loop in
-    let own : isValue (domOf (a .stream .now) (a .place)) (a .v) ≡ true = ap (λ (x : ℕ). isValue x (a .v)) (sym (z .pre .1)) ∙ z .pre .3 in
-    let e = place-most (a .stream .now) (a .values) (a .place) (a .v) (l .later) (l .between) (l .row) (l .sum) (l .j) (c .before .wide2 .result) 0 own (l .inv .2) (c .before .before .before .loop-test .taken) (c .before .wide2 .ensures .0 ∙ c .before .before .size-at .ensures) (c .before .wide2 .ensures .1) in
-    omega arith
+mul-cost-in-pair-2 c = omega (arith, place-most (turn (c .before)))
 
 add-cost-in-pair-3 : tie.Need-add-cost-in-pair-3 Inv-loop μ-loop
-add-cost-in-pair-3 c =
-    let z = c .before .before .before .before .before .before .before .before .before .before in
-    let a = z .args in
-    let l = c .before .before .before .before .loop in
-    let own : isValue (domOf (a .stream .now) (a .place)) (a .v) ≡ true = ap (λ (x : ℕ). isValue x (a .v)) (sym (z .pre .1)) ∙ z .pre .3 in
-    let e = place-most (a .stream .now) (a .values) (a .place) (a .v) (l .later) (l .between) (l .row) (l .sum) (l .j) (c .before .wide2 .result) 0 own (l .inv .2) (c .before .before .before .loop-test .taken) (c .before .wide2 .ensures .0 ∙ c .before .before .size-at .ensures) (c .before .wide2 .ensures .1) in
-    omega arith
+add-cost-in-pair-3 c = omega (arith, place-most (turn (c .before)))
 
 cost-in-pair-requires : tie.Need-cost-in-pair-requires Inv-loop μ-loop
 cost-in-pair-requires c κs =
-    let z = c .before .before .before .before .before .before .before .before .before .before in
-    let a = z .args in
-    let l = c .before .before .before .before .loop in
-    let own : isValue (domOf (a .stream .now) (a .place)) (a .v) ≡ true = ap (λ (x : ℕ). isValue x (a .v)) (sym (z .pre .1)) ∙ z .pre .3 in
-    let e = place-most (a .stream .now) (a .values) (a .place) (a .v) (l .later) (l .between) (l .row) (l .sum) (l .j) (c .before .wide2 .result) 0 own (l .inv .2) (c .before .before .before .loop-test .taken) (c .before .wide2 .ensures .0 ∙ c .before .before .size-at .ensures) (c .before .wide2 .ensures .1) in
-    let q = value-range (domOf (a .stream .now) (a .place)) (a .v) own in
+    let a = c .before .before .before .before .before .before .before .before .before .before .args in
+    let most = place-most (turn (c .before)) in
+    let q = value-range (domOf (a .stream .now) (a .place)) (a .v) (turn (c .before) .own) in
     (omega arith, omega arith, omega arith, omega arith, omega arith)
 
 add-sum : tie.Need-add-sum Inv-loop μ-loop
-add-sum c =
-    let l = c .before .before .before .before .before .loop in
-    omega (arith, l .inv .2 .sum-most, l .inv .2 .inside)
+add-sum c = let now = turn (c .before .before) .now in omega (arith, now .sum-most, now .inside)
 
 mul-row : tie.Need-mul-row Inv-loop μ-loop
-mul-row c =
-    let l = c .before .before .before .before .before .loop in
-    let w = c .before .before .wide2 in
-    let less : l .later - w .result ≤ 65025 = omega (arith, l .inv .2 .later-most) in
-    omega (arith, mul-le-mul (w .ensures .1) less, l .inv .2 .row-most, l .inv .2 .inside)
+mul-row c = omega (arith, row-after (turn (c .before .before)))
 
 add-row : tie.Need-add-row Inv-loop μ-loop
-add-row c =
-    let l = c .before .before .before .before .before .loop in
-    let w = c .before .before .wide2 in
-    let less : l .later - w .result ≤ 65025 = omega (arith, l .inv .2 .later-most) in
-    omega (arith, mul-le-mul (w .ensures .1) less, l .inv .2 .row-most, l .inv .2 .inside)
+add-row c = omega (arith, row-after (turn (c .before .before)))
 
 add-j : tie.Need-add-j Inv-loop μ-loop
 add-j c = search needs
@@ -157,15 +112,10 @@ loop-less c = search needs
 loop-again : tie.Need-loop-again Inv-loop μ-loop
 loop-again c =
     let z = c .before .before .before .before .before .before .before .before .before .before .before in
-    let a = z .args in
     let l = c .before .before .before .before .before .loop in
-    let own : isValue (domOf (a .stream .now) (a .place)) (a .v) ≡ true = ap (λ (x : ℕ). isValue x (a .v)) (sym (z .pre .1)) ∙ z .pre .3 in
     let n = l .inv .0 in
-    let w = c .before .before .wide2 in
-    let u = c .before .value-at in
     let p = c .cost-in-pair in
-    let is : p .result ≡ cond (isValue (w .result) (getD (a .values) (l .j) 0)) (u16At (a .stream .now) (1 + unitsOf (a .stream .now) + 2 * (l .row + w .result * (l .between - w .result)) + 2 * inPair (domOf (a .stream .now) (a .place)) (getD (a .values) (l .j) 0) (a .v))) 0 = p .ensures .0 ∙ rw (u .ensures .0, n, z .pre .1) in
-    (n, l .inv .1, running-next (a .stream .now) (a .values) (a .place) (a .v) (l .later) (l .between) (l .row) (l .sum) (l .j) (w .result) (p .result) own (l .inv .2) (c .before .before .before .before .loop-test .taken) (w .ensures .0 ∙ c .before .before .before .size-at .ensures) (w .ensures .1) (p .ensures .1) is)
+    (n, l .inv .1, running-next (turn (c .before .before)) (p .result) (p .ensures .1) (p .ensures .0 ∙ rw (c .before .value-at .ensures .0, n, z .pre .1)))
 
 returns : tie.Need-returns Inv-loop μ-loop
 returns c =

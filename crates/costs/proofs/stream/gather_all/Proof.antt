@@ -5,7 +5,9 @@ use Prim.Native.Nat.{_+_, _-_, _≤_, pred}
 use mathlib.Core.Path.{_≡_, refl, sym, ap, _∙_}
 use mathlib.Core.List.{_++_}
 use lib.ListN.{length, drop, length-append}
-use Rattle.costs.specs.Gather.{gatherTo, withOther, putAt}
+use Rattle.base.specs.Put.{putAt}
+use Rattle.table.specs.Stream.{unitsOf}
+use Rattle.costs.specs.Gather.{gatherTo, gathered, withOther}
 use Rattle.costs.specs.Gather.Laws.{gather-room}
 use Rattle.costs.specs.Gather.Steps.{put-behind, gather-next, gather-none}
 use borrow.Author.Needs.{needs}
@@ -28,10 +30,11 @@ loop-holds c =
     (c .wide .ensures .0, omega arith, rw e, refl, rw e)
 
 put-other-requires : tie.Need-put-other-requires Inv-loop μ-loop
+unfolding gathered
 put-other-requires c κs =
     let s = c .before .before .before .before .before .before in
     let l = c .before .before .loop in
-    let room = gather-room (s .args .stream .now) (s .pre .0 .long) (pred (s .args .seat .own)) (omega (arith, s .pre .0 .units)) (l .j) (s .args .seat .n) (omega arith) in
+    let room = gather-room (s .args .stream .now) (s .pre .0 .long) (pred (s .args .seat .own)) (omega (arith, s .pre .0 .units)) (l .j) (unitsOf (s .args .stream .now)) (omega (arith, s .pre .0 .units)) in
     (s .pre .0, s .pre .1, omega arith, omega arith)
 
 add-j : tie.Need-add-j Inv-loop μ-loop
@@ -58,10 +61,11 @@ same-length : tie.Need-same-length Inv-loop μ-loop
 same-length c = search needs
 
 returns : tie.Need-returns Inv-loop μ-loop
+unfolding gathered
 returns c =
-    let a = c .before .before .before .before .before .args in
+    let s = c .before .before .before .before .before in
     let l = c .before .loop in
-    let e : l .j ≡ a .seat .n = omega arith in
+    let e : l .j ≡ unitsOf (s .args .stream .now) = omega (arith, s .pre .0 .units) in
     rw (← e) (l .inv .2, l .inv .4)
 
 pub gather-all-spec : {M : Type 1} → statement M

@@ -1,13 +1,14 @@
 -- `sizes_of` meets its contract. The loop's invariant: the first i places are written, the others zero.
 -- Assumes nothing.
-use Prim.Native.Nat.{_+_, _-_, _≤_}
+use Prim.Native.Nat.{_-_, _≤_}
 use mathlib.Core.Path.{_≡_, refl, sym, _∙_}
 use mathlib.Core.List.{_++_}
 use native.Mathlib.Omega.{arith}
 use lib.ListN.{getD, take, drop, replicate}
 use Rattle.costs.specs.Gather.{sizesIn}
 use Rattle.costs.specs.Gather.Sizes.{length-sizes, sizes-at}
-use Rattle.costs.specs.Gather.Steps.{fill-next, fill-done}
+use Rattle.base.specs.Put.{copy-more}
+use Rattle.costs.specs.Gather.Steps.{fill-done}
 use borrow.Author.Needs.{needs}
 use Rattle.costs.proofs.stream.sizes_of.Statement.{statement}
 use Rattle.costs.proofs.stream.sizes_of.Tie as tie
@@ -38,7 +39,7 @@ loop-again c =
     let s = c .before .before .before .before .args .stream .now in
     let l = c .before .before .loop in
     let q : c .size-at .result ≡ getD (sizesIn s) (l .i) 0 = c .size-at .ensures ∙ sym (sizes-at s (l .i) (omega arith)) in
-    (omega arith, rw (l .inv .1, q) (fill-next (l .i) (sizesIn s) (replicate 16 0) (omega (arith, length-sizes s)) (omega arith)))
+    (omega arith, rw (l .inv .1, q) (copy-more (l .i) (sizesIn s) (replicate 16 0) (omega (arith, length-sizes s)) (omega arith)))
 
 returns : tie.Need-returns Inv-loop μ-loop
 returns c =

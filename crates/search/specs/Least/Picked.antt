@@ -1,6 +1,6 @@
--- What the search keeps is the first least of the assignments it goes through (`Kept`). Two parts make a whole where each assignment of
+-- What the search picks is the first least of the assignments it goes through (`Picked`). Two parts make a whole where each assignment of
 -- the first comes before each of the second, as those of a value do before those of the next; so by induction on the units left.
--- In order: the parts; the assignments; the search keeps their first least; places past the units; the whole search.
+-- In order: the parts; the assignments; the search picks their first least; places past the units; the whole search.
 -- Assumes nothing.
 use Prim.Native.Nat.{ℕ, zero, suc, _+_, _≤_, _<_}
 use mathlib.Core.Path.{_≡_, refl, sym, ap, _∙_}
@@ -12,6 +12,7 @@ use lib.Dec.{eqb, ltb}
 use lib.ListN.{length, getD, set, replicate, length-set, getD-replicate, List·getD-eq-default}
 use lib.Seq.{getD-set-same, getD-set-other}
 use borrow.Author.Tests.{ltb-true, ltb-false, eqb-true, eqb-false}
+use Rattle.base.specs.Limits.{NONE}
 use Rattle.costs.specs.Instance.{Instance}
 use Rattle.costs.specs.Bounds.{Assignment, total}
 use Rattle.costs.specs.Laws.{Sound}
@@ -21,32 +22,32 @@ use Rattle.search.specs.Search.{nothing, keep, over, bestFrom, bestOf}
 use Rattle.search.specs.Least.{Before, LeastFirst, Padded}
 use Rattle.search.specs.Least.Order.{Agree, agree-next, before-not-after, alike-total}
 
--- ---- what a part of the search keeps
+-- ---- what a part of the search picks
 
 -- r is of S, lower than b, and the first of its total in S
 abbrev Newer : Instance → (List ℕ → Type 0) → Best → Best → Type 0
 Newer I S b r = S (r .values) × (r .total ≡ total I (r .values)) × (r .total < b .total) × ((m : List ℕ) → S m → Before (I .n) m (r .values) → r .total < total I m)
 
 -- r is the first least of b and the assignments in S, b coming first
-pub record Kept (I : Instance) (S : List ℕ → Type 0) (b r : Best) : Type 0 where
+pub record Picked (I : Instance) (S : List ℕ → Type 0) (b r : Best) : Type 0 where
   pub below : r .total ≤ b .total
   pub least : (m : List ℕ) → S m → r .total ≤ total I m
   pub from : (r ≡ b) ⊎ Newer I S b r
 
 -- the same assignments told otherwise
-kept-same : (I : Instance) (S T : List ℕ → Type 0) (b r : Best) → ((m : List ℕ) → S m → T m) → ((m : List ℕ) → T m → S m) → Kept I S b r → Kept I T b r
-kept-same I S T b r to back k = record { below = k .below; least = λ m x. k .least m (back m x); from = go (k .from) }
+picked-same : (I : Instance) (S T : List ℕ → Type 0) (b r : Best) → ((m : List ℕ) → S m → T m) → ((m : List ℕ) → T m → S m) → Picked I S b r → Picked I T b r
+picked-same I S T b r to back k = record { below = k .below; least = λ m x. k .least m (back m x); from = go (k .from) }
   where
     go : (r ≡ b) ⊎ Newer I S b r → (r ≡ b) ⊎ Newer I T b r
     go (inl e) = inl e
     go (inr f) = inr (to (r .values) (f .0), f .1, f .2, λ m x p. f .3 m (back m x) p)
 
 -- no assignment
-kept-none : (I : Instance) (S : List ℕ → Type 0) (b : Best) → ((m : List ℕ) → S m → ⊥) → Kept I S b b
-kept-none I S b empty = record { below = omega arith; least = λ m x. absurd (empty m x); from = inl refl }
+picked-none : (I : Instance) (S : List ℕ → Type 0) (b : Best) → ((m : List ℕ) → S m → ⊥) → Picked I S b b
+picked-none I S b empty = record { below = omega arith; least = λ m x. absurd (empty m x); from = inl refl }
 
 -- S, then T, whose assignments come after those of S
-module _ (I : Instance) (S T : List ℕ → Type 0) (b a r : Best) (after : (l m : List ℕ) → S l → T m → Before (I .n) l m) (f : Kept I S b a) (g : Kept I T a r) where
+module _ (I : Instance) (S T : List ℕ → Type 0) (b a r : Best) (after : (l m : List ℕ) → S l → T m → Before (I .n) l m) (f : Picked I S b a) (g : Picked I T a r) where
   abbrev Either : List ℕ → Type 0
   Either m = S m ⊎ T m
 
@@ -69,8 +70,8 @@ module _ (I : Instance) (S T : List ℕ → Type 0) (b a r : Best) (after : (l m
   either (inl e) (inl d) = inl (e ∙ d)
   either (inl e) (inr h) = let q : Newer I S b r = rw e h in inr (inl (q .0), q .1, q .2, first-of-first q)
 
-  kept-then : Kept I Either b r
-  kept-then = record { below = omega (arith, f .below, g .below); least = bounds; from = either (g .from) (f .from) }
+  picked-then : Picked I Either b r
+  picked-then = record { below = omega (arith, f .below, g .below); least = bounds; from = either (g .from) (f .from) }
 
 -- ---- the assignments that the search goes through
 
@@ -119,25 +120,25 @@ module _ (I : Instance) (k : ℕ) (p : List ℕ) (inside : k < I .n) (room : k <
         let e = with-value v l x in
         record { place = k; inside = inside; same = λ i h. begins v l x i h ∙ sym (y .0 .0 i h); lower = omega (arith, y .1) }
 
-  over-keeps : (f : ℕ → Best → Best) → ((v : ℕ) (a : Best) → 1 ≤ v → v ≤ I .dom k → Kept I (Extends I (suc k) (set p k v)) a (f v a))
-      → (d v : ℕ) (b : Best) → 1 ≤ v → v + d ≤ suc (I .dom k) → Kept I (Among I k p v d) b (over f v d b)
+  over-keeps : (f : ℕ → Best → Best) → ((v : ℕ) (a : Best) → 1 ≤ v → v ≤ I .dom k → Picked I (Extends I (suc k) (set p k v)) a (f v a))
+      → (d v : ℕ) (b : Best) → 1 ≤ v → v + d ≤ suc (I .dom k) → Picked I (Among I k p v d) b (over f v d b)
   unfolding over
-  over-keeps f each zero v b v1 vd = kept-none I (Among I k p v 0) b (λ m y. omega (arith, y .1, y .2))
+  over-keeps f each zero v b v1 vd = picked-none I (Among I k p v 0) b (λ m y. omega (arith, y .1, y .2))
   over-keeps f each (suc d) v b v1 vd =
       let dom : v ≤ I .dom k = omega arith in
-      kept-same I (λ m. Extends I (suc k) (set p k v) m ⊎ Among I k p (suc v) d m) (Among I k p v (suc d)) b (over f (suc v) d (f v b)) (joins v d v1 dom) (splits v d v1 dom)
-      (kept-then I (Extends I (suc k) (set p k v)) (Among I k p (suc v) d) b (f v b) (over f (suc v) d (f v b)) (ascending v d v1 dom) (each v b v1 dom) (over-keeps f each d (suc v) (f v b) (omega arith) (omega arith)))
+      picked-same I (λ m. Extends I (suc k) (set p k v) m ⊎ Among I k p (suc v) d m) (Among I k p v (suc d)) b (over f (suc v) d (f v b)) (joins v d v1 dom) (splits v d v1 dom)
+      (picked-then I (Extends I (suc k) (set p k v)) (Among I k p (suc v) d) b (f v b) (over f (suc v) d (f v b)) (ascending v d v1 dom) (each v b v1 dom) (over-keeps f each d (suc v) (f v b) (omega arith) (omega arith)))
 
 -- ---- the search keeps the first least of them
 
 module _ (I : Instance) where
-  keep-full : (k : ℕ) (p : List ℕ) (b : Best) → k ≡ I .n → Kept I (Extends I k p) b (keep b (total I p) p)
+  keep-full : (k : ℕ) (p : List ℕ) (b : Best) → k ≡ I .n → Picked I (Extends I k p) b (keep b (total I p) p)
   keep-full k p b e = go (ltb (total I p) (b .total)) refl
     where
       alike-p : (m : List ℕ) → Extends I k p m → total I m ≡ total I p
       alike-p m x = alike-total I m p (λ i h. x .0 i (omega arith))
 
-      go : (t : Bool) → ltb (total I p) (b .total) ≡ t → Kept I (Extends I k p) b (keep b (total I p) p)
+      go : (t : Bool) → ltb (total I p) (b .total) ≡ t → Picked I (Extends I k p) b (keep b (total I p) p)
       go true q =
           let h = ltb-true (total I p) (b .total) q in
           rw q
@@ -150,14 +151,14 @@ module _ (I : Instance) where
           let h = ltb-false (total I p) (b .total) q in
           rw q record { below = omega arith; least = λ m x. omega (arith, alike-p m x); from = inl refl }
 
-  pub best-keeps : (left k : ℕ) (p : List ℕ) (b : Best) → k + left ≡ I .n → I .n ≤ length p → Kept I (Extends I k p) b (bestFrom I left k p b)
+  pub best-picks : (left k : ℕ) (p : List ℕ) (b : Best) → k + left ≡ I .n → I .n ≤ length p → Picked I (Extends I k p) b (bestFrom I left k p b)
   unfolding bestFrom
-  best-keeps zero k p b e room = keep-full k p b (omega arith)
-  best-keeps (suc left) k p b e room =
-      kept-same I (Among I k p 1 (I .dom k)) (Extends I k p) b (over (λ (v : ℕ) (a : Best). bestFrom I left (suc k) (set p k v) a) 1 (I .dom k) b)
+  best-picks zero k p b e room = keep-full k p b (omega arith)
+  best-picks (suc left) k p b e room =
+      picked-same I (Among I k p 1 (I .dom k)) (Extends I k p) b (over (λ (v : ℕ) (a : Best). bestFrom I left (suc k) (set p k v) a) 1 (I .dom k) b)
       (λ m y. y .0) (λ m x. let h = x .1 k (omega arith) (omega arith) in (x, h .0, omega arith))
       (over-keeps I k p (omega arith) (omega arith) (λ (v : ℕ) (a : Best). bestFrom I left (suc k) (set p k v) a)
-      (λ v a v1 vd. best-keeps left (suc k) (set p k v) a (omega arith) (rw (length-set p k v) room)) (I .dom k) 1 b (omega arith) (omega arith))
+      (λ v a v1 vd. best-picks left (suc k) (set p k v) a (omega arith) (rw (length-set p k v) room)) (I .dom k) 1 b (omega arith) (omega arith))
 
 -- ---- places past the units
 
@@ -197,24 +198,24 @@ module _ (I : Instance) (sound : Sound I) where
   ones-full : Assignment I (replicate 16 1)
   ones-full i h = let e : getD {A = ℕ} (replicate 16 1) i 0 ≡ 1 = getD-replicate 16 i 1 0 (omega (arith, sound .n16)) in rw e (omega arith, sound .dom1 i h)
 
-  best-kept : Kept I (Extends I 0 (replicate 16 0)) nothing (bestOf I)
-  best-kept = best-keeps I (I .n) 0 (replicate 16 0) nothing (omega arith) (sound .n16)
+  best-picked : Picked I (Extends I 0 (replicate 16 0)) nothing (bestOf I)
+  best-picked = best-picks I (I .n) 0 (replicate 16 0) nothing (omega arith) (sound .n16)
 
   any-extends : (m : List ℕ) → Assignment I m → Extends I 0 (replicate 16 0) m
   any-extends m a = (λ i h. absurd (omega arith), λ i h l. a i l)
 
   pub best-least-first : LeastFirst I (bestOf I .total) (bestOf I .values)
-  best-least-first = go (best-kept .from)
+  best-least-first = go (best-picked .from)
     where
       go : (bestOf I ≡ nothing) ⊎ Newer I (Extends I 0 (replicate 16 0)) nothing (bestOf I) → LeastFirst I (bestOf I .total) (bestOf I .values)
       go (inl e) =
-          let t : bestOf I .total ≡ 4294967295 = ap (λ (b : Best). b .total) e in
-          absurd (omega (arith, best-kept .least (replicate 16 1) (any-extends (replicate 16 1) ones-full), total-limit I sound (replicate 16 1)))
+          let t : bestOf I .total ≡ NONE = ap (λ (b : Best). b .total) e in
+          absurd (omega (arith, best-picked .least (replicate 16 1) (any-extends (replicate 16 1) ones-full), total-limit I sound (replicate 16 1)))
       go (inr h) =
           record {
             full = λ i l. h .0 .1 i (omega arith) l;
             totals = h .1;
-            least = λ m a. best-kept .least m (any-extends m a);
+            least = λ m a. best-picked .least m (any-extends m a);
             first = λ m a o. h .3 m (any-extends m a) o;
           }
 

@@ -7,8 +7,8 @@ use Rattle.base.specs.Sums.{sumFrom}
 use Rattle.costs.specs.Instance.{domFrom}
 use Rattle.costs.specs.Gather.Steps.{sum-more}
 use borrow.Author.Needs.{needs}
-use Rattle.costs.proofs.stream.sum_sizes.Statement.{statement}
-use Rattle.costs.proofs.stream.sum_sizes.Tie as tie
+use Rattle.costs.proofs.sum_sizes.Statement.{statement}
+use Rattle.costs.proofs.sum_sizes.Tie as tie
 
 abbrev Inv-loop : tie.InvT-loop
 Inv-loop seat lo m sum₀ i₀ sum i = (i ≤ m) × (sum ≡ sumFrom (domFrom seat) lo i) × (sum ≤ 255 * i)
