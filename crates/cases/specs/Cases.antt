@@ -1,11 +1,13 @@
 -- Document 01, "What a reviewer will try", 4: "Cases marked * are proved together as one table".
--- A row has a case's number, what the definitions give, and what 01 says; `cases-hold` is the table's one theorem.
+-- A row has a case's number, what the definitions give, and what 01 says; `cases-hold` is the table's one theorem. Programs run the other cases
+-- against expected output: 9 is `T, newest first` of `sheds`; 10 is `bench`, whose input has 10 units of 4 values, 1,048,576 assignments, and in
+-- `bench_samples` most.table, as many in another shape, and more.table, 1,049,760, the next number that sizes give: 16.
 -- Assumes nothing.
-use Prim.Native.Nat.{ℕ}
+use Prim.Native.Nat.{ℕ, _-_}
 use mathlib.Core.Path.{_≡_, refl}
 use mathlib.Core.Bool.{cond}
 use mathlib.Core.List.{List, [], _∷_, _++_, map}
-use lib.ListN.{length, getD, take}
+use lib.ListN.{length, getD, take, drop, replicate}
 use Rattle.base.specs.Shape.{allInSixteen, shapeGood}
 use Rattle.checksum.specs.Sum.{sumOf}
 use Rattle.table.specs.Stream.{sumList, pairsIn, costsGood, streamRefusal}
@@ -13,20 +15,32 @@ use Rattle.table.specs.Block.{allZero, blockRefusal, checkOf, blockOf}
 use Rattle.table.specs.File.{blocksRefusal, joined, streamOf, readRefusal, fileFrom, fileOf}
 use Rattle.costs.specs.Instance.{Instance, viewOf, instanceOf}
 use Rattle.costs.specs.Bounds.{costWith, h, estimate, total}
-use Rattle.search.specs.Search.{over, bestFrom, productTo, searchRefusal, searchOf}
+use Rattle.search.specs.Search.{over, bestFrom, searchRefusal, searchOf}
+use Rattle.message.specs.Message.{Packet}
+use Rattle.message.specs.declared.Kind.the-variants.{Request, Estimate}
+use Rattle.unit.specs.declared.Unit.{Unit as State}
 use Rattle.unit.specs.State.{compareOn, sameOn}
 use Rattle.unit.specs.Step.{backtrack, tryAfter, assign, resume, onCpa, onRequest, onEstimate, onSolution, onStop, respond}
 use Rattle.unit.specs.Send.{each, packets}
 use Rattle.network.specs.Run.{History, unitAt, begin, handOver, runFrom, run}
 use Rattle.cases.specs.Sheds.{streamWith, streamT, pairAt, single}
 
+-- what a row compares
+pub data Seen : Type 0 where
+  numbers : List ℕ → Seen
+  messages : List Packet → Seen
+  states : List State → Seen
+
 pub record Row : Type 0 where
   pub number : ℕ
-  pub found : List ℕ
-  pub said : List ℕ
+  pub found : Seen
+  pub said : Seen
 
-abbrev row : ℕ → List ℕ → List ℕ → Row
+abbrev row : ℕ → Seen → Seen → Row
 row k f s = record { number = k; found = f; said = s }
+
+abbrev count : ℕ → List ℕ → List ℕ → Row
+count k f s = row k (numbers f) (numbers s)
 
 -- the number that reading the table of stream s gives
 abbrev reading : List ℕ → ℕ
@@ -51,28 +65,45 @@ countsOf H = length (H .written) ∷ length (H .handed) ∷ length (H .waiting) 
 abbrev cpaOf : History → List ℕ
 cpaOf H = let u = unitAt (H .units) 0 in getD (u .values) 0 0 ∷ getD (u .stamp) 0 0 ∷ u .cost ∷ []
 
+-- the last message that was handed over, and what was sent for it
+abbrev lastStep : History → List Packet
+lastStep H = drop (length (H .handed) - 1) (H .handed) ++ drop (length (H .sent) - 1) (H .sent)
+
+-- the copy of unit 1's value v in T, stamp v, and unit 2's estimate e for it
+abbrev copyOf : ℕ → Packet
+copyOf v = record { kind = Request; message = record { sender = 1; receiver = 2; stamp = v ∷ replicate 15 0; values = v ∷ replicate 15 0; cost = 0; bound = 0; best = replicate 16 0 } }
+
+abbrev estimateFor : ℕ → ℕ → Packet
+estimateFor v e = record { kind = Estimate; message = record { sender = 2; receiver = 1; stamp = v ∷ replicate 15 0; values = replicate 16 0; cost = e; bound = 0; best = replicate 16 0 } }
+
+-- T after "paper, news, copy, estimate delivered"
+abbrev four : List ℕ
+four = 0 ∷ 2 ∷ 0 ∷ 1 ∷ []
+
 unfoldable pub table : List Row
 table =
     -- "T's stream is 11 bytes, its check 219"
-    row 1 (length streamT ∷ checkOf (blockOf 0 streamT) ∷ reading streamT ∷ []) (11 ∷ 219 ∷ 0 ∷ []) ∷
+    count 1 (length streamT ∷ checkOf (blockOf 0 streamT) ∷ reading streamT ∷ []) (11 ∷ 219 ∷ 0 ∷ []) ∷
     -- "h of unit 1: 3 and 2"
-    row 2 (h (viewOf instanceT 0) 1 ∷ h (viewOf instanceT 0) 2 ∷ []) (3 ∷ 2 ∷ []) ∷
+    count 2 (h (viewOf instanceT 0) 1 ∷ h (viewOf instanceT 0) 2 ∷ []) (3 ∷ 2 ∷ []) ∷
     -- "Least total 2, by values 2, 1"
-    row 3 (searchOf streamT .refusal ∷ searchOf streamT .total ∷ take 2 (searchOf streamT .values)) (0 ∷ 2 ∷ 2 ∷ 1 ∷ []) ∷
+    count 3 (searchOf streamT .refusal ∷ searchOf streamT .total ∷ take 2 (searchOf streamT .values)) (0 ∷ 2 ∷ 2 ∷ 1 ∷ []) ∷
     -- "n = 1, size 3: total 0, value 1, one record, no delivery"
-    row 4 (reportOf (run instanceOne []) ++ countsOf (run instanceOne [])) (1 ∷ 0 ∷ 1 ∷ 0 ∷ 1 ∷ 0 ∷ 0 ∷ []) ∷
-    -- "Copy of unit 1's value 1: estimate 3; of value 2: 2"
-    row 5 (estimate (viewOf instanceT 1) (1 ∷ []) 1 ∷ estimate (viewOf instanceT 1) (2 ∷ []) 1 ∷ []) (3 ∷ 2 ∷ []) ∷
-    -- "T: paper, news, copy, estimate delivered: unit 1 gives up value 1 and writes value 2 with stamp 2": cells 0, 2, 0, 1
-    row 6 (cpaOf (run instanceT (0 ∷ 2 ∷ 0 ∷ 1 ∷ [])) ++ countsOf (run instanceT (0 ∷ 2 ∷ 0 ∷ 1 ∷ []))) (2 ∷ 2 ∷ 0 ∷ 4 ∷ 4 ∷ 3 ∷ []) ∷
-    -- "the paper going back is then stale": it is handed over, and nothing else changes
-    row 6 (cpaOf (run instanceT (0 ∷ 2 ∷ 0 ∷ 1 ∷ 0 ∷ [])) ++ countsOf (run instanceT (0 ∷ 2 ∷ 0 ∷ 1 ∷ 0 ∷ []))) (2 ∷ 2 ∷ 0 ∷ 4 ∷ 5 ∷ 2 ∷ []) ∷
+    count 4 (reportOf (run instanceOne []) ++ countsOf (run instanceOne [])) (1 ∷ 0 ∷ 1 ∷ 0 ∷ 1 ∷ 0 ∷ 0 ∷ []) ∷
+    -- "Copy of unit 1's value 1: estimate 3; of value 2: 2": the copy is delivered, and the estimate is what unit 2 sends
+    row 5 (messages (lastStep (run instanceT (1 ∷ [])))) (messages (copyOf 1 ∷ estimateFor 1 3 ∷ [])) ∷
+    row 5 (messages (lastStep (run instanceT (four ++ (2 ∷ []))))) (messages (copyOf 2 ∷ estimateFor 2 2 ∷ [])) ∷
+    -- "T: paper, news, copy, estimate delivered: unit 1 gives up value 1 and writes value 2 with stamp 2"
+    count 6 (cpaOf (run instanceT four) ++ countsOf (run instanceT four)) (2 ∷ 2 ∷ 0 ∷ 4 ∷ 4 ∷ 3 ∷ []) ∷
+    -- "the paper going back is then stale": it is handed over and nothing is sent; all units stay as they were
+    count 6 (countsOf (run instanceT (four ++ (0 ∷ [])))) (4 ∷ 5 ∷ 2 ∷ []) ∷
+    row 6 (states (run instanceT (four ++ (0 ∷ [])) .units)) (states (run instanceT four .units)) ∷
     -- "Cost 60,000 read, 60,001 refused by 7"
-    row 7 (reading (pairAt 60000) ∷ reading (pairAt 60001) ∷ []) (0 ∷ 7 ∷ []) ∷
+    count 7 (reading (pairAt 60000) ∷ reading (pairAt 60001) ∷ []) (0 ∷ 7 ∷ []) ∷
     -- "n = 16 read, 17 and 0 refused by 5"
-    row 8 (reading (single 16 120) ∷ reading (single 17 136) ∷ reading (single 0 0) ∷ []) (0 ∷ 5 ∷ 5 ∷ []) ∷
+    count 8 (reading (single 16 120) ∷ reading (single 17 136) ∷ reading (single 0 0) ∷ []) (0 ∷ 5 ∷ 5 ∷ []) ∷
     []
 
 pub cases-hold : map (λ (r : Row). r .found) table ≡ map (λ (r : Row). r .said) table
-unfolding table allInSixteen shapeGood sumOf sumList pairsIn costsGood streamRefusal allZero blockRefusal blockOf blocksRefusal joined streamOf readRefusal fileFrom fileOf instanceOf costWith h estimate total over bestFrom productTo searchRefusal searchOf compareOn sameOn backtrack tryAfter assign resume onCpa onRequest onEstimate onSolution onStop respond each packets begin handOver runFrom run
+unfolding table allInSixteen shapeGood sumOf sumList pairsIn costsGood streamRefusal allZero blockRefusal blockOf blocksRefusal joined streamOf readRefusal fileFrom fileOf instanceOf costWith h estimate total over bestFrom searchRefusal searchOf compareOn sameOn backtrack tryAfter assign resume onCpa onRequest onEstimate onSolution onStop respond each packets begin handOver runFrom run
 cases-hold = refl
