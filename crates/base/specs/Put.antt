@@ -4,8 +4,8 @@ use Prim.Native.Nat.{ℕ, suc, _+_, _≤_, _<_}
 use native.Mathlib.Numerals.{add-one}
 use native.Mathlib.Omega.{arith}
 use mathlib.Core.List.{List, [], _∷_, _++_, append-assoc}
-use mathlib.Core.Path.{_≡_, sym}
-use lib.ListN.{length, getD, set, take, drop}
+use mathlib.Core.Path.{_≡_, sym, _∙_}
+use lib.ListN.{length, getD, set, take, drop, length-append}
 use lib.Seq.{take-at, take-suc, take-length, drop-cons, drop-drop, drop-append-add, length-take-le, paste, paste-suc, set-at, sets-eq}
 
 -- l with m written at place `at`
@@ -18,6 +18,10 @@ putAt l at m = take at l ++ m ++ drop (at + length m) l
 -- written behind p
 pub put-next : (p q m : List ℕ) (at : ℕ) → length p ≡ at → putAt (p ++ q) at m ≡ p ++ m ++ drop (length m) q
 put-next p q m at e = rw (take-at p q at e, ← e, drop-append-add p q (length m))
+
+-- written behind g, which stands in front of what was there
+pub put-behind : (g w l : List ℕ) (at : ℕ) → at ≡ length g → putAt (g ++ drop (length g) l) at w ≡ (g ++ w) ++ drop (length (g ++ w)) l
+put-behind g w l at e = put-next g (drop (length g) l) w at (sym e) ∙ rw (drop-drop (length w) (length g) l, length-append g w)
 
 -- two bytes
 pub put-two : (l : List ℕ) (at a b : ℕ) → at + 2 ≤ length l → set (set l at a) (at + 1) b ≡ putAt l at (a ∷ b ∷ [])

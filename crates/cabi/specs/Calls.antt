@@ -6,8 +6,6 @@ use mathlib.Core.Bool.{cond, not}
 use mathlib.Core.List.{List}
 use lib.ListN.{length}
 use Rattle.base.specs.Shape.{shapeGood}
-use Rattle.table.specs.declared.ReadTable.{ReadTable}
-use Rattle.table.specs.declared.Written.{Written}
 use Rattle.message.specs.declared.Kind.{Kind}
 use Rattle.message.specs.declared.Message.{Message}
 use Rattle.message.specs.declared.Parsed.{Parsed as Reading}
@@ -25,19 +23,12 @@ use Rattle.network.specs.declared.Answer.{Answer}
 use Rattle.network.specs.Calls.{deliverOf}
 use Rattle.search.specs.declared.Found.{Found as Searched}
 use Rattle.cabi.specs.declared.Found.{Found}
-use Rattle.cabi.specs.declared.Length.{Length}
 use Rattle.cabi.specs.declared.LentAnswer.{LentAnswer}
 use Rattle.cabi.specs.declared.LentNetwork.{LentNetwork}
 use Rattle.cabi.specs.declared.LentOutcome.{LentOutcome}
 use Rattle.cabi.specs.declared.LentUnit.{LentUnit}
 use Rattle.cabi.specs.declared.Parsed.{Parsed}
 use Rattle.cabi.specs.Lent.{unitFrom, outcomeBack, networkFrom, answerBack}
-
-abbrev pub ofRead : ReadTable → Length
-ofRead r = record { refusal = r .refusal; length = r .length }
-
-abbrev pub ofWritten : Written → Length
-ofWritten r = record { refusal = r .refusal; length = r .length }
 
 abbrev pub ofFound : Searched → Found
 ofFound r = record { refusal = r .refusal; total = r .total; values = r .values }

@@ -3,6 +3,7 @@
 
 mod lent; // a state and a network as C lends them
 
+use base::Length;
 use message::Message;
 use message::Read;
 use network::Answer;
@@ -16,7 +17,7 @@ ghost use lib.Dec.{eqb};
 ghost use lib.ListN.{length};
 ghost use Rattle.checksum.specs.Sum.{sumOf};
 ghost use Rattle.table.specs.Block.{blockRefusal};
-ghost use Rattle.table.specs.File.{readOf, readInto, writeOf, writeInto};
+ghost use Rattle.table.specs.File.{readOf, readInto, storeOf, storeInto};
 ghost use Rattle.costs.specs.Gather.{sizesIn, gatherOf, gatherInto};
 ghost use Rattle.message.specs.Decode.{parseOf};
 ghost use Rattle.unit.specs.State.{noUnit};
@@ -24,19 +25,12 @@ ghost use Rattle.unit.specs.Calls.{outcomeOf, bytesOf, makeOut};
 ghost use Rattle.network.specs.Calls.{makeOf};
 ghost use Rattle.network.specs.Settle.{settleOf};
 ghost use Rattle.search.specs.Search.{searchOf};
-ghost use Rattle.cabi.specs.Calls.{ofRead, ofWritten, codeOf, parsedOf, writeByCode, writtenByCode, unknownKind, ofFound, stepOf, steppedBytes, reportBy, deliveredTo, poolAfter};
+ghost use Rattle.cabi.specs.Calls.{codeOf, parsedOf, writeByCode, writtenByCode, unknownKind, ofFound, stepOf, steppedBytes, reportBy, deliveredTo, poolAfter};
 
 // A domain size for each of 16 units, zero past n.
 #[repr(C)]
 pub struct Sizes {
     pub places: [u8; 16],
-}
-
-// A refusal, or 0 and how many bytes were written.
-#[repr(C)]
-pub struct Length {
-    pub refusal: u8,
-    pub length: usize,
 }
 
 // A refusal with all else zero, or 0 with the kind's number and the fields.
@@ -118,24 +112,16 @@ pub extern "C" fn riksamoe_block_refusal(block: &[u8], number: u16, last: u8) ->
 
 #[no_mangle]
 pub extern "C" fn riksamoe_table_read(file: &[u8], stream: &mut [u8]) -> Length
-    ensures { λ r. ⌜ (r ≡ ofRead (readOf (now (file .entry)) (length (now (stream .entry))))) × (now (stream .exit) ≡ readInto (now (file .entry)) (now (stream .entry))) ⌝ }
+    ensures { λ r. ⌜ (r ≡ readOf (now (file .entry)) (length (now (stream .entry)))) × (now (stream .exit) ≡ readInto (now (file .entry)) (now (stream .entry))) ⌝ }
 {
-    let r = table::read(file, stream);
-    Length {
-        refusal: r.refusal,
-        length: r.length,
-    }
+    table::read(file, stream)
 }
 
 #[no_mangle]
 pub extern "C" fn riksamoe_table_write(stream: &[u8], file: &mut [u8]) -> Length
-    ensures { λ r. ⌜ (r ≡ ofWritten (writeOf (now (stream .entry)) (length (now (file .entry))))) × (now (file .exit) ≡ writeInto (now (stream .entry)) (now (file .entry))) ⌝ }
+    ensures { λ r. ⌜ (r ≡ storeOf (now (stream .entry)) (length (now (file .entry)))) × (now (file .exit) ≡ storeInto (now (stream .entry)) (now (file .entry))) ⌝ }
 {
-    let r = table::write(stream, file);
-    Length {
-        refusal: r.refusal,
-        length: r.length,
-    }
+    table::write(stream, file)
 }
 
 // ---- what a unit is lent, out of a stream

@@ -30,10 +30,6 @@ pub weigh-append : (k : ℕ) (a b : List ℕ) → weigh k (a ++ b) ≡ weigh k a
 weigh-append k [] b = rw (add-zero, zero-add)
 weigh-append k (x ∷ l) b = let e : k + 1 + length l ≡ k + suc (length l) = omega arith in rw (weigh-append (k + 1) l b, e, add-assoc)
 
-pub sum-append : (a b : List ℕ) → sumOf (a ++ b) ≡ (sumOf a + weigh (length a) b) % 65521
-unfolding sumOf
-sum-append a b = rw (weigh-append 0 a b, zero-add) (omega arith)
-
 -- a weight counts by its remainder
 weight-mod : (i x : ℕ) → (i + 1) * x ≡ 65521 * (i / 65521 * x) + (i % 65521 + 1) * x
 weight-mod i x =
@@ -45,7 +41,7 @@ unfolding sumOf
 sum-none s = refl
 
 -- one byte more
-pub sum-more : (s : List ℕ) (i t : ℕ) → i < length s → t ≡ sumOf (take i s)
+pub sum-more : (s : List ℕ) (i t : ℕ) → i < length s → t % 65521 ≡ sumOf (take i s)
     → (t + (i % 65521 + 1) * getD s i 0) % 65521 ≡ sumOf (take (i + 1) s)
 unfolding sumOf
 sum-more s i t h e =

@@ -1,6 +1,6 @@
 -- The number that a program prints of a file: that of reading it, then that of what is done with its stream. What else is printed no contract can say.
 -- Assumes nothing.
-use Prim.Native.Nat.{ℕ, zero, suc, _≤_}
+use Prim.Native.Nat.{ℕ, _≤_}
 use mathlib.Core.Path.{_≡_, refl, sym, ap, _∙_}
 use mathlib.Core.Bool.{Bool, true, false}
 use mathlib.Core.List.{List}
@@ -8,8 +8,10 @@ use native.Mathlib.Omega.{arith}
 use lib.ListN.{length, take, drop, replicate}
 use lib.Seq.{take-at}
 use borrow.Author.Tests.{eq-eqb}
-use Rattle.table.specs.declared.ReadTable.{ReadTable}
-use Rattle.table.specs.File.{orElse, streamOf, readRefusal, readOf, readInto}
+use Rattle.base.specs.declared.Length.{Length}
+use Rattle.base.specs.Limits.{poolSize, streamSize}
+use Rattle.base.specs.Refusal.{orElse, or-first}
+use Rattle.table.specs.File.{streamOf, readRefusal, readOf, readInto}
 use Rattle.table.specs.FileLaws.{read-most}
 use Rattle.search.specs.declared.Found.{Found}
 use Rattle.search.specs.Search.{searchRefusal, searchOf}
@@ -19,11 +21,11 @@ use Rattle.network.specs.Settle.{settleOf}
 
 -- done is the number that a stream gives
 unfoldable pub fileRefusal : (List ℕ → ℕ) → List ℕ → ℕ
-fileRefusal done f = orElse (readRefusal f 61457) (done (streamOf f))
+fileRefusal done f = orElse (readRefusal f streamSize) (done (streamOf f))
 
 -- the number of a run to its end, in a pool of zeros
 unfoldable pub settleRefusal : List ℕ → ℕ
-settleRefusal s = settleOf s (replicate 65536 0) .answer .refusal
+settleRefusal s = settleOf s (replicate poolSize 0) .answer .refusal
 
 -- that of the run, or that of the search
 abbrev pub refusalBy : Bool → List ℕ → ℕ
@@ -33,31 +35,27 @@ refusalBy false s = searchRefusal s
 -- ------------------------------------------------------------------------------------------------------------------
 -- Laws.
 
-module _ (f out : List ℕ) (r : ReadTable) (e : r ≡ readOf f (length out)) (room : length out ≡ 61457) where
-  refusal-of : r .refusal ≡ readRefusal f 61457
+module _ (f out : List ℕ) (r : Length) (e : r ≡ readOf f (length out)) (room : length out ≡ streamSize) where
+  refusal-of : r .refusal ≡ readRefusal f streamSize
   unfolding readOf
-  refusal-of = ap (λ (x : ReadTable). x .refusal) e ∙ rw room
+  refusal-of = ap (λ (x : Length). x .refusal) e ∙ rw room
 
   -- a file that isn't read
   pub unread : (done : List ℕ → ℕ) → (r .refusal ≡ 0 → ⊥) → r .refusal ≡ fileRefusal done f
   unfolding fileRefusal
-  unread done h = refusal-of ∙ first (readRefusal f 61457) (λ z. h (refusal-of ∙ z))
-    where
-      first : (k : ℕ) → (k ≡ 0 → ⊥) → k ≡ orElse k (done (streamOf f))
-      first zero n = absurd (n refl)
-      first (suc k) n = refl
+  unread done h = refusal-of ∙ sym (or-first (readRefusal f streamSize) (done (streamOf f)) (λ z. h (refusal-of ∙ z)))
 
 -- a file that is read: the front of the buffer is its stream
-module _ (f out : List ℕ) (r : ReadTable) (e : r ≡ readOf f (length out)) (room : length out ≡ 61457) (h : r .refusal ≡ 0) where
+module _ (f out : List ℕ) (r : Length) (e : r ≡ readOf f (length out)) (room : length out ≡ streamSize) (h : r .refusal ≡ 0) where
   read-of : readRefusal f (length out) ≡ 0
   unfolding readOf
-  read-of = sym (ap (λ (x : ReadTable). x .refusal) e) ∙ h
+  read-of = sym (ap (λ (x : Length). x .refusal) e) ∙ h
 
   length-of : r .length ≡ length (streamOf f)
   unfolding readOf
-  length-of = ap (λ (x : ReadTable). x .length) e ∙ rw (eq-eqb (readRefusal f (length out)) 0 read-of)
+  length-of = ap (λ (x : Length). x .length) e ∙ rw (eq-eqb (readRefusal f (length out)) 0 read-of)
 
-  pub read-fits : r .length ≤ 61457
+  pub read-fits : r .length ≤ streamSize
   read-fits = omega (arith, length-of, read-most f (length out) read-of)
 
   pub read-front : (left : List ℕ) → left ≡ readInto f out → take (r .length) left ≡ streamOf f
@@ -66,13 +64,13 @@ module _ (f out : List ℕ) (r : ReadTable) (e : r ≡ readOf f (length out)) (r
 
   pub read-report : (done : List ℕ → ℕ) (k : ℕ) (part : List ℕ) → part ≡ streamOf f → k ≡ done part → k ≡ fileRefusal done f
   unfolding fileRefusal
-  read-report done k part p q = let z : readRefusal f 61457 ≡ 0 = rw (← room) read-of in q ∙ rw (p, z)
+  read-report done k part p q = let z : readRefusal f streamSize ≡ 0 = rw (← room) read-of in q ∙ rw (p, z)
 
 -- the search's own number
 pub found-refusal : (s : List ℕ) (r : Found) → r ≡ searchOf s → r .refusal ≡ searchRefusal s
 found-refusal s r e = ap (λ (x : Found). x .refusal) e ∙ search-refusal s
 
 -- the run's own number
-pub settled-refusal : (s : List ℕ) (a : Answer) → a ≡ settleOf s (replicate 65536 0) .answer → a .refusal ≡ settleRefusal s
+pub settled-refusal : (s : List ℕ) (a : Answer) → a ≡ settleOf s (replicate poolSize 0) .answer → a .refusal ≡ settleRefusal s
 unfolding settleRefusal
 settled-refusal s a e = ap (λ (x : Answer). x .refusal) e

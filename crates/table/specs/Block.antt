@@ -4,9 +4,11 @@
 use Prim.Native.Nat.{ℕ, _+_, _-_}
 use mathlib.Core.Bool.{Bool, true, cond, _&&_}
 use mathlib.Core.List.{List, [], _∷_, _++_}
-use lib.Dec.{eqb, leb}
+use lib.Dec.{eqb}
 use lib.ListN.{length, take, drop, replicate}
+use Rattle.base.specs.Limits.{blockSize, payloadSize, checkedSize}
 use Rattle.base.specs.Bytes.{u16At, le16}
+use Rattle.base.specs.Shape.{isValue}
 use Rattle.checksum.specs.Sum.{sumOf}
 
 -- ---- the fields
@@ -14,24 +16,24 @@ use Rattle.checksum.specs.Sum.{sumOf}
 abbrev pub numberOf : List ℕ → ℕ
 numberOf b = u16At b 0
 
-abbrev pub countOf : List ℕ → ℕ
-countOf b = u16At b 2
+abbrev pub payloadCount : List ℕ → ℕ
+payloadCount b = u16At b 2
 
 abbrev pub payloadOf : List ℕ → List ℕ
-payloadOf b = take (countOf b) (drop 4 b)
+payloadOf b = take (payloadCount b) (drop 4 b)
 
 -- the payload bytes after the count
 abbrev pub unusedOf : List ℕ → List ℕ
-unusedOf b = drop (4 + countOf b) (take 510 b)
+unusedOf b = drop (4 + payloadCount b) (take checkedSize b)
 
 abbrev pub checkOf : List ℕ → ℕ
-checkOf b = u16At b 510
+checkOf b = u16At b checkedSize
 
 -- ---- read
 
 -- 01: "Every block but the last carries 506 payload bytes, the last 1 to 506"
 abbrev pub countGood : Bool → ℕ → Bool
-countGood last c = cond last (leb 1 c && leb c 506) (eqb c 506)
+countGood last c = cond last (isValue payloadSize c) (eqb c payloadSize)
 
 -- 01: "unused payload is zero"
 unfoldable pub allZero : List ℕ → Bool
@@ -41,9 +43,9 @@ allZero (x ∷ l) = eqb x 0 && allZero l
 -- 01: "if it isn't 512 bytes it is 1"; "then each block 4, 2, 3"
 unfoldable pub blockRefusal : ℕ → Bool → List ℕ → ℕ
 blockRefusal number last b =
-    cond (eqb (length b) 512)
-    (cond (eqb (checkOf b) (sumOf (take 510 b)))
-    (cond (eqb (numberOf b) number) (cond (countGood last (countOf b) && allZero (unusedOf b)) 0 3) 2)
+    cond (eqb (length b) blockSize)
+    (cond (eqb (checkOf b) (sumOf (take checkedSize b)))
+    (cond (eqb (numberOf b) number) (cond (countGood last (payloadCount b) && allZero (unusedOf b)) 0 3) 2)
     4)
     1
 
@@ -55,7 +57,7 @@ readBlockOf number last b = cond (eqb (blockRefusal number last b) 0) (payloadOf
 
 -- the first 510 bytes of block number k that carries p
 abbrev pub bodyOf : ℕ → List ℕ → List ℕ
-bodyOf k p = le16 k ++ le16 (length p) ++ p ++ replicate (506 - length p) 0
+bodyOf k p = le16 k ++ le16 (length p) ++ p ++ replicate (payloadSize - length p) 0
 
 unfoldable pub blockOf : ℕ → List ℕ → List ℕ
 blockOf k p = bodyOf k p ++ le16 (sumOf (bodyOf k p))

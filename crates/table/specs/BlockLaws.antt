@@ -15,8 +15,8 @@ use borrow.Author.Tests.{eqb-true, leb-true, eq-eqb, ne-eqb}
 use Rattle.base.specs.Bytes.{u16At, le16}
 use Rattle.base.specs.Shape.{and-left, and-right}
 use Rattle.checksum.specs.Sum.{sumOf, sum-small}
-use Rattle.table.specs.Put.{putAt, put-next}
-use Rattle.table.specs.Block.{numberOf, countOf, payloadOf, unusedOf, checkOf, countGood, allZero, blockRefusal, readBlockOf, bodyOf, blockOf}
+use Rattle.base.specs.Put.{putAt, put-next}
+use Rattle.table.specs.Block.{numberOf, payloadCount, payloadOf, unusedOf, checkOf, countGood, allZero, blockRefusal, readBlockOf, bodyOf, blockOf}
 
 -- ---- unused bytes: a turn of a loop from place i to place m, and its end
 
@@ -60,24 +60,24 @@ module _ (k : ℕ) (last : Bool) (b : List ℕ) where
       unfolding blockRefusal
       refused-number h = simp (eq-eqb (length b) 512 l, eq-eqb (checkOf b) (sumOf (take 510 b)) s, ne-eqb (numberOf b) k h)
 
-      module _ (n : numberOf b ≡ k) (c : ℕ) (e : c ≡ countOf b) where
-        by-payload : (x : Bool) → (countGood last (countOf b) && allZero (unusedOf b)) ≡ x → cond x 0 3 ≡ blockRefusal k last b
+      module _ (n : numberOf b ≡ k) (c : ℕ) (e : c ≡ payloadCount b) where
+        by-payload : (x : Bool) → (countGood last (payloadCount b) && allZero (unusedOf b)) ≡ x → cond x 0 3 ≡ blockRefusal k last b
         unfolding blockRefusal
         by-payload x h = simp (eq-eqb (length b) 512 l, eq-eqb (checkOf b) (sumOf (take 510 b)) s, eq-eqb (numberOf b) k n, h)
 
         pub refused-count : countGood last c ≡ false → 3 ≡ blockRefusal k last b
-        refused-count h = let g : countGood last (countOf b) ≡ false = rw e at h in by-payload false (rw g)
+        refused-count h = let g : countGood last (payloadCount b) ≡ false = rw e at h in by-payload false (rw g)
 
         module _ (h : countGood last c ≡ true) where
           pub refused-unused : allZero (drop (4 + c) (take 510 b)) ≡ false → 3 ≡ blockRefusal k last b
           refused-unused u =
-              let g : countGood last (countOf b) ≡ true = rw e at h in
+              let g : countGood last (payloadCount b) ≡ true = rw e at h in
               let z : allZero (unusedOf b) ≡ false = rw e at u in
               by-payload false (rw (g, z))
 
           pub accepted-of : allZero (drop (4 + c) (take 510 b)) ≡ true → 0 ≡ blockRefusal k last b
           accepted-of u =
-              let g : countGood last (countOf b) ≡ true = rw e at h in
+              let g : countGood last (payloadCount b) ≡ true = rw e at h in
               let z : allZero (unusedOf b) ≡ true = rw e at u in
               by-payload true (rw (g, z))
 
@@ -91,9 +91,9 @@ passed true true true false h = absurd (omega arith)
 passed true true true true h = (refl, refl, refl, refl)
 
 module _ (k : ℕ) (last : Bool) (b : List ℕ) (ok : blockRefusal k last b ≡ 0) where
-  tests : (eqb (length b) 512 ≡ true) × (eqb (checkOf b) (sumOf (take 510 b)) ≡ true) × (eqb (numberOf b) k ≡ true) × ((countGood last (countOf b) && allZero (unusedOf b)) ≡ true)
+  tests : (eqb (length b) 512 ≡ true) × (eqb (checkOf b) (sumOf (take 510 b)) ≡ true) × (eqb (numberOf b) k ≡ true) × ((countGood last (payloadCount b) && allZero (unusedOf b)) ≡ true)
   unfolding blockRefusal
-  tests = passed (eqb (length b) 512) (eqb (checkOf b) (sumOf (take 510 b))) (eqb (numberOf b) k) (countGood last (countOf b) && allZero (unusedOf b)) ok
+  tests = passed (eqb (length b) 512) (eqb (checkOf b) (sumOf (take 510 b))) (eqb (numberOf b) k) (countGood last (payloadCount b) && allZero (unusedOf b)) ok
 
   pub block-size : length b ≡ 512
   block-size = eqb-true (length b) 512 (tests .0)
@@ -104,17 +104,17 @@ module _ (k : ℕ) (last : Bool) (b : List ℕ) (ok : blockRefusal k last b ≡ 
   pub block-number : numberOf b ≡ k
   block-number = eqb-true (numberOf b) k (tests .2)
 
-  pub block-count : countGood last (countOf b) ≡ true
-  block-count = and-left (countGood last (countOf b)) (allZero (unusedOf b)) (tests .3)
+  pub block-count : countGood last (payloadCount b) ≡ true
+  block-count = and-left (countGood last (payloadCount b)) (allZero (unusedOf b)) (tests .3)
 
   pub block-unused : allZero (unusedOf b) ≡ true
-  block-unused = and-right (countGood last (countOf b)) (allZero (unusedOf b)) (tests .3)
+  block-unused = and-right (countGood last (payloadCount b)) (allZero (unusedOf b)) (tests .3)
 
-  pub block-most : countOf b ≤ 506
-  block-most = count-most last (countOf b) block-count
+  pub block-most : payloadCount b ≤ 506
+  block-most = count-most last (payloadCount b) block-count
 
-  pub block-payload-length : length (payloadOf b) ≡ countOf b
-  block-payload-length = length-take-le (countOf b) (drop 4 b) (simp length-drop (omega (arith, block-most, block-size)))
+  pub block-payload-length : length (payloadOf b) ≡ payloadCount b
+  block-payload-length = length-take-le (payloadCount b) (drop 4 b) (simp length-drop (omega (arith, block-most, block-size)))
 
 -- ---- what readBlockOf gives
 
@@ -158,7 +158,7 @@ module _ (k : ℕ) (p : List ℕ) (h : length p ≤ 506) where
   unfolding blockOf
   written-body = take-at (bodyOf k p) (le16 (sumOf (bodyOf k p))) 510 body-length
 
-  written-count : countOf (blockOf k p) ≡ length p
+  written-count : payloadCount (blockOf k p) ≡ length p
   unfolding blockOf
   written-count = le16-back (length p) (omega arith)
 
@@ -257,13 +257,13 @@ written-again k last (x0 ∷ x1 ∷ x2 ∷ []) ok bytes = absurd (omega (arith, 
 written-again k last (x0 ∷ x1 ∷ x2 ∷ x3 ∷ r) ok bytes =
     let b : List ℕ = x0 ∷ x1 ∷ x2 ∷ x3 ∷ r in
     let p : List ℕ = payloadOf b in
-    let n : length p ≡ countOf b = block-payload-length k last b ok in
-    let most : countOf b ≤ 506 = block-most k last b ok in
+    let n : length p ≡ payloadCount b = block-payload-length k last b ok in
+    let most : payloadCount b ≤ 506 = block-most k last b ok in
     let long : length r ≡ 508 = omega (arith, block-size k last b ok) in
-    let u : unusedOf b ≡ drop (countOf b) (take 506 r) = sym (drop-drop (countOf b) 4 (take 510 b)) in
+    let u : unusedOf b ≡ drop (payloadCount b) (take 506 r) = sym (drop-drop (payloadCount b) 4 (take 510 b)) in
     let l : length (unusedOf b) ≡ 506 - length p = rw u (simp (length-drop, length-take) (omega arith)) in
-    let z : replicate (506 - length p) 0 ≡ drop (countOf b) (take 506 r) = zeros-are (unusedOf b) (506 - length p) (block-unused k last b ok) l ∙ u in
+    let z : replicate (506 - length p) 0 ≡ drop (payloadCount b) (take 506 r) = zeros-are (unusedOf b) (506 - length p) (block-unused k last b ok) l ∙ u in
     let body : bodyOf k p ≡ take 510 b =
-    body-of k (countOf b) x0 x1 x2 x3 p (take 506 r) (le16-of k x0 x1 (bytes 0) (bytes 1) (block-number k last b ok)) (le16-of (length p) x2 x3 (bytes 2) (bytes 3) (sym n)) (sym (take-take (countOf b) 506 r most)) z in
+    body-of k (payloadCount b) x0 x1 x2 x3 p (take 506 r) (le16-of k x0 x1 (bytes 0) (bytes 1) (block-number k last b ok)) (le16-of (length p) x2 x3 (bytes 2) (bytes 3) (sym n)) (sym (take-take (payloadCount b) 506 r most)) z in
     let check : le16 (sumOf (take 510 b)) ≡ drop 506 r = le16-of (sumOf (take 510 b)) (getD r 506 0) (getD r 507 0) (bytes 510) (bytes 511) (block-check k last b ok) ∙ sym (last-two r long) in
     ap (λ (q : List ℕ). q ++ le16 (sumOf q)) body ∙ ap (λ (q : List ℕ). take 510 b ++ q) check ∙ take-append-drop 510 b

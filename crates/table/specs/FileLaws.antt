@@ -1,42 +1,29 @@
 -- Files: the turns of the loop over blocks, where each byte of the joined stream stands, and the answers of reading and writing.
 -- By recursion on the number of blocks, the first block apart from the rest.
--- In order: first refusals; a turn over the blocks; accepted blocks; the joined stream; its view; reading; writing.
+-- In order: a turn over the blocks; accepted blocks; the joined stream; its view; the answers of reading; payloads copied; blocks written; the answers of writing.
 -- Assumes nothing.
 use Prim.Native.Nat.{ℕ, zero, suc, _+_, _*_, _-_, _/_, _%_, _≤_, _<_, min}
 use native.Mathlib.Nat.{zero-add, add-zero, add-assoc}
 use native.Mathlib.Numerals.{add-one}
 use native.Mathlib.Omega.{arith}
 use mathlib.Core.Bool.{Bool, true, false, cond, _&&_, not, false≢true}
-use mathlib.Core.List.{List, _++_, append-nil, append-assoc}
+use mathlib.Core.List.{List, [], _∷_, _++_, append-nil, append-assoc}
 use mathlib.Core.Path.{_≡_, refl, sym, ap, _∙_}
 use lib.Dec.{eqb, leb, ltb, eqb·suc-zero}
 use lib.ListN.{length, getD, take, drop, set, length-take, length-drop, length-append, List·getD-append}
 use lib.Seq.{take-suc, take-all, drop-cons, drop-drop, length-take-le, getD-take, getD-drop, getD-append-add, set-at}
 use borrow.Author.Tests.{eqb-true, eqb-false, leb-true, leb-false, eq-eqb, ne-eqb, lt-ltb, le-ltb, ltb-true, ltb-false}
+use Rattle.base.specs.declared.Length.{Length}
+use Rattle.base.specs.Limits.{fileSize, streamSize}
 use Rattle.base.specs.Bytes.{u16At}
-use Rattle.table.specs.declared.ReadTable.{ReadTable}
-use Rattle.table.specs.declared.Written.{Written}
-use Rattle.table.specs.Stream.{streamRefusal, Accepted}
-use Rattle.table.specs.StreamLaws.{accepted-most}
-use Rattle.table.specs.Block.{countOf, payloadOf, blockRefusal, blockOf}
-use Rattle.table.specs.BlockLaws.{block-count, block-most, block-payload-length, written-size}
-use Rattle.table.specs.File.{orElse, sizeGood, blocksRefusal, joined, streamOf, streamAt, readRefusal, readOf, readInto, blocksFor, fileFrom, fileOf, writeRefusal, writeOf, writeInto}
-use Rattle.table.specs.Put.{putAt, put-next}
-use Rattle.table.specs.View.{Viewed}
-
--- ---- first refusals
-
-pub or-left : (a b : ℕ) → orElse a b ≡ 0 → a ≡ 0
-or-left zero b e = refl
-or-left (suc a) b e = e
-
-pub or-right : (a b : ℕ) → orElse a b ≡ 0 → b ≡ 0
-or-right zero b e = e
-or-right (suc a) b e = absurd (omega arith)
-
-or-first : (a b : ℕ) → (a ≡ 0 → ⊥) → orElse a b ≡ a
-or-first zero b h = absurd (h refl)
-or-first (suc a) b h = refl
+use Rattle.base.specs.Put.{putAt, put-next, put-behind}
+use Rattle.base.specs.Refusal.{orElse, or-left, or-right, or-first}
+use Rattle.table.specs.Stream.{costsGood, streamRefusal, Accepted}
+use Rattle.table.specs.StreamLaws.{costs-same, accepted-most}
+use Rattle.table.specs.Block.{payloadCount, payloadOf, blockRefusal, readBlockOf, blockOf}
+use Rattle.table.specs.BlockLaws.{block-count, block-most, block-payload-length, read-accepted, written-size}
+use Rattle.table.specs.File.{answer, leaves, sizeGood, blocksRefusal, joined, streamOf, readRefusal, readOf, blocksFor, fileFrom, fileOf, storeRefusal, storeOf}
+use Rattle.table.specs.View.{placeInFile, Viewed}
 
 -- ---- a turn of a loop over m blocks, at block k, and its end: w is what all of them give
 
@@ -82,26 +69,26 @@ module _ (k m : ℕ) (f : List ℕ) (ok : blocksRefusal k (suc m) f ≡ 0) where
   unfolding blocksRefusal
   rest-good = or-right (blockRefusal k (eqb m 0) (take 512 f)) (blocksRefusal (suc k) m (drop 512 f)) ok
 
-  first-count : countOf (take 512 f) ≡ u16At f 2
+  first-count : payloadCount (take 512 f) ≡ u16At f 2
   first-count = rw (getD-take 512 f 2 0 (omega arith), getD-take 512 f 3 0 (omega arith))
 
-  first-length : length (payloadOf (take 512 f)) ≡ countOf (take 512 f)
+  first-length : length (payloadOf (take 512 f)) ≡ payloadCount (take 512 f)
   first-length = block-payload-length k (eqb m 0) (take 512 f) first-good
 
-  first-most : countOf (take 512 f) ≤ 506
+  first-most : payloadCount (take 512 f) ≤ 506
   first-most = block-most k (eqb m 0) (take 512 f) first-good
 
   -- byte j of the first payload stands behind the block's first four bytes
-  first-at : (j : ℕ) → j < countOf (take 512 f) → getD (payloadOf (take 512 f)) j 0 ≡ getD f (4 + j) 0
+  first-at : (j : ℕ) → j < payloadCount (take 512 f) → getD (payloadOf (take 512 f)) j 0 ≡ getD f (4 + j) 0
   first-at j h =
       let l : 4 + j < 512 = omega (arith, first-most) in
-      getD-take (countOf (take 512 f)) (drop 4 (take 512 f)) j 0 h ∙ getD-drop 4 (take 512 f) j 0 ∙ getD-take 512 f (4 + j) 0 l
+      getD-take (payloadCount (take 512 f)) (drop 4 (take 512 f)) j 0 h ∙ getD-drop 4 (take 512 f) j 0 ∙ getD-take 512 f (4 + j) 0 l
 
 -- a block that isn't the last is full
 pub full : (k m : ℕ) (f : List ℕ) → blocksRefusal k (suc (suc m)) f ≡ 0 → length (payloadOf (take 512 f)) ≡ 506
 full k m f ok =
     let g : blockRefusal k false (take 512 f) ≡ 0 = rw (eqb·suc-zero m) at (first-good k (suc m) f ok) in
-    first-length k (suc m) f ok ∙ eqb-true (countOf (take 512 f)) 506 (block-count k false (take 512 f) g)
+    first-length k (suc m) f ok ∙ eqb-true (payloadCount (take 512 f)) 506 (block-count k false (take 512 f) g)
 
 -- ---- the joined stream of m + 1 accepted blocks
 
@@ -117,32 +104,32 @@ joined-length (suc m) k f ok =
     let e : 512 * suc m + 2 ≡ 512 + (512 * m + 2) = omega arith in
     length-append (payloadOf (take 512 f)) (joined (suc m) (drop 512 f)) ∙ rw (full k m f ok, r, e) (omega arith)
 
-pub joined-at : (m k : ℕ) (f : List ℕ) → blocksRefusal k (suc m) f ≡ 0 → (j : ℕ) → j < length (joined (suc m) f) → getD (joined (suc m) f) j 0 ≡ getD f (streamAt j) 0
+pub joined-at : (m k : ℕ) (f : List ℕ) → blocksRefusal k (suc m) f ≡ 0 → (j : ℕ) → j < length (joined (suc m) f) → getD (joined (suc m) f) j 0 ≡ getD f (placeInFile j) 0
 unfolding joined
 joined-at zero k f ok j h =
-    let b : j < countOf (take 512 f) = omega (arith, h, ap length (append-nil (payloadOf (take 512 f))), first-length k zero f ok) in
-    let e : 4 + j ≡ streamAt j = omega (arith, first-most k zero f ok) in
+    let b : j < payloadCount (take 512 f) = omega (arith, h, ap length (append-nil (payloadOf (take 512 f))), first-length k zero f ok) in
+    let e : 4 + j ≡ placeInFile j = omega (arith, first-most k zero f ok) in
     ap (λ (l : List ℕ). getD l j 0) (append-nil (payloadOf (take 512 f))) ∙ first-at k zero f ok j b ∙ rw e
 joined-at (suc m) k f ok j h = go (ltb j 506) refl (λ i l. joined-at m (suc k) (drop 512 f) (rest-good k (suc m) f ok) i l)
   where
     go : (x : Bool) → ltb j 506 ≡ x
-        → ((i : ℕ) → i < length (joined (suc m) (drop 512 f)) → getD (joined (suc m) (drop 512 f)) i 0 ≡ getD (drop 512 f) (streamAt i) 0)
-        → getD (payloadOf (take 512 f) ++ joined (suc m) (drop 512 f)) j 0 ≡ getD f (streamAt j) 0
+        → ((i : ℕ) → i < length (joined (suc m) (drop 512 f)) → getD (joined (suc m) (drop 512 f)) i 0 ≡ getD (drop 512 f) (placeInFile i) 0)
+        → getD (payloadOf (take 512 f) ++ joined (suc m) (drop 512 f)) j 0 ≡ getD f (placeInFile j) 0
     go true e next =
         let b = ltb-true j 506 e in
         let g = full k m f ok in
-        let a : 4 + j ≡ streamAt j = omega arith in
+        let a : 4 + j ≡ placeInFile j = omega arith in
         List·getD-append (payloadOf (take 512 f)) (joined (suc m) (drop 512 f)) 0 j (omega arith) ∙ first-at k (suc m) f ok j (omega (arith, first-length k (suc m) f ok)) ∙ rw a
     go false e next =
         let b = ltb-false j 506 e in
         let g = full k m f ok in
         let i : length (payloadOf (take 512 f)) + (j - 506) ≡ j = omega arith in
         let l : j - 506 < length (joined (suc m) (drop 512 f)) = omega (arith, h, length-append (payloadOf (take 512 f)) (joined (suc m) (drop 512 f))) in
-        let a : 512 + streamAt (j - 506) ≡ streamAt j = omega arith in
+        let a : 512 + placeInFile (j - 506) ≡ placeInFile j = omega arith in
         ap (λ (n : ℕ). getD (payloadOf (take 512 f) ++ joined (suc m) (drop 512 f)) n 0) (sym i)
         ∙ getD-append-add (payloadOf (take 512 f)) (joined (suc m) (drop 512 f)) (j - 506) 0
         ∙ next (j - 506) l
-        ∙ getD-drop 512 f (streamAt (j - 506)) 0 ∙ rw a
+        ∙ getD-drop 512 f (placeInFile (j - 506)) 0 ∙ rw a
 
 -- ---- reading: the file's size, and the view of its stream
 
@@ -154,9 +141,9 @@ size-tests false true c e = (refl, refl, e)
 -- a good size is 512 for each of 1 to 122 blocks
 pub good-size : (l : ℕ) → sizeGood l ≡ true → (l ≡ 512 * (l / 512)) × (1 ≤ l / 512) × (l / 512 ≤ 122)
 good-size l e =
-    let t = size-tests (eqb l 0) (eqb (l % 512) 0) (leb l 62464) e in
+    let t = size-tests (eqb l 0) (eqb (l % 512) 0) (leb l fileSize) e in
     let m = eqb-true (l % 512) 0 (t .1) in
-    let h = leb-true l 62464 (t .2) in
+    let h = leb-true l fileSize (t .2) in
     let z : l ≡ 0 → ⊥ = eqb-false l 0 (t .0) in
     (omega arith, omega arith, omega arith)
 
@@ -177,21 +164,31 @@ module _ (f : List ℕ) (size : sizeGood (length f) ≡ true) (ok : blocksRefusa
   pub stream-viewed : (count : ℕ) → count ≡ length (streamOf f) → Viewed true f count
   stream-viewed count e = record { counted = sym e; placed = λ k h. ap (λ (s : List ℕ). getD s k 0) opened ∙ joined-at (length f / 512 - 1) 0 f some k (omega (arith, e, ap length opened)) }
 
+-- the costs of the stream by the file's bytes: a run of m whole ones in one block, and one that stands in two
+module _ (f : List ℕ) (count : ℕ) (v : Viewed true f count) where
+  pub run-in-block : (at m : ℕ) → at + 2 * m ≤ count → at % 506 + 2 * m ≤ 506 → costsGood f (placeInFile at) m ≡ costsGood (streamOf f) at m
+  run-in-block at m h l =
+      costs-same f (streamOf f) (placeInFile at) at m (λ i b. let e : placeInFile at + i ≡ placeInFile (at + i) = omega arith in rw e (sym (v .placed (at + i) (omega arith))))
+
+  pub cost-in-two : (at a b : ℕ) → at + 2 ≤ count → a ≡ getD f (placeInFile at) 0 → b ≡ getD f (placeInFile (at + 1)) 0 → costsGood (a ∷ b ∷ []) 0 1 ≡ costsGood (streamOf f) at 1
+  unfolding costsGood
+  cost-in-two at a b h e g = rw (e, g, v .placed at (omega arith), v .placed (at + 1) (omega arith))
+
 -- ---- the answers of readRefusal, in their order
 
-pub refused-room : (f : List ℕ) (room : ℕ) → room < 61457 → 13 ≡ readRefusal f room
+pub refused-room : (f : List ℕ) (room : ℕ) → room < streamSize → 13 ≡ readRefusal f room
 unfolding readRefusal
-refused-room f room h = rw (lt-ltb room 61457 h)
+refused-room f room h = rw (lt-ltb room streamSize h)
 
-module _ (f : List ℕ) (room : ℕ) (h : 61457 ≤ room) where
+module _ (f : List ℕ) (room : ℕ) (h : streamSize ≤ room) where
   pub refused-bytes : sizeGood (length f) ≡ false → 1 ≡ readRefusal f room
   unfolding readRefusal
-  refused-bytes e = rw (le-ltb room 61457 h, e)
+  refused-bytes e = rw (le-ltb room streamSize h, e)
 
   module _ (size : sizeGood (length f) ≡ true) where
     by-blocks : orElse (blocksRefusal 0 (length f / 512) f) (streamRefusal (streamOf f)) ≡ readRefusal f room
     unfolding readRefusal
-    by-blocks = rw (le-ltb room 61457 h, size)
+    by-blocks = rw (le-ltb room streamSize h, size)
 
     pub refused-blocks : (r : ℕ) → r ≡ blocksRefusal 0 (length f / 512) f → (r ≡ 0 → ⊥) → r ≡ readRefusal f room
     refused-blocks r e n = sym (or-first r (streamRefusal (streamOf f)) n) ∙ rw e by-blocks
@@ -207,12 +204,12 @@ read-passed false false x y e = absurd (omega arith)
 read-passed false true x y e = (refl, refl, or-left x y e, or-right x y e)
 
 module _ (f : List ℕ) (room : ℕ) (ok : readRefusal f room ≡ 0) where
-  read-tests : (ltb room 61457 ≡ false) × (sizeGood (length f) ≡ true) × (blocksRefusal 0 (length f / 512) f ≡ 0) × (streamRefusal (streamOf f) ≡ 0)
+  read-tests : (ltb room streamSize ≡ false) × (sizeGood (length f) ≡ true) × (blocksRefusal 0 (length f / 512) f ≡ 0) × (streamRefusal (streamOf f) ≡ 0)
   unfolding readRefusal
-  read-tests = read-passed (ltb room 61457) (sizeGood (length f)) (blocksRefusal 0 (length f / 512) f) (streamRefusal (streamOf f)) ok
+  read-tests = read-passed (ltb room streamSize) (sizeGood (length f)) (blocksRefusal 0 (length f / 512) f) (streamRefusal (streamOf f)) ok
 
-  pub read-room : 61457 ≤ room
-  read-room = ltb-false room 61457 (read-tests .0)
+  pub read-room : streamSize ≤ room
+  read-room = ltb-false room streamSize (read-tests .0)
 
   pub read-size : sizeGood (length f) ≡ true
   read-size = read-tests .1
@@ -225,33 +222,84 @@ module _ (f : List ℕ) (room : ℕ) (ok : readRefusal f room ≡ 0) where
   unfolding Accepted
   read-stream = read-tests .3
 
-  pub read-most : length (streamOf f) ≤ 61457
+  pub read-most : length (streamOf f) ≤ streamSize
   read-most = accepted-most (streamOf f) read-stream
 
--- ---- what readOf and readInto give
+-- ---- what a call gives that is to fill a lent buffer, by the refusal r that it found
 
-module _ (f out : List ℕ) (r : ℕ) (e : r ≡ readRefusal f (length out)) where
-  pub answer-refused : (r ≡ 0 → ⊥) → _≡_ {A = ReadTable} (record { refusal = r; length = 0 }) (readOf f (length out))
-  unfolding readOf
-  answer-refused n = rw (← e, ne-eqb r 0 n)
+module _ (refusal r : ℕ) (e : r ≡ refusal) (count : ℕ) (bytes out : List ℕ) where
+  pub gives-refused : (r ≡ 0 → ⊥) → _≡_ {A = Length} (record { refusal = r; length = 0 }) (answer refusal count) × (out ≡ leaves refusal bytes out)
+  gives-refused n = rw (← e, ne-eqb r 0 n) (refl, refl)
 
-  pub left-refused : (r ≡ 0 → ⊥) → out ≡ readInto f out
-  unfolding readInto
-  left-refused n = rw (← e, ne-eqb r 0 n)
+  pub gives-accepted : r ≡ 0 → _≡_ {A = Length} (record { refusal = 0; length = count }) (answer refusal count) × (bytes ++ drop (length bytes) out ≡ leaves refusal bytes out)
+  gives-accepted z = rw (← e, z) (refl, refl)
 
-  pub answer-accepted : r ≡ 0 → (count : ℕ) → count ≡ length (streamOf f) → _≡_ {A = ReadTable} (record { refusal = 0; length = count }) (readOf f (length out))
-  unfolding readOf
-  answer-accepted z count l = rw (← e, z, ← l)
+-- what is written fits the buffer, whatever was lent
+pub read-fits : (f : List ℕ) (room : ℕ) → readOf f room .length ≤ room
+unfolding readOf
+read-fits f room = go (eqb (readRefusal f room) 0) refl
+  where
+    go : (x : Bool) → eqb (readRefusal f room) 0 ≡ x → cond x (length (streamOf f)) 0 ≤ room
+    go true e = let z = eqb-true (readRefusal f room) 0 e in omega (arith, read-most f room z, read-room f room z)
+    go false e = omega arith
 
-  pub left-accepted : r ≡ 0 → (count : ℕ) → count ≡ length (streamOf f) → streamOf f ++ drop count out ≡ readInto f out
-  unfolding readInto
-  left-accepted z count l = rw (← e, z, ← l)
+-- ---- reading: payloads one behind the other
 
--- one byte more of s copied to the front of t
-pub copy-more : (i : ℕ) (s t : List ℕ) → i < length s → i < length t → set (take i s ++ drop i t) i (getD s i 0) ≡ take (i + 1) s ++ drop (i + 1) t
-copy-more i s t hs ht =
-    let e : length (take i s) ≡ i = length-take-le i s (omega arith) in
-    rw (drop-cons t i 0 ht, set-at (take i s) (getD t i 0) (drop (suc i) t) (getD s i 0) i e, add-one, take-suc s i 0 hs, append-assoc)
+joined-split : (a b : ℕ) (f : List ℕ) → joined (a + b) f ≡ joined a f ++ joined b (drop (512 * a) f)
+unfolding joined
+joined-split zero b f = rw (zero-add b)
+joined-split (suc a) b f =
+    let e : suc a + b ≡ suc (a + b) = omega arith in
+    let d : 512 + 512 * a ≡ 512 * suc a = omega arith in
+    rw (e, joined-split a b (drop 512 f), drop-drop (512 * a) 512 f, d) (sym (append-assoc (payloadOf (take 512 f)) (joined a (drop 512 f)) (joined b (drop (512 * suc a) f))))
+
+-- block k of m accepted ones is accepted
+block-good : (k m j : ℕ) (f : List ℕ) → blocksRefusal j m f ≡ 0 → k < m → blockRefusal (j + k) (eqb (m - (k + 1)) 0) (take 512 (drop (512 * k) f)) ≡ 0
+block-good k zero j f ok h = absurd (omega arith)
+block-good zero (suc m) j f ok h = let e : suc m - 1 ≡ m = omega arith in rw (add-zero j, e) (first-good j m f ok)
+block-good (suc k) (suc m) j f ok h =
+    let e : suc j + k ≡ j + suc k = omega arith in
+    let l : m - (k + 1) ≡ suc m - (suc k + 1) = omega arith in
+    let d : 512 + 512 * k ≡ 512 * suc k = omega arith in
+    rw (drop-drop (512 * k) 512 f, d, e, l) at (block-good k m (suc j) (drop 512 f) (rest-good j m f ok) (omega arith))
+
+-- and those before it are full
+before-full : (k m j : ℕ) (f : List ℕ) → blocksRefusal j m f ≡ 0 → k < m → length (joined k f) ≡ 506 * k
+unfolding joined
+before-full zero m j f ok h = refl
+before-full (suc k) zero j f ok h = absurd (omega arith)
+before-full (suc k) (suc zero) j f ok h = absurd (omega arith)
+before-full (suc k) (suc (suc m)) j f ok h =
+    length-append (payloadOf (take 512 f)) (joined k (drop 512 f))
+    ∙ rw (full j m f ok, before-full k (suc m) (suc j) (drop 512 f) (rest-good j (suc m) f ok) (omega arith)) (omega arith)
+
+-- a turn of a loop that puts the payload p of block k of m behind the others, to the front of a buffer o
+module _ (f : List ℕ) (m k : ℕ) (ok : blocksRefusal 0 m f ≡ 0) (h : k < m) where
+  abbrev payload : List ℕ
+  payload = payloadOf (take 512 (drop (512 * k) f))
+
+  pub payload-read : (n : ℕ) (p : List ℕ) → n ≡ 512 → p ≡ readBlockOf k (eqb (k + 1) m) (take n (drop (512 * k) f)) → p ≡ payload
+  payload-read n p l e =
+      let g : blockRefusal k (eqb (m - (k + 1)) 0) (take 512 (drop (512 * k) f)) ≡ 0 = rw (zero-add k) at (block-good k m 0 f ok h) in
+      e ∙ rw (l, is-last k m h) (sym (read-accepted k (eqb (m - (k + 1)) 0) (take 512 (drop (512 * k) f)) g))
+
+  joined-more : joined (k + 1) f ≡ joined k f ++ payload
+  unfolding joined
+  joined-more = joined-split k 1 f ∙ rw append-nil
+
+  front : length (joined k f) ≡ 506 * k
+  front = before-full k m 0 f ok h
+
+  pub payload-fits : (p : List ℕ) → p ≡ payload → 506 * k + length p ≤ length (joined m f)
+  payload-fits p e =
+      let n : m ≡ k + 1 + (m - (k + 1)) = omega arith in
+      let l : length (joined m f) ≡ length (joined (k + 1) f) + length (joined (m - (k + 1)) (drop (512 * (k + 1)) f)) =
+      ap (λ (x : ℕ). length (joined x f)) n ∙ ap length (joined-split (k + 1) (m - (k + 1)) f) ∙ length-append (joined (k + 1) f) (joined (m - (k + 1)) (drop (512 * (k + 1)) f)) in
+      rw e (omega (arith, front, ap length joined-more ∙ length-append (joined k f) payload))
+
+  pub payload-put : (o p now : List ℕ) → p ≡ payload → now ≡ joined k f ++ drop (length (joined k f)) o
+      → putAt now (506 * k) p ≡ joined (k + 1) f ++ drop (length (joined (k + 1) f)) o
+  payload-put o p now e g = rw (g, e, joined-more) (put-behind (joined k f) payload o (506 * k) (sym front))
 
 -- ---- writing: blocks one behind the other
 
@@ -267,6 +315,14 @@ file-length zero k s = refl
 file-length (suc m) k s =
     length-append (blockOf k (take 506 s)) (fileFrom (suc k) m (drop 506 s))
     ∙ rw (block-long k s, file-length m (suc k) (drop 506 s)) (omega arith)
+
+pub written-length : (s : List ℕ) → length (fileOf s) ≡ 512 * blocksFor (length s)
+unfolding fileOf
+written-length s = file-length (blocksFor (length s)) 0 s
+
+pub file-in-front : (s o : List ℕ) → fileFrom 0 (blocksFor (length s)) s ++ drop (512 * blocksFor (length s)) o ≡ fileOf s ++ drop (length (fileOf s)) o
+unfolding fileOf
+file-in-front s o = rw (file-length (blocksFor (length s)) 0 s)
 
 -- one block more
 file-snoc : (m k : ℕ) (s : List ℕ) → fileFrom k (suc m) s ≡ fileFrom k m s ++ blockOf (k + m) (take 506 (drop (506 * m) s))
@@ -300,28 +356,28 @@ carried s k n e = go (leb (506 * k + 506) (length s)) refl
         let b : length (drop (506 * k) s) ≤ 506 = simp length-drop (omega arith) in
         take-all n (drop (506 * k) s) a ∙ sym (take-all 506 (drop (506 * k) s) b)
 
--- ---- the answers of writeRefusal, in their order, and what writeOf and writeInto give
+-- ---- the answers of storeRefusal, in their order
 
 module _ (s : List ℕ) (room : ℕ) where
-  pub refused-stream : (r : ℕ) → r ≡ streamRefusal s → (r ≡ 0 → ⊥) → r ≡ writeRefusal s room
-  unfolding writeRefusal
+  pub refused-stream : (r : ℕ) → r ≡ streamRefusal s → (r ≡ 0 → ⊥) → r ≡ storeRefusal s room
+  unfolding storeRefusal
   refused-stream r e n = rw (← e) (sym (or-first r (cond (ltb room (512 * blocksFor (length s))) 13 0) n))
 
-  pub refused-short : streamRefusal s ≡ 0 → room < 512 * blocksFor (length s) → 13 ≡ writeRefusal s room
-  unfolding writeRefusal
+  pub refused-short : streamRefusal s ≡ 0 → room < 512 * blocksFor (length s) → 13 ≡ storeRefusal s room
+  unfolding storeRefusal
   refused-short e h = rw (e, lt-ltb room (512 * blocksFor (length s)) h)
 
-  pub write-accepted : streamRefusal s ≡ 0 → 512 * blocksFor (length s) ≤ room → 0 ≡ writeRefusal s room
-  unfolding writeRefusal
+  pub write-accepted : streamRefusal s ≡ 0 → 512 * blocksFor (length s) ≤ room → 0 ≡ storeRefusal s room
+  unfolding storeRefusal
   write-accepted e h = rw (e, le-ltb room (512 * blocksFor (length s)) h)
 
 write-passed : (a : Bool) (x : ℕ) → _≡_ {A = ℕ} (orElse x (cond a 13 0)) 0 → (x ≡ 0) × (a ≡ false)
 write-passed true x e = absurd (omega (arith, or-right x 13 e))
 write-passed false x e = (or-left x 0 e, refl)
 
-module _ (s : List ℕ) (room : ℕ) (ok : writeRefusal s room ≡ 0) where
+module _ (s : List ℕ) (room : ℕ) (ok : storeRefusal s room ≡ 0) where
   write-tests : (streamRefusal s ≡ 0) × (ltb room (512 * blocksFor (length s)) ≡ false)
-  unfolding writeRefusal
+  unfolding storeRefusal
   write-tests = write-passed (ltb room (512 * blocksFor (length s))) (streamRefusal s) ok
 
   pub write-stream : Accepted s
@@ -331,26 +387,13 @@ module _ (s : List ℕ) (room : ℕ) (ok : writeRefusal s room ≡ 0) where
   pub write-room : 512 * blocksFor (length s) ≤ room
   write-room = ltb-false room (512 * blocksFor (length s)) (write-tests .1)
 
-  pub write-most : length s ≤ 61457
+  pub write-most : length s ≤ streamSize
   write-most = accepted-most s write-stream
 
-module _ (s out : List ℕ) (r : ℕ) (e : r ≡ writeRefusal s (length out)) where
-  pub written-refused : (r ≡ 0 → ⊥) → _≡_ {A = Written} (record { refusal = r; length = 0 }) (writeOf s (length out))
-  unfolding writeOf
-  written-refused n = rw (← e, ne-eqb r 0 n)
-
-  pub kept-refused : (r ≡ 0 → ⊥) → out ≡ writeInto s out
-  unfolding writeInto
-  kept-refused n = rw (← e, ne-eqb r 0 n)
-
-  pub written-accepted : r ≡ 0 → _≡_ {A = Written} (record { refusal = 0; length = 512 * blocksFor (length s) }) (writeOf s (length out))
-  unfolding writeOf
-  written-accepted z = rw (← e, z)
-
-  pub kept-file : r ≡ 0 → fileOf s ++ drop (512 * blocksFor (length s)) out ≡ writeInto s out
-  unfolding writeInto
-  kept-file z = rw (← e, z)
-
-  pub kept-accepted : r ≡ 0 → fileFrom 0 (blocksFor (length s)) s ++ drop (512 * blocksFor (length s)) out ≡ writeInto s out
-  unfolding fileOf
-  kept-accepted z = kept-file z
+pub store-fits : (s : List ℕ) (room : ℕ) → storeOf s room .length ≤ room
+unfolding storeOf
+store-fits s room = go (eqb (storeRefusal s room) 0) refl
+  where
+    go : (x : Bool) → eqb (storeRefusal s room) 0 ≡ x → cond x (length (fileOf s)) 0 ≤ room
+    go true e = omega (arith, write-room s room (eqb-true (storeRefusal s room) 0 e), written-length s)
+    go false e = omega arith

@@ -8,4 +8,3 @@ pub mod StreamLaws
 pub mod BlockLaws
 pub mod FileLaws
 pub mod View
-pub mod Put

@@ -1,6 +1,6 @@
 -- Reading and writing undo each other. Over the definitions that the contracts of `read` and `write` cite:
--- 1. of an accepted stream, the file is accepted (accepted-back), its stream is that stream (stream-back), and reading gives it (reads-back);
--- 2. of an accepted file, the file of its stream is that file, byte for byte (file-back), and writing gives it (writes-back);
+-- 1. what an accepted writing left in any buffer is accepted, and reads back as the stream (reads-back; accepted-back, stream-back);
+-- 2. what an accepted reading left in any buffer is written again as the file, byte for byte (writes-back; file-back);
 -- 3. two accepted files with one stream are equal (one-file).
 -- Each by recursion on the number of blocks, a block at a time (BlockLaws). Assumes nothing.
 use Prim.Native.Nat.{ℕ, zero, suc, _+_, _*_, _-_, _/_, _%_, _≤_, _<_}
@@ -12,17 +12,26 @@ use lib.Dec.{eqb, leb, ltb, eqb·suc-zero}
 use lib.ListN.{length, getD, take, drop, length-take, length-drop, length-append, take-append-drop, List·getD-eq-default}
 use lib.Seq.{take-at, drop-at, take-all, getD-take, getD-drop}
 use borrow.Author.Tests.{leb-true, eq-eqb, ne-eqb, le-leb, ltb-true, ltb-false}
+use Rattle.base.specs.Limits.{fileSize, streamSize}
+use Rattle.base.specs.Bytes.{AllBytes, bytes-take, bytes-drop}
 use Rattle.base.specs.Shape.{and-left}
 use Rattle.table.specs.Stream.{streamRefusal, Accepted}
 use Rattle.table.specs.StreamLaws.{accepted-most, accepted-length}
-use Rattle.table.specs.Block.{countOf, payloadOf, countGood, blockOf}
+use Rattle.table.specs.Block.{payloadCount, payloadOf, countGood, blockOf}
 use Rattle.table.specs.BlockLaws.{block-count, block-most, block-payload-length, written-good, written-payload, written-again}
-use Rattle.table.specs.File.{sizeGood, blocksRefusal, joined, streamOf, readRefusal, readOf, readInto, AcceptedFile, blocksFor, fileFrom, fileOf, writeOf, writeInto}
-use Rattle.table.specs.FileLaws.{first-good, rest-good, full, good-size, block-long, file-length, take-most, read-size, read-blocks, read-stream, by-stream, answer-accepted, left-accepted, write-accepted, written-accepted, kept-file}
+use Rattle.table.specs.File.{answer, leaves, sizeGood, blocksRefusal, joined, streamOf, readRefusal, readOf, readInto, AcceptedFile, blocksFor, fileFrom, fileOf, storeRefusal, storeOf, storeInto}
+use Rattle.table.specs.FileLaws.{first-good, rest-good, full, good-size, block-long, written-length, take-most, read-size, read-blocks, read-stream, read-room, by-stream, gives-accepted, write-accepted, write-stream}
 
--- every byte of f is below 256
-abbrev pub Bytes : List ℕ → Type 0
-Bytes f = (i : ℕ) → getD f i 0 < 256
+-- the file that a writing of s left in a lent buffer, and the stream that a reading of f left: as many bytes as it said
+abbrev pub written : List ℕ → List ℕ → List ℕ
+written s out = take (storeOf s (length out) .length) (storeInto s out)
+
+abbrev pub readBack : List ℕ → List ℕ → List ℕ
+readBack f out = take (readOf f (length out) .length) (readInto f out)
+
+-- what was given stands in front of what was there
+front-of : (refusal : ℕ) (bytes out : List ℕ) → refusal ≡ 0 → take (answer refusal (length bytes) .length) (leaves refusal bytes out) ≡ bytes
+front-of refusal bytes out z = rw z (take-at bytes (drop (length bytes) out) (length bytes) refl)
 
 -- ---- a stream written and read back
 
@@ -69,20 +78,16 @@ module _ (s : List ℕ) (ok : Accepted s) where
   blocks : (1 ≤ blocksFor (length s)) × (blocksFor (length s) ≤ 122)
   blocks = let l = accepted-length s ok in let m = accepted-most s ok in (omega arith, omega arith)
 
-  written-length : length (fileOf s) ≡ 512 * blocksFor (length s)
-  unfolding fileOf
-  written-length = file-length (blocksFor (length s)) 0 s
-
   written-blocks : length (fileOf s) / 512 ≡ blocksFor (length s)
-  written-blocks = rw written-length (omega arith)
+  written-blocks = rw (written-length s) (omega arith)
 
   written-bytes : sizeGood (length (fileOf s)) ≡ true
   written-bytes =
       let b = blocks in
-      let l : length (fileOf s) ≡ 0 → ⊥ = λ e. omega (arith, written-length) in
-      let m : length (fileOf s) % 512 ≡ 0 = omega (arith, written-length) in
-      let h : length (fileOf s) ≤ 62464 = omega (arith, written-length) in
-      simp (ne-eqb (length (fileOf s)) 0 l, eq-eqb (length (fileOf s) % 512) 0 m, le-leb (length (fileOf s)) 62464 h)
+      let l : length (fileOf s) ≡ 0 → ⊥ = λ e. omega (arith, written-length s) in
+      let m : length (fileOf s) % 512 ≡ 0 = omega (arith, written-length s) in
+      let h : length (fileOf s) ≤ fileSize = omega (arith, written-length s) in
+      simp (ne-eqb (length (fileOf s)) 0 l, eq-eqb (length (fileOf s) % 512) 0 m, le-leb (length (fileOf s)) fileSize h)
 
   written-passes : blocksRefusal 0 (length (fileOf s) / 512) (fileOf s) ≡ 0
   unfolding fileOf
@@ -96,39 +101,37 @@ module _ (s : List ℕ) (ok : Accepted s) where
   unfolding streamOf fileOf
   stream-back = rw written-blocks (joins-back (blocksFor (length s)) 0 s (omega arith))
 
-  refusal-none : (room : ℕ) → 61457 ≤ room → readRefusal (fileOf s) room ≡ 0
+  refusal-none : (room : ℕ) → streamSize ≤ room → readRefusal (fileOf s) room ≡ 0
   unfolding Accepted
   refusal-none room h = sym (by-stream (fileOf s) room h written-bytes written-passes) ∙ ap streamRefusal stream-back ∙ ok
 
   pub accepted-back : AcceptedFile (fileOf s)
   unfolding AcceptedFile
-  accepted-back = refusal-none 61457 (omega arith)
+  accepted-back = refusal-none streamSize (omega arith)
 
   -- so reading it, into any buffer that is long enough, gives the stream in front of what was there
-  pub reads-back : (out : List ℕ) → 61457 ≤ length out → (readOf (fileOf s) (length out) ≡ record { refusal = 0; length = length s }) × (readInto (fileOf s) out ≡ s ++ drop (length s) out)
-  reads-back out h =
-      let r = sym (refusal-none (length out) h) in
-      let l : length s ≡ length (streamOf (fileOf s)) = ap length (sym stream-back) in
-      (sym (answer-accepted (fileOf s) out 0 r refl (length s) l), sym (left-accepted (fileOf s) out 0 r refl (length s) l) ∙ rw stream-back)
+  pub reads-file : (out : List ℕ) → streamSize ≤ length out → (readOf (fileOf s) (length out) ≡ record { refusal = 0; length = length s }) × (readInto (fileOf s) out ≡ s ++ drop (length s) out)
+  unfolding readOf readInto
+  reads-file out h =
+      let g = gives-accepted (readRefusal (fileOf s) (length out)) 0 (sym (refusal-none (length out) h)) (length (streamOf (fileOf s))) (streamOf (fileOf s)) out refl in
+      (sym (g .0) ∙ rw stream-back, sym (g .1) ∙ rw stream-back)
+
+-- what an accepted writing left in any buffer reads back as the stream
+pub reads-back : (s file out : List ℕ) → storeOf s (length file) .refusal ≡ 0 → streamSize ≤ length out
+    → (readOf (written s file) (length out) ≡ record { refusal = 0; length = length s }) × (readInto (written s file) out ≡ s ++ drop (length s) out)
+unfolding storeOf storeInto
+reads-back s file out z h =
+    rw (front-of (storeRefusal s (length file)) (fileOf s) file z) (reads-file s (write-stream s (length file) z) out h)
 
 -- ---- a file read and written again
 
-stream-passes : (f : List ℕ) → readRefusal f 61457 ≡ 0 → streamRefusal (streamOf f) ≡ 0
+read-accepted-file : (f : List ℕ) (room : ℕ) → readRefusal f room ≡ 0 → AcceptedFile f
+unfolding AcceptedFile Accepted
+read-accepted-file f room e = sym (by-stream f streamSize (omega arith) (read-size f room e) (read-blocks f room e)) ∙ read-stream f room e
+
+stream-passes : (f : List ℕ) → readRefusal f streamSize ≡ 0 → streamRefusal (streamOf f) ≡ 0
 unfolding Accepted
-stream-passes f e = read-stream f 61457 e
-
-bytes-take : (f : List ℕ) → Bytes f → Bytes (take 512 f)
-bytes-take f bytes i = go (ltb i 512) refl
-  where
-    go : (x : Bool) → ltb i 512 ≡ x → getD (take 512 f) i 0 < 256
-    go true e = rw (getD-take 512 f i 0 (ltb-true i 512 e)) (bytes i)
-    go false e =
-        let h = ltb-false i 512 e in
-        let l : length (take 512 f) ≤ i = simp length-take (omega arith) in
-        rw (List·getD-eq-default (take 512 f) 0 l) (omega arith)
-
-bytes-drop : (f : List ℕ) → Bytes f → Bytes (drop 512 f)
-bytes-drop f bytes i = rw (getD-drop 512 f i 0) (bytes (512 + i))
+stream-passes f e = read-stream f streamSize e
 
 -- 506 bytes from the joined payloads on are the first payload, and behind them the others
 front : (m k : ℕ) (f : List ℕ) → blocksRefusal k (suc m) f ≡ 0 → take 506 (payloadOf (take 512 f) ++ joined m (drop 512 f)) ≡ payloadOf (take 512 f)
@@ -145,24 +148,24 @@ unfolding fileFrom
 behind zero k f ok = refl
 behind (suc m) k f ok = ap (λ (l : List ℕ). fileFrom (suc k) (suc m) l) (drop-at (payloadOf (take 512 f)) (joined (suc m) (drop 512 f)) 506 (full k m f ok))
 
-blocks-again : (m k : ℕ) (f : List ℕ) → length f ≡ 512 * m → blocksRefusal k m f ≡ 0 → Bytes f → fileFrom k m (joined m f) ≡ f
+blocks-again : (m k : ℕ) (f : List ℕ) → length f ≡ 512 * m → blocksRefusal k m f ≡ 0 → AllBytes f → fileFrom k m (joined m f) ≡ f
 unfolding fileFrom joined
 blocks-again zero k [] l ok bytes = refl
 blocks-again zero k (x ∷ f) l ok bytes = absurd (omega arith)
 blocks-again (suc m) k f l ok bytes =
     let d : length (drop 512 f) ≡ 512 * m = length-drop 512 f ∙ omega arith in
-    let r = blocks-again m (suc k) (drop 512 f) d (rest-good k m f ok) (bytes-drop f bytes) in
-    let w = written-again k (eqb m 0) (take 512 f) (first-good k m f ok) (bytes-take f bytes) in
+    let r = blocks-again m (suc k) (drop 512 f) d (rest-good k m f ok) (bytes-drop 512 f bytes) in
+    let w = written-again k (eqb m 0) (take 512 f) (first-good k m f ok) (bytes-take 512 f bytes) in
     rw (front m k f ok, behind m k f ok, w, r) (take-append-drop 512 f)
 
 -- the joined payloads of m + 1 blocks need m + 1 blocks
 last-some : (k : ℕ) (f : List ℕ) → blocksRefusal k 1 f ≡ 0 → (1 ≤ length (payloadOf (take 512 f))) × (length (payloadOf (take 512 f)) ≤ 506)
 last-some k f ok =
     let g = first-good k zero f ok in
-    let c = and-left (leb 1 (countOf (take 512 f))) (leb (countOf (take 512 f)) 506) (block-count k (eqb zero 0) (take 512 f) g) in
+    let c = and-left (leb 1 (payloadCount (take 512 f))) (leb (payloadCount (take 512 f)) 506) (block-count k (eqb zero 0) (take 512 f) g) in
     let l = block-payload-length k (eqb zero 0) (take 512 f) g in
     let m = block-most k (eqb zero 0) (take 512 f) g in
-    (omega (arith, leb-true 1 (countOf (take 512 f)) c), omega arith)
+    (omega (arith, leb-true 1 (payloadCount (take 512 f)) c), omega arith)
 
 joined-fits : (m k : ℕ) (f : List ℕ) → blocksRefusal k (suc m) f ≡ 0 → (506 * m < length (joined (suc m) f)) × (length (joined (suc m) f) ≤ 506 * suc m)
 unfolding joined
@@ -173,37 +176,46 @@ joined-fits (suc m) k f ok =
     let g = full k m f ok in
     (omega arith, omega arith)
 
-module _ (f : List ℕ) (ok : AcceptedFile f) (bytes : Bytes f) where
-  passes : readRefusal f 61457 ≡ 0
+module _ (f : List ℕ) (ok : AcceptedFile f) (bytes : AllBytes f) where
+  passes : readRefusal f streamSize ≡ 0
   unfolding AcceptedFile
   passes = ok
 
   size : (length f ≡ 512 * (length f / 512)) × (1 ≤ length f / 512) × (length f / 512 ≤ 122)
-  size = good-size (length f) (read-size f 61457 passes)
+  size = good-size (length f) (read-size f streamSize passes)
 
   same-blocks : blocksFor (length (streamOf f)) ≡ length f / 512
   unfolding streamOf
   same-blocks =
       let m : ℕ = length f / 512 - 1 in
       let e : length f / 512 ≡ suc m = omega (arith, size) in
-      let g : blocksRefusal 0 (suc m) f ≡ 0 = rw e at (read-blocks f 61457 passes) in
+      let g : blocksRefusal 0 (suc m) f ≡ 0 = rw e at (read-blocks f streamSize passes) in
       let h = joined-fits m 0 f g in
       rw e (omega (arith, h))
 
   -- the file of the stream that was read is the file
   pub file-back : fileOf (streamOf f) ≡ f
   unfolding fileOf streamOf
-  file-back = rw same-blocks (blocks-again (length f / 512) 0 f (size .0) (read-blocks f 61457 passes) bytes)
+  file-back = rw same-blocks (blocks-again (length f / 512) 0 f (size .0) (read-blocks f streamSize passes) bytes)
 
   -- so writing that stream, into any buffer that is long enough, gives the same bytes in front of what was there
-  pub writes-back : (out : List ℕ) → length f ≤ length out
-      → (writeOf (streamOf f) (length out) ≡ record { refusal = 0; length = length f }) × (writeInto (streamOf f) out ≡ f ++ drop (length f) out)
-  writes-back out h =
+  pub writes-stream : (out : List ℕ) → length f ≤ length out
+      → (storeOf (streamOf f) (length out) ≡ record { refusal = 0; length = length f }) × (storeInto (streamOf f) out ≡ f ++ drop (length f) out)
+  unfolding storeOf storeInto
+  writes-stream out h =
       let l : 512 * blocksFor (length (streamOf f)) ≡ length f = rw same-blocks (sym (size .0)) in
       let r = write-accepted (streamOf f) (length out) (stream-passes f passes) (omega arith) in
-      (sym (written-accepted (streamOf f) out 0 r refl) ∙ rw l, sym (kept-file (streamOf f) out 0 r refl) ∙ rw (l, file-back))
+      let g = gives-accepted (storeRefusal (streamOf f) (length out)) 0 r (length (fileOf (streamOf f))) (fileOf (streamOf f)) out refl in
+      (sym (g .0) ∙ rw file-back, sym (g .1) ∙ rw file-back)
+
+-- what an accepted reading left in any buffer is written again as the file
+pub writes-back : (f stream out : List ℕ) → readOf f (length stream) .refusal ≡ 0 → AllBytes f → length f ≤ length out
+    → (storeOf (readBack f stream) (length out) ≡ record { refusal = 0; length = length f }) × (storeInto (readBack f stream) out ≡ f ++ drop (length f) out)
+unfolding readOf readInto
+writes-back f stream out z bytes h =
+    rw (front-of (readRefusal f (length stream)) (streamOf f) stream z) (writes-stream f (read-accepted-file f (length stream) z) bytes out h)
 
 -- ---- two accepted files with one stream are equal
 
-pub one-file : (f g : List ℕ) → AcceptedFile f → AcceptedFile g → Bytes f → Bytes g → streamOf f ≡ streamOf g → f ≡ g
+pub one-file : (f g : List ℕ) → AcceptedFile f → AcceptedFile g → AllBytes f → AllBytes g → streamOf f ≡ streamOf g → f ≡ g
 one-file f g okf okg bf bg e = sym (file-back f okf bf) ∙ ap fileOf e ∙ file-back g okg bg

@@ -7,6 +7,7 @@ use mathlib.Core.List.{List, [], _∷_}
 use mathlib.Core.Path.{_≡_}
 use lib.Dec.{eqb, leb}
 use lib.ListN.{length, getD, take, drop}
+use Rattle.base.specs.Limits.{pairLimit}
 use Rattle.base.specs.Bytes.{u16At}
 use Rattle.base.specs.Shape.{shapeGood}
 
@@ -30,21 +31,21 @@ pairsIn (d ∷ ds) = d * sumList ds + pairsIn ds
 abbrev pub needed : List ℕ → ℕ
 needed s = 1 + unitsOf s + 2 * pairsIn (sizesOf s)
 
--- 01: "the costs as 16-bit numbers": cost number k, from 0
-abbrev pub costAt : List ℕ → ℕ → ℕ
-costAt s k = u16At s (1 + unitsOf s + 2 * k)
-
--- the m costs from number k on are at most 60,000
+-- 01: "the costs as 16-bit numbers": the m that stand in s from byte k on are within the limit
 unfoldable pub costsGood : List ℕ → ℕ → ℕ → Bool
 costsGood s k zero = true
-costsGood s k (suc m) = leb (costAt s k) 60000 && costsGood s (suc k) m
+costsGood s k (suc m) = leb (u16At s k) pairLimit && costsGood s (k + 2) m
+
+-- cost number k of a stream, from 0
+abbrev pub costAt : List ℕ → ℕ → ℕ
+costAt s k = u16At s (1 + unitsOf s + 2 * k)
 
 -- 01: "In a stream too short for n or the sizes, those present are checked by 5, then it is 6"
 unfoldable pub streamRefusal : List ℕ → ℕ
 streamRefusal s =
     cond (eqb (length s) 0) 6
     (cond (shapeGood (unitsOf s) (drop 1 s))
-    (cond (eqb (length s) (needed s)) (cond (costsGood s 0 (pairsIn (sizesOf s))) 0 7) 6)
+    (cond (eqb (length s) (needed s)) (cond (costsGood s (1 + unitsOf s) (pairsIn (sizesOf s))) 0 7) 6)
     5)
 
 -- the stream passes 5, 6 and 7

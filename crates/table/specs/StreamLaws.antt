@@ -2,21 +2,26 @@
 -- In order: how pairsIn and costsGood grow; turns of the loops over sizes and costs; the answers of streamRefusal; an accepted stream.
 -- Assumes nothing.
 use Prim.Native.Nat.{ℕ, zero, suc, _+_, _*_, _-_, _≤_, _<_, min}
-use native.Mathlib.Nat.{mul-le-mul, zero-add, add-zero, le-of-suc-le-suc, not-suc-le-zero, mul-add, add-mul, le-refl, suc-mul, mul-suc}
+use native.Mathlib.Nat.{mul-le-mul, zero-add, add-zero, add-assoc, le-of-suc-le-suc, not-suc-le-zero, mul-add, add-mul, le-refl, suc-mul, mul-suc}
 use native.Mathlib.Numerals.{add-one}
 use native.Mathlib.Omega.{arith}
 use mathlib.Core.Bool.{Bool, true, false, cond, _&&_}
 use mathlib.Core.List.{List, [], _∷_, _++_}
-use mathlib.Core.Path.{_≡_, refl, sym, _∙_}
+use mathlib.Core.Path.{_≡_, refl, sym, ap, _∙_}
 use lib.Dec.{eqb, leb}
 use lib.ListN.{length, getD, take, drop, length-take, length-drop, drop-of-length-le}
 use lib.Seq.{take-suc, drop-cons, length-take-le, getD-take, getD-drop}
 use borrow.Author.Tests.{eqb-true, leb-true, eq-eqb, ne-eqb, le-leb, lt-leb}
-use Rattle.base.specs.Bytes.{u16At}
+use Rattle.base.specs.Limits.{pairLimit, streamSize}
+use Rattle.base.specs.Bytes.{u16At, u16-past}
 use Rattle.base.specs.Shape.{inSixteen, allInSixteen, shapeGood, and-left, and-right, in-range, shape-n, shape-size}
 use Rattle.table.specs.Stream.{unitsOf, sizesOf, sumList, pairsIn, needed, costAt, costsGood, streamRefusal, Accepted}
 
 -- ---- how pairsIn and costsGood grow
+
+and-assoc : (a b c : Bool) → ((a && b) && c) ≡ (a && (b && c))
+and-assoc true b c = refl
+and-assoc false b c = refl
 
 -- one size more
 pub sum-snoc : (l : List ℕ) (d : ℕ) → sumList (l ++ (d ∷ [])) ≡ sumList l + d
@@ -50,22 +55,42 @@ pairs-most (x ∷ l) e =
     let q : suc (length l) * suc (length l) ≡ length l * length l + 2 * length l + 1 = simp (suc-mul, mul-suc) (omega arith) in
     rw q (omega arith)
 
--- where the costs from k on pass, each does
-pub costs-at : (s : List ℕ) (k m : ℕ) → costsGood s k m ≡ true → (j : ℕ) → j < m → costAt s (k + j) ≤ 60000
+-- where costs pass, each does
+pub costs-at : (s : List ℕ) (k m : ℕ) → costsGood s k m ≡ true → (j : ℕ) → j < m → u16At s (k + 2 * j) ≤ pairLimit
 unfolding costsGood
 costs-at s k zero e j h = absurd (not-suc-le-zero h)
-costs-at s k (suc m) e zero h = rw add-zero (leb-true (costAt s k) 60000 (and-left (leb (costAt s k) 60000) (costsGood s (suc k) m) e))
+costs-at s k (suc m) e zero h = rw add-zero (leb-true (u16At s k) pairLimit (and-left (leb (u16At s k) pairLimit) (costsGood s (k + 2) m) e))
 costs-at s k (suc m) e (suc j) h =
-    let i : k + suc j ≡ suc k + j = omega arith in
-    rw i (costs-at s (suc k) m (and-right (leb (costAt s k) 60000) (costsGood s (suc k) m) e) j (le-of-suc-le-suc h))
+    let i : k + 2 * suc j ≡ k + 2 + 2 * j = omega arith in
+    rw i (costs-at s (k + 2) m (and-right (leb (u16At s k) pairLimit) (costsGood s (k + 2) m) e) j (le-of-suc-le-suc h))
+
+-- past the end there are only zeros
+pub costs-none : (s : List ℕ) (k m : ℕ) → length s ≤ k → costsGood s k m ≡ true
+unfolding costsGood
+costs-none s k zero h = refl
+costs-none s k (suc m) h = rw (u16-past s k h) (costs-none s (k + 2) m (omega arith))
+
+-- costs in two parts
+pub costs-split : (s : List ℕ) (k a b : ℕ) → costsGood s k (a + b) ≡ (costsGood s k a && costsGood s (k + 2 * a) b)
+unfolding costsGood
+costs-split s k zero b = rw (zero-add b, add-zero k)
+costs-split s k (suc a) b =
+    let e : suc a + b ≡ suc (a + b) = omega arith in
+    let i : k + 2 * suc a ≡ k + 2 + 2 * a = omega arith in
+    rw (e, i, costs-split s (k + 2) a b) (sym (and-assoc (leb (u16At s k) pairLimit) (costsGood s (k + 2) a) (costsGood s (k + 2 + 2 * a) b)))
+
+-- the same bytes are the same costs
+pub costs-same : (s t : List ℕ) (k j m : ℕ) → ((i : ℕ) → i < 2 * m → getD s (k + i) 0 ≡ getD t (j + i) 0) → costsGood s k m ≡ costsGood t j m
+unfolding costsGood
+costs-same s t k j zero e = refl
+costs-same s t k j (suc m) e =
+    let a : getD s k 0 ≡ getD t j 0 = rw (add-zero k, add-zero j) at (e 0 (omega arith)) in
+    let b : getD s (k + 1) 0 ≡ getD t (j + 1) 0 = e 1 (omega arith) in
+    let r : costsGood s (k + 2) m ≡ costsGood t (j + 2) m =
+    costs-same s t (k + 2) (j + 2) m (λ i h. rw (add-assoc k 2 i, add-assoc j 2 i) (e (2 + i) (omega arith))) in
+    rw (a, b, r)
 
 -- ---- a turn of a loop over the sizes or the costs, and its end: w is what the whole test gives
-
-pub below-range : (x : ℕ) → x < 1 → inSixteen x ≡ false
-below-range x h = rw (lt-leb 1 x h)
-
-pub above-range : (x : ℕ) → 16 < x → inSixteen x ≡ false
-above-range x h = let l : 1 ≤ x = omega arith in simp (le-leb 1 x l, lt-leb x 16 h)
 
 module _ {w : Bool} (s : List ℕ) (n i : ℕ) (inv : w ≡ allInSixteen (drop i (take n (drop 1 s)))) where
   sizes-step : i < n → 1 + i < length s → w ≡ (inSixteen (getD s (1 + i) 0) && allInSixteen (drop (i + 1) (take n (drop 1 s))))
@@ -86,20 +111,33 @@ module _ {w : Bool} (s : List ℕ) (n i : ℕ) (inv : w ≡ allInSixteen (drop i
       let b : length (take n (drop 1 s)) ≤ i = simp (length-take, length-drop) h in
       sym (inv ∙ rw (drop-of-length-le (take n (drop 1 s)) b))
 
-module _ {w : Bool} (s : List ℕ) (k m : ℕ) (inv : w ≡ costsGood s k (m - k)) where
-  costs-step : k < m → w ≡ (leb (costAt s k) 60000 && costsGood s (k + 1) (m - (k + 1)))
+module _ {w : Bool} (s : List ℕ) (k m : ℕ) (inv : w ≡ costsGood s k m) where
+  costs-step : 0 < m → w ≡ (leb (u16At s k) pairLimit && costsGood s (k + 2) (m - 1))
   unfolding costsGood
-  costs-step h = let e : m - k ≡ suc (m - (k + 1)) = omega arith in inv ∙ rw (e, add-one k)
+  costs-step h = let e : m ≡ suc (m - 1) = omega arith in inv ∙ ap (costsGood s k) e
 
-  pub costs-bad : (n : ℕ) → n ≡ unitsOf s → k < m → 60000 < u16At s (1 + n + 2 * k) → false ≡ w
-  costs-bad n e h l = let g : 60000 < costAt s k = rw e at l in sym (costs-step h ∙ rw (lt-leb (costAt s k) 60000 g))
+  pub costs-bad : 0 < m → pairLimit < u16At s k → false ≡ w
+  costs-bad h l = sym (costs-step h ∙ rw (lt-leb (u16At s k) pairLimit l))
 
-  pub costs-next : (n : ℕ) → n ≡ unitsOf s → k < m → u16At s (1 + n + 2 * k) ≤ 60000 → w ≡ costsGood s (k + 1) (m - (k + 1))
-  costs-next n e h l = let g : costAt s k ≤ 60000 = rw e at l in costs-step h ∙ rw (le-leb (costAt s k) 60000 g)
+  pub costs-next : 0 < m → u16At s k ≤ pairLimit → w ≡ costsGood s (k + 2) (m - 1)
+  costs-next h l = costs-step h ∙ rw (le-leb (u16At s k) pairLimit l)
 
-  pub costs-end : m ≤ k → true ≡ w
+  pub costs-past : length s ≤ k → true ≡ w
+  costs-past h = sym (inv ∙ costs-none s k m h)
+
+  pub costs-end : m ≡ 0 → true ≡ w
   unfolding costsGood
-  costs-end h = let e : m - k ≡ 0 = omega arith in sym (inv ∙ rw e)
+  costs-end e = sym (inv ∙ rw e)
+
+  -- a run of them
+  run-step : (a : ℕ) → a ≤ m → w ≡ (costsGood s k a && costsGood s (k + 2 * a) (m - a))
+  run-step a h = let e : m ≡ a + (m - a) = omega arith in inv ∙ ap (costsGood s k) e ∙ costs-split s k a (m - a)
+
+  pub run-bad : (a : ℕ) → a ≤ m → costsGood s k a ≡ false → false ≡ w
+  run-bad a h e = sym (run-step a h ∙ rw e)
+
+  pub run-next : (a : ℕ) → a ≤ m → costsGood s k a ≡ true → w ≡ costsGood s (k + 2 * a) (m - a)
+  run-next a h e = run-step a h ∙ rw e
 
 module _ (s : List ℕ) (n i : ℕ) (h : i < n) (l : 1 + i < length s) where
   sizes-more : take (i + 1) (take n (drop 1 s)) ≡ take i (take n (drop 1 s)) ++ (getD s (1 + i) 0 ∷ [])
@@ -149,13 +187,13 @@ module _ (s : List ℕ) (n : ℕ) (e : n ≡ unitsOf s) (some : eqb (length s) 0
         long : eqb (length s) (needed s) ≡ true
         long = eq-eqb (length s) (needed s) (rw e at l)
 
-        pub refused-cost : costsGood s 0 (pairsIn (take n (drop 1 s))) ≡ false → 7 ≡ streamRefusal s
+        pub refused-cost : costsGood s (1 + n) (pairsIn (take n (drop 1 s))) ≡ false → 7 ≡ streamRefusal s
         unfolding streamRefusal shapeGood
-        refused-cost g = let f : costsGood s 0 (pairsIn (sizesOf s)) ≡ false = rw e at g in simp (some, units, sizes, long, f)
+        refused-cost g = let f : costsGood s (1 + unitsOf s) (pairsIn (sizesOf s)) ≡ false = rw e at g in simp (some, units, sizes, long, f)
 
-        pub accepted-by-tests : costsGood s 0 (pairsIn (take n (drop 1 s))) ≡ true → 0 ≡ streamRefusal s
+        pub accepted-by-tests : costsGood s (1 + n) (pairsIn (take n (drop 1 s))) ≡ true → 0 ≡ streamRefusal s
         unfolding streamRefusal shapeGood
-        accepted-by-tests g = let f : costsGood s 0 (pairsIn (sizesOf s)) ≡ true = rw e at g in simp (some, units, sizes, long, f)
+        accepted-by-tests g = let f : costsGood s (1 + unitsOf s) (pairsIn (sizesOf s)) ≡ true = rw e at g in simp (some, units, sizes, long, f)
 
 -- ---- an accepted stream
 
@@ -168,9 +206,9 @@ passed false true true false h = absurd (omega arith)
 passed false true true true h = (refl, refl, refl, refl)
 
 module _ (s : List ℕ) (ok : Accepted s) where
-  tests : (eqb (length s) 0 ≡ false) × (shapeGood (unitsOf s) (drop 1 s) ≡ true) × (eqb (length s) (needed s) ≡ true) × (costsGood s 0 (pairsIn (sizesOf s)) ≡ true)
+  tests : (eqb (length s) 0 ≡ false) × (shapeGood (unitsOf s) (drop 1 s) ≡ true) × (eqb (length s) (needed s) ≡ true) × (costsGood s (1 + unitsOf s) (pairsIn (sizesOf s)) ≡ true)
   unfolding Accepted streamRefusal
-  tests = passed (eqb (length s) 0) (shapeGood (unitsOf s) (drop 1 s)) (eqb (length s) (needed s)) (costsGood s 0 (pairsIn (sizesOf s))) ok
+  tests = passed (eqb (length s) 0) (shapeGood (unitsOf s) (drop 1 s)) (eqb (length s) (needed s)) (costsGood s (1 + unitsOf s) (pairsIn (sizesOf s))) ok
 
   -- n and the sizes pass base's test
   pub accepted-shape : shapeGood (unitsOf s) (drop 1 s) ≡ true
@@ -199,15 +237,15 @@ module _ (s : List ℕ) (ok : Accepted s) where
       rw (← getD-drop 1 s k 0) (shape-size (unitsOf s) (drop 1 s) (tests .1) l k h)
 
   -- each cost is at most 60,000
-  pub accepted-cost : (k : ℕ) → k < pairsIn (sizesOf s) → costAt s k ≤ 60000
-  accepted-cost k h = rw zero-add at (costs-at s 0 (pairsIn (sizesOf s)) (tests .3) k h)
+  pub accepted-cost : (k : ℕ) → k < pairsIn (sizesOf s) → costAt s k ≤ pairLimit
+  accepted-cost k h = costs-at s (1 + unitsOf s) (pairsIn (sizesOf s)) (tests .3) k h
 
   -- and lies inside the stream
   pub accepted-cost-inside : (k : ℕ) → k < pairsIn (sizesOf s) → 1 + unitsOf s + 2 * k + 1 < length s
   accepted-cost-inside k h = omega (arith, accepted-length)
 
   -- 01: "At most 61,457 bytes"
-  pub accepted-most : length s ≤ 61457
+  pub accepted-most : length s ≤ streamSize
   accepted-most =
       let u = accepted-units in
       let p = pairs-most (sizesOf s) accepted-all in

@@ -1,29 +1,25 @@
 // The stored table: blocks of 512 bytes, and the stream that their payloads join to.
 
+use base::BLOCK_SIZE;
+use base::CHECKED_SIZE;
+use base::FILE_SIZE;
+use base::Length;
+use base::PAIR_LIMIT;
+use base::PAYLOAD_SIZE;
+use base::PLACES;
+use base::STREAM_SIZE;
 ghost use mathlib.Core.Path.{_≡_};
 ghost use mathlib.Core.Bool.{true, false};
 ghost use mathlib.Core.List.{_++_};
-ghost use Prim.Native.Nat.{_+_, _*_, _/_, _≤_, _<_, min};
+ghost use Prim.Native.Nat.{_+_, _*_, _/_, _%_, _≤_, _<_, min};
 ghost use lib.ListN.{length, getD, take, drop, replicate};
-ghost use Rattle.base.specs.Bytes.{u16At, le16};
+ghost use Rattle.base.specs.Bytes.{le16};
+ghost use Rattle.base.specs.Put.{putAt};
 ghost use Rattle.base.specs.Shape.{allInSixteen};
-ghost use Rattle.table.specs.Stream.{unitsOf, pairsIn, costsGood, streamRefusal};
+ghost use Rattle.table.specs.Stream.{pairsIn, costsGood, streamRefusal};
 ghost use Rattle.table.specs.Block.{countGood, allZero, blockRefusal, readBlockOf, blockOf};
-ghost use Rattle.table.specs.File.{sizeGood, blocksRefusal, streamOf, readRefusal, readOf, readInto, blocksFor, fileFrom, writeRefusal, writeOf, writeInto};
-ghost use Rattle.table.specs.Put.{putAt};
-ghost use Rattle.table.specs.View.{viewOf, Viewed};
-
-// The answer of a reading: the refusal, or 0 and the stream's length.
-pub struct ReadTable {
-    pub refusal: u8,
-    pub length: usize,
-}
-
-// The answer of a writing: the refusal, or 0 and the file's length.
-pub struct Written {
-    pub refusal: u8,
-    pub length: usize,
-}
+ghost use Rattle.table.specs.File.{sizeGood, blocksRefusal, streamOf, readRefusal, readOf, readInto, blocksFor, fileFrom, storeRefusal, storeOf, storeInto};
+ghost use Rattle.table.specs.View.{streamIn, placeInFile, Viewed};
 
 // ---- public calls
 
@@ -42,10 +38,10 @@ pub fn read_block<'a>(block: &'a [u8], number: u16, last: bool) -> &'a [u8]
 pub fn block_refusal(block: &[u8], number: u16, last: bool) -> u8
     ensures { λ r. ⌜ r ≡ blockRefusal number last (now (block .entry)) ⌝ }
 {
-    if block.len() != 512 {
+    if block.len() != BLOCK_SIZE {
         return 1;
     }
-    if base::u16_at(block, 510) != checksum::sum(&block[0..510]) {
+    if base::u16_at(block, CHECKED_SIZE) != checksum::sum(&block[0..CHECKED_SIZE]) {
         return 4;
     }
     if base::u16_at(block, 0) != number as u32 {
@@ -62,34 +58,34 @@ pub fn block_refusal(block: &[u8], number: u16, last: bool) -> u8
 }
 
 // The stream of a stored table into the lent buffer: validated whole, then written, so a refusal leaves the buffer as it was.
-pub fn read(file: &[u8], stream: &mut [u8]) -> ReadTable
+pub fn read(file: &[u8], stream: &mut [u8]) -> Length
     ensures { λ r. ⌜ (r ≡ readOf (now (file .entry)) (length (now (stream .entry)))) × (now (stream .exit) ≡ readInto (now (file .entry)) (now (stream .entry))) ⌝ }
 {
     let refusal = read_refusal(file, stream.len());
     if refusal != 0 {
-        return ReadTable { refusal, length: 0 };
+        return Length { refusal, length: 0 };
     }
     let count = stream_length(file);
-    copy_stream(file, count, stream);
-    ReadTable {
+    copy_blocks(file, stream);
+    Length {
         refusal: 0,
         length: count,
     }
 }
 
 // The file of a stream into the lent buffer; a refusal, and the buffer's bytes past the file, leave it as it was.
-pub fn write(stream: &[u8], file: &mut [u8]) -> Written
-    ensures { λ r. ⌜ (r ≡ writeOf (now (stream .entry)) (length (now (file .entry)))) × (now (file .exit) ≡ writeInto (now (stream .entry)) (now (file .entry))) ⌝ }
+pub fn write(stream: &[u8], file: &mut [u8]) -> Length
+    ensures { λ r. ⌜ (r ≡ storeOf (now (stream .entry)) (length (now (file .entry)))) × (now (file .exit) ≡ storeInto (now (stream .entry)) (now (file .entry))) ⌝ }
 {
     let refusal = write_refusal(stream, file.len());
     if refusal != 0 {
-        return Written { refusal, length: 0 };
+        return Length { refusal, length: 0 };
     }
-    let blocks = (stream.len() + 505) / 506;
+    let blocks = blocks_for(stream.len());
     write_blocks(stream, blocks, file);
-    Written {
+    Length {
         refusal: 0,
-        length: 512 * blocks,
+        length: BLOCK_SIZE * blocks,
     }
 }
 
@@ -100,6 +96,25 @@ pub fn stream_refusal(stream: &[u8]) -> u8
     view_refusal(stream, false, stream.len())
 }
 
+// Whether the `count` costs that stand in `bytes` from byte `from` on are within the limit; bytes past the end count as 0.
+pub fn costs_good(bytes: &[u8], from: usize, count: usize) -> bool
+    ensures { λ r. ⌜ r ≡ costsGood (now (bytes .entry)) from count ⌝ }
+{
+    let mut at = from;
+    let mut left = count;
+    while 0 < left {
+        if bytes.len() <= at {
+            return true;
+        }
+        if PAIR_LIMIT < base::u16_at(bytes, at) {
+            return false;
+        }
+        at += 2;
+        left -= 1;
+    }
+    true
+}
+
 // ---- blocks
 
 // Whether a payload count fits the block's place: 506, or 1 to 506 in the last.
@@ -107,12 +122,9 @@ fn count_good(last: bool, count: usize) -> bool
     ensures { λ r. ⌜ r ≡ countGood last count ⌝ }
 {
     if last {
-        if count < 1 {
-            return false;
-        }
-        return count <= 506;
+        return base::is_value(PAYLOAD_SIZE, count);
     }
-    count == 506
+    count == PAYLOAD_SIZE
 }
 
 // Whether the payload bytes after the count are zero.
@@ -121,7 +133,7 @@ fn unused_zero(block: &[u8], count: usize) -> bool
     ensures { λ r. ⌜ r ≡ allZero (drop (4 + count) (take 510 (now (block .entry)))) ⌝ }
 {
     let mut k = 4 + count;
-    while k < 510 {
+    while k < CHECKED_SIZE {
         if block[k] != 0 {
             return false;
         }
@@ -136,7 +148,7 @@ fn unused_zero(block: &[u8], count: usize) -> bool
 fn read_refusal(file: &[u8], room: usize) -> u8
     ensures { λ r. ⌜ r ≡ readRefusal (now (file .entry)) room ⌝ }
 {
-    if room < 61457 {
+    if room < STREAM_SIZE {
         return 13;
     }
     if !size_good(file.len()) {
@@ -156,10 +168,10 @@ fn size_good(length: usize) -> bool
     if length == 0 {
         return false;
     }
-    if length % 512 != 0 {
+    if length % BLOCK_SIZE != 0 {
         return false;
     }
-    length <= 62464
+    length <= FILE_SIZE
 }
 
 // The first refusal of a file's blocks, or 0.
@@ -167,11 +179,11 @@ fn blocks_refusal(file: &[u8]) -> u8
     requires { ⌜ sizeGood (length (now file)) ≡ true ⌝ }
     ensures { λ r. ⌜ r ≡ blocksRefusal 0 (length (now (file .entry)) / 512) (now (file .entry)) ⌝ }
 {
-    let blocks = file.len() / 512;
+    let blocks = file.len() / BLOCK_SIZE;
     let mut k = 0;
     while k < blocks {
-        let start = 512 * k;
-        let end = start + 512;
+        let start = BLOCK_SIZE * k;
+        let end = start + BLOCK_SIZE;
         let refusal = block_refusal(&file[start..end], k as u16, k + 1 == blocks);
         if refusal != 0 {
             return refusal;
@@ -186,18 +198,22 @@ fn stream_length(file: &[u8]) -> usize
     requires { ⌜ (sizeGood (length (now file)) ≡ true) × (blocksRefusal 0 (length (now file) / 512) (now file) ≡ 0) ⌝ }
     ensures { λ r. ⌜ r ≡ length (streamOf (now (file .entry))) ⌝ }
 {
-    let before = file.len() / 512 - 1;
-    506 * before + base::u16_at(file, 512 * before + 2) as usize
+    let before = file.len() / BLOCK_SIZE - 1;
+    PAYLOAD_SIZE * before + base::u16_at(file, BLOCK_SIZE * before + 2) as usize
 }
 
-// The stream of a file with accepted blocks, to the front of `out`.
-fn copy_stream(file: &[u8], count: usize, out: &mut [u8])
-    requires { ⌜ Viewed true (now file) count × (count ≤ 61457) × (count ≤ length (now out)) ⌝ }
-    ensures { λ r. ⌜ now (out .exit) ≡ streamOf (now (file .entry)) ++ drop count (now (out .entry)) ⌝ }
+// The payloads of a file with accepted blocks, one behind the other, to the front of `out`.
+fn copy_blocks(file: &[u8], out: &mut [u8])
+    requires { ⌜ (sizeGood (length (now file)) ≡ true) × (blocksRefusal 0 (length (now file) / 512) (now file) ≡ 0) × (length (streamOf (now file)) ≤ length (now out)) ⌝ }
+    ensures { λ r. ⌜ now (out .exit) ≡ streamOf (now (file .entry)) ++ drop (length (streamOf (now (file .entry)))) (now (out .entry)) ⌝ }
 {
+    let blocks = file.len() / BLOCK_SIZE;
     let mut k = 0;
-    while k < count {
-        out[k] = view_byte(file, true, count, k) as u8;
+    while k < blocks {
+        let start = BLOCK_SIZE * k;
+        let end = start + BLOCK_SIZE;
+        let payload = read_block(&file[start..end], k as u16, k + 1 == blocks);
+        put(out, PAYLOAD_SIZE * k, payload);
         k += 1;
     }
 }
@@ -206,16 +222,24 @@ fn copy_stream(file: &[u8], count: usize, out: &mut [u8])
 
 // The refusal of writing a stream into a buffer of `room` bytes, or 0.
 fn write_refusal(stream: &[u8], room: usize) -> u8
-    ensures { λ r. ⌜ r ≡ writeRefusal (now (stream .entry)) room ⌝ }
+    ensures { λ r. ⌜ r ≡ storeRefusal (now (stream .entry)) room ⌝ }
 {
     let refusal = stream_refusal(stream);
     if refusal != 0 {
         return refusal;
     }
-    if room < 512 * ((stream.len() + 505) / 506) {
+    if room < BLOCK_SIZE * blocks_for(stream.len()) {
         return 13;
     }
     0
+}
+
+// How many blocks carry so many bytes.
+fn blocks_for(length: usize) -> usize
+    requires { ⌜ length ≤ 61457 ⌝ }
+    ensures { λ r. ⌜ r ≡ blocksFor length ⌝ }
+{
+    (length + (PAYLOAD_SIZE - 1)) / PAYLOAD_SIZE
 }
 
 // The blocks of a stream, to the front of `file`.
@@ -225,10 +249,10 @@ fn write_blocks(stream: &[u8], blocks: usize, file: &mut [u8])
 {
     let mut k = 0;
     while k < blocks {
-        let from = 506 * k;
-        let to = smaller(from + 506, stream.len());
-        let start = 512 * k;
-        let end = start + 512;
+        let from = PAYLOAD_SIZE * k;
+        let to = smaller(from + PAYLOAD_SIZE, stream.len());
+        let start = BLOCK_SIZE * k;
+        let end = start + BLOCK_SIZE;
         fill_block(&mut file[start..end], k as u16, &stream[from..to]);
         k += 1;
     }
@@ -244,9 +268,9 @@ fn fill_block(block: &mut [u8], number: u16, payload: &[u8])
     put_u16(block, 2, count as u32);
     put(block, 4, payload);
     let used = 4 + count;
-    put_zeros(block, used, 510 - used);
-    let check = checksum::sum(&block[0..510]);
-    put_u16(block, 510, check);
+    put_zeros(block, used, CHECKED_SIZE - used);
+    let check = checksum::sum(&block[0..CHECKED_SIZE]);
+    put_u16(block, CHECKED_SIZE, check);
 }
 
 // The two bytes of a number, at a place.
@@ -296,16 +320,13 @@ fn smaller(a: usize, b: usize) -> usize
 // The refusal 5, 6 or 7 of the stream of `count` bytes that lies in `bytes`, plain or in blocks.
 fn view_refusal(bytes: &[u8], blocked: bool, count: usize) -> u8
     requires { ⌜ Viewed blocked (now bytes) count ⌝ }
-    ensures { λ r. ⌜ r ≡ streamRefusal (viewOf blocked (now (bytes .entry))) ⌝ }
+    ensures { λ r. ⌜ r ≡ streamRefusal (streamIn blocked (now (bytes .entry))) ⌝ }
 {
     if count == 0 {
         return 6;
     }
     let n = view_byte(bytes, blocked, count, 0);
-    if n < 1 {
-        return 5;
-    }
-    if 16 < n {
+    if !base::is_value(PLACES, n) {
         return 5;
     }
     if !sizes_good(bytes, blocked, count, n) {
@@ -318,7 +339,7 @@ fn view_refusal(bytes: &[u8], blocked: bool, count: usize) -> u8
     if count != 1 + n + 2 * pairs {
         return 6;
     }
-    if !costs_good(bytes, blocked, count, n, pairs) {
+    if !view_costs_good(bytes, blocked, count, 1 + n, pairs) {
         return 7;
     }
     0
@@ -327,18 +348,14 @@ fn view_refusal(bytes: &[u8], blocked: bool, count: usize) -> u8
 // Whether the sizes that are present, of n, are 1 to 16.
 fn sizes_good(bytes: &[u8], blocked: bool, count: usize, n: usize) -> bool
     requires { ⌜ Viewed blocked (now bytes) count × (n ≤ 16) ⌝ }
-    ensures { λ r. ⌜ r ≡ allInSixteen (take n (drop 1 (viewOf blocked (now (bytes .entry))))) ⌝ }
+    ensures { λ r. ⌜ r ≡ allInSixteen (take n (drop 1 (streamIn blocked (now (bytes .entry))))) ⌝ }
 {
     let mut i = 0;
     while i < n {
         if count <= 1 + i {
             return true;
         }
-        let size = view_byte(bytes, blocked, count, 1 + i);
-        if size < 1 {
-            return false;
-        }
-        if 16 < size {
+        if !base::is_value(PLACES, view_byte(bytes, blocked, count, 1 + i)) {
             return false;
         }
         i += 1;
@@ -349,7 +366,7 @@ fn sizes_good(bytes: &[u8], blocked: bool, count: usize, n: usize) -> bool
 // How many costs the n sizes need.
 fn pairs_in(bytes: &[u8], blocked: bool, count: usize, n: usize) -> usize
     requires { ⌜ Viewed blocked (now bytes) count × (n ≤ 16) × (1 + n ≤ count) ⌝ }
-    ensures { λ r. ⌜ (r ≡ pairsIn (take n (drop 1 (viewOf blocked (now (bytes .entry)))))) × (r < 33554432) ⌝ }
+    ensures { λ r. ⌜ (r ≡ pairsIn (take n (drop 1 (streamIn blocked (now (bytes .entry)))))) × (r < 33554432) ⌝ }
 {
     let mut earlier: usize = 0;
     let mut pairs: usize = 0;
@@ -363,36 +380,77 @@ fn pairs_in(bytes: &[u8], blocked: bool, count: usize, n: usize) -> usize
     pairs
 }
 
-// Whether all costs are at most 60,000.
-fn costs_good(bytes: &[u8], blocked: bool, count: usize, n: usize, pairs: usize) -> bool
-    requires { ⌜ Viewed blocked (now bytes) count × (n ≡ unitsOf (viewOf blocked (now bytes))) × (n ≤ 16) × (count ≡ 1 + n + 2 * pairs) × (pairs < 33554432) ⌝ }
-    ensures { λ r. ⌜ r ≡ costsGood (viewOf blocked (now (bytes .entry))) 0 pairs ⌝ }
+// Whether the costs from byte `from` of the stream on, its last bytes, are within the limit.
+fn view_costs_good(bytes: &[u8], blocked: bool, count: usize, from: usize, pairs: usize) -> bool
+    requires { ⌜ Viewed blocked (now bytes) count × (count ≡ from + 2 * pairs) × (count < 268435456) ⌝ }
+    ensures { λ r. ⌜ r ≡ costsGood (streamIn blocked (now (bytes .entry))) from pairs ⌝ }
 {
-    let mut k = 0;
-    while k < pairs {
-        if 60000 < view_u16(bytes, blocked, count, 1 + n + 2 * k) {
+    if blocked {
+        return file_costs_good(bytes, count, from, pairs);
+    }
+    costs_good(bytes, from, pairs)
+}
+
+// The same of a file, a run at a time of costs that stand in one block.
+fn file_costs_good(file: &[u8], count: usize, from: usize, pairs: usize) -> bool
+    requires { ⌜ Viewed true (now file) count × (count ≡ from + 2 * pairs) × (count < 268435456) ⌝ }
+    ensures { λ r. ⌜ r ≡ costsGood (streamOf (now (file .entry))) from pairs ⌝ }
+{
+    let mut at = from;
+    let mut left = pairs;
+    while 0 < left {
+        let run = run_at(at, left);
+        if !run_good(file, count, at, run) {
             return false;
         }
-        k += 1;
+        at += 2 * run;
+        left -= run;
     }
     true
 }
 
-// The 16-bit number at byte k of the stream.
-fn view_u16(bytes: &[u8], blocked: bool, count: usize, k: usize) -> usize
-    requires { ⌜ Viewed blocked (now bytes) count × (k + 1 < count) × (k < 134217728) ⌝ }
-    ensures { λ r. ⌜ (r ≡ u16At (viewOf blocked (now (bytes .entry))) k) × (r < 65536) ⌝ }
+// How many of the costs left from byte `at` of the stream on stand whole in its block; 1 for a cost that stands in two blocks.
+fn run_at(at: usize, left: usize) -> usize
+    requires { ⌜ 0 < left ⌝ }
+    ensures { λ r. ⌜ (1 ≤ r) × (r ≤ left) × (at % 506 < 505 → at % 506 + 2 * r ≤ 506) × (at % 506 ≡ 505 → r ≡ 1) ⌝ }
 {
-    view_byte(bytes, blocked, count, k) + 256 * view_byte(bytes, blocked, count, k + 1)
+    let inside = at % PAYLOAD_SIZE;
+    if inside + 1 == PAYLOAD_SIZE {
+        return 1;
+    }
+    smaller((PAYLOAD_SIZE - inside) / 2, left)
 }
 
-// Byte k of the stream: where it stands in the lent bytes is known here alone.
+// Whether such a run of costs is within the limit.
+fn run_good(file: &[u8], count: usize, at: usize, run: usize) -> bool
+    requires { ⌜ Viewed true (now file) count × (at + 2 * run ≤ count) × (count < 268435456) × (1 ≤ run) × (at % 506 < 505 → at % 506 + 2 * run ≤ 506) × (at % 506 ≡ 505 → run ≡ 1) ⌝ }
+    ensures { λ r. ⌜ r ≡ costsGood (streamOf (now (file .entry))) at run ⌝ }
+{
+    if at % PAYLOAD_SIZE + 1 == PAYLOAD_SIZE {
+        let cost = [
+            base::byte_at(file, place_in_file(at)),
+            base::byte_at(file, place_in_file(at + 1)),
+        ];
+        return costs_good(&cost, 0, 1);
+    }
+    costs_good(file, place_in_file(at), run)
+}
+
+// Byte k of the stream.
 fn view_byte(bytes: &[u8], blocked: bool, count: usize, k: usize) -> usize
     requires { ⌜ Viewed blocked (now bytes) count × (k < count) × (k < 268435456) ⌝ }
-    ensures { λ r. ⌜ (r ≡ getD (viewOf blocked (now (bytes .entry))) k 0) × (r < 256) ⌝ }
+    ensures { λ r. ⌜ (r ≡ getD (streamIn blocked (now (bytes .entry))) k 0) × (r < 256) ⌝ }
 {
     if blocked {
-        return base::wide_at(bytes, 512 * (k / 506) + 4 + k % 506) as usize;
+        return base::wide(base::byte_at(bytes, place_in_file(k)));
     }
-    base::wide_at(bytes, k) as usize
+    base::wide(base::byte_at(bytes, k))
+}
+
+// Where byte k of the stream stands in a file.
+fn place_in_file(k: usize) -> usize
+    requires { ⌜ k < 268435456 ⌝ }
+    ensures { λ r. ⌜ r ≡ placeInFile k ⌝ }
+{
+    BLOCK_SIZE * (k / PAYLOAD_SIZE) + 4 + k % PAYLOAD_SIZE
 }

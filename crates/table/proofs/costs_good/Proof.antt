@@ -1,60 +1,61 @@
--- `costs_good` meets its contract. The loop's invariant: the whole answer is that of the costs from number k on.
+-- `costs_good` meets its contract. The loop's invariant: the whole answer is that of the costs left from byte `at` on.
 -- Assumes nothing.
-use Prim.Native.Nat.{_≤_, _-_}
-use mathlib.Core.Path.{_≡_}
-use native.Mathlib.Nat.{sub-zero}
+use Prim.Native.Nat.{_≤_}
+use mathlib.Core.Path.{_≡_, refl}
 use native.Mathlib.Omega.{arith}
 use borrow.Author.Needs.{needs}
+use lib.ListN.{length}
 use Rattle.table.specs.Stream.{costsGood}
-use Rattle.table.specs.View.{viewOf}
-use Rattle.table.specs.StreamLaws.{costs-bad, costs-next, costs-end}
+use Rattle.table.specs.StreamLaws.{costs-bad, costs-next, costs-past, costs-end}
 use Rattle.table.proofs.costs_good.Statement.{statement}
 use Rattle.table.proofs.costs_good.Tie as tie
 
 abbrev Inv-loop : tie.InvT-loop
-Inv-loop bytes blocked count n pairs k₀ k = (k ≤ pairs) × (costsGood (viewOf blocked bytes) 0 pairs ≡ costsGood (viewOf blocked bytes) k (pairs - k))
+Inv-loop bytes from count at₀ left₀ at left = costsGood bytes from count ≡ costsGood bytes at left
 
 abbrev μ-loop : tie.MeasureT-loop
-μ-loop bytes blocked count n pairs k₀ k = pairs - k
+μ-loop bytes from count at₀ left₀ at left = left
 
 loop-holds : tie.Need-loop-holds Inv-loop μ-loop
-loop-holds c = (omega arith, rw sub-zero)
-
-add-view-u16 : tie.Need-add-view-u16 Inv-loop μ-loop
-add-view-u16 c = search needs
-
-mul-view-u16 : tie.Need-mul-view-u16 Inv-loop μ-loop
-mul-view-u16 c = search needs
-
-add-view-u16-2 : tie.Need-add-view-u16-2 Inv-loop μ-loop
-add-view-u16-2 c = search needs
-
-view-u16-requires : tie.Need-view-u16-requires Inv-loop μ-loop
-view-u16-requires c κs = search needs
+loop-holds c = refl
 
 returns : tie.Need-returns Inv-loop μ-loop
 returns c =
-    let st = c .before .before .before .before .before in
-    let l = c .before .before .before .loop in
-    costs-bad (viewOf (st .args .blocked) (st .args .bytes .now)) (l .k) (st .args .pairs) (l .inv .1) (st .args .n) (st .pre .1) (omega arith) (omega (arith, c .before .view-u16 .ensures .0))
+    let a = c .before .before .before .before .args in
+    let l = c .before .before .loop in
+    costs-past (a .bytes .now) (l .at) (l .left) (l .inv) (c .if1 .taken)
 
-add-k : tie.Need-add-k Inv-loop μ-loop
-add-k c = search needs
+u16-at-requires : tie.Need-u16-at-requires Inv-loop μ-loop
+u16-at-requires c κs = search needs
+
+returns-2 : tie.Need-returns-2 Inv-loop μ-loop
+returns-2 c =
+    let a = c .before .before .before .before .before .before .args in
+    let l = c .before .before .before .before .loop in
+    costs-bad (a .bytes .now) (l .at) (l .left) (l .inv) (omega arith) (omega (arith, c .before .u16-at .ensures .0))
+
+add-at : tie.Need-add-at Inv-loop μ-loop
+add-at c =
+    let st = c .before .before .before .before .before .before in
+    record { fits = omega (arith, st .good .0 .1) }
+
+sub-left : tie.Need-sub-left Inv-loop μ-loop
+sub-left c = search needs
 
 loop-less : tie.Need-loop-less Inv-loop μ-loop
 loop-less c = search needs
 
 loop-again : tie.Need-loop-again Inv-loop μ-loop
 loop-again c =
-    let st = c .before .before .before .before .before in
-    let l = c .before .before .before .loop in
-    (omega arith, costs-next (viewOf (st .args .blocked) (st .args .bytes .now)) (l .k) (st .args .pairs) (l .inv .1) (st .args .n) (st .pre .1) (omega arith) (omega (arith, c .before .view-u16 .ensures .0)))
+    let a = c .before .before .before .before .before .before .args in
+    let l = c .before .before .before .before .loop in
+    costs-next (a .bytes .now) (l .at) (l .left) (l .inv) (omega arith) (omega (arith, c .before .u16-at .ensures .0))
 
-returns-2 : tie.Need-returns-2 Inv-loop μ-loop
-returns-2 c =
-    let st = c .before .before .before in
+returns-3 : tie.Need-returns-3 Inv-loop μ-loop
+returns-3 c =
+    let a = c .before .before .before .args in
     let l = c .before .loop in
-    costs-end (viewOf (st .args .blocked) (st .args .bytes .now)) (l .k) (st .args .pairs) (l .inv .1) (omega arith)
+    costs-end (a .bytes .now) (l .at) (l .left) (l .inv) (omega arith)
 
 pub costs-good-spec : {M : Type 1} → statement M
 costs-good-spec =
@@ -63,12 +64,11 @@ costs-good-spec =
     Inv-loop
     μ-loop
     loop-holds
-    add-view-u16
-    mul-view-u16
-    add-view-u16-2
-    view-u16-requires
     returns
-    add-k
+    u16-at-requires
+    returns-2
+    add-at
+    sub-left
     loop-less
     loop-again
-    returns-2)
+    returns-3)

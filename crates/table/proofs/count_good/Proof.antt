@@ -1,17 +1,17 @@
 -- `count_good` meets its contract: each way out is one case of the definition.
 -- Assumes nothing.
-use borrow.Author.Tests.{lt-leb, le-leb}
+use borrow.Author.Needs.{needs}
 use Rattle.table.proofs.count_good.Statement.{statement}
 use Rattle.table.proofs.count_good.Tie as tie
 
+is-value-requires : tie.Need-is-value-requires
+is-value-requires c κs = search needs
+
 returns : tie.Need-returns
-returns c = simp (c .before .if1 .taken, lt-leb _ _ (c .if2 .taken))
+returns c = simp (c .before .if1 .taken, c .is-value .ensures)
 
 returns-2 : tie.Need-returns-2
-returns-2 c = simp (c .before .if1 .taken, le-leb _ _ (c .if2 .left))
-
-returns-3 : tie.Need-returns-3
-returns-3 c = simp (c .if1 .left)
+returns-2 c = simp (c .if1 .left)
 
 pub count-good-spec : {M : Type 1} → statement M
-count-good-spec = tie.close (tie.spec returns returns-2 returns-3)
+count-good-spec = tie.close (tie.spec is-value-requires returns returns-2)

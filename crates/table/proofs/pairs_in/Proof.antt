@@ -8,7 +8,7 @@ use borrow.Author.Needs.{needs}
 use lib.ListN.{length, take, drop}
 use lib.Seq.{take-take}
 use Rattle.table.specs.Stream.{sumList, pairsIn}
-use Rattle.table.specs.View.{viewOf}
+use Rattle.table.specs.View.{streamIn}
 use Rattle.table.specs.StreamLaws.{sum-more, pairs-more}
 use Rattle.table.proofs.pairs_in.Statement.{statement}
 use Rattle.table.proofs.pairs_in.Tie as tie
@@ -16,8 +16,8 @@ use Rattle.table.proofs.pairs_in.Tie as tie
 abbrev Inv-loop : tie.InvT-loop
 Inv-loop bytes blocked count n earlier₀ pairs₀ i₀ earlier pairs i =
     (i ≤ n) × (earlier ≤ 255 * i) × (pairs ≤ 1040400 * i)
-    × (earlier ≡ sumList (take i (take n (drop 1 (viewOf blocked bytes)))))
-    × (pairs ≡ pairsIn (take i (take n (drop 1 (viewOf blocked bytes)))))
+    × (earlier ≡ sumList (take i (take n (drop 1 (streamIn blocked bytes)))))
+    × (pairs ≡ pairsIn (take i (take n (drop 1 (streamIn blocked bytes)))))
 
 abbrev μ-loop : tie.MeasureT-loop
 μ-loop bytes blocked count n earlier₀ pairs₀ i₀ earlier pairs i = n - i
@@ -64,7 +64,7 @@ loop-again c =
     let d : c .view-byte .result ≤ 255 = omega arith in
     let p : l .earlier * c .view-byte .result ≤ 4080 * 255 = mul-le-mul b d in
     let st = c .before .before .before .before in
-    let s = viewOf (st .args .blocked) (st .args .bytes .now) in
+    let s = streamIn (st .args .blocked) (st .args .bytes .now) in
     let e = c .view-byte .ensures .0 in
     let h : l .i < st .args .n = omega arith in
     let k : 1 + l .i < length s = omega (arith, st .pre .0 .counted) in
@@ -75,7 +75,7 @@ returns c =
     let st = c .before .before .before in
     let l = c .before .loop in
     let e : l .i ≡ st .args .n = omega arith in
-    (l .inv .4 ∙ rw (e, take-take (st .args .n) (st .args .n) (drop 1 (viewOf (st .args .blocked) (st .args .bytes .now))) (le-refl (st .args .n))), omega arith)
+    (l .inv .4 ∙ rw (e, take-take (st .args .n) (st .args .n) (drop 1 (streamIn (st .args .blocked) (st .args .bytes .now))) (le-refl (st .args .n))), omega arith)
 
 pub pairs-in-spec : {M : Type 1} → statement M
 pairs-in-spec =

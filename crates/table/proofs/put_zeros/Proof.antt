@@ -6,7 +6,7 @@ use native.Mathlib.Omega.{arith}
 use borrow.Author.Needs.{needs}
 use lib.ListN.{length, getD, set, replicate, length-set, length-replicate, getD-replicate}
 use lib.Seq.{paste, paste-zero}
-use Rattle.table.specs.Put.{put-more, put-end}
+use Rattle.base.specs.Put.{paste-more, put-end}
 use Rattle.table.proofs.put_zeros.Statement.{statement}
 use Rattle.table.proofs.put_zeros.Tie as tie
 
@@ -37,7 +37,7 @@ loop-again c =
     let l = c .before .loop in
     let n : length {A = ℕ} (replicate (a .count) 0) ≡ a .count = length-replicate {A = ℕ} (a .count) 0 in
     let z : _≡_ {A = ℕ} (getD (replicate (a .count) 0) (l .i) 0) 0 = getD-replicate (a .count) (l .i) 0 0 (omega arith) in
-    (omega arith, simp length-set (l .inv .1), rw (l .inv .2) (ap (λ (x : ℕ). set (paste (a .out .now) (a .at) (replicate (a .count) 0) (l .i)) (a .at + l .i) x) (sym z) ∙ put-more (a .out .now) (replicate (a .count) 0) (a .at) (l .i) (omega arith) (omega arith)))
+    (omega arith, simp length-set (l .inv .1), rw (l .inv .2) (ap (λ (x : ℕ). set (paste (a .out .now) (a .at) (replicate (a .count) 0) (l .i)) (a .at + l .i) x) (sym z) ∙ paste-more (a .out .now) (a .at) (replicate (a .count) 0) (l .i) (omega arith) (omega arith)))
 
 same-length : tie.Need-same-length Inv-loop μ-loop
 same-length c = search needs

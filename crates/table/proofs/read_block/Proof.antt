@@ -3,7 +3,7 @@
 use mathlib.Core.Path.{_≡_, sym, _∙_, ap}
 use Prim.Native.Nat.{ℕ, _+_, _-_}
 use lib.ListN.{take, drop}
-use Rattle.table.specs.Block.{countOf}
+use Rattle.table.specs.Block.{payloadCount}
 use native.Mathlib.Omega.{arith}
 use Rattle.table.specs.BlockLaws.{block-size, block-most, read-refused, read-accepted}
 use borrow.Author.Needs.{needs}
@@ -53,7 +53,7 @@ returns-2 c =
     let a = c .before .before .before .before .before .args in
     let b = a .block .now in
     let ok = sym (c .before .before .before .block-refusal .ensures) ∙ c .before .before .if1 .left in
-    let e : 4 + c .before .u16-at .result - 4 ≡ countOf b = omega (arith, c .before .u16-at .ensures .0) in
+    let e : 4 + c .before .u16-at .result - 4 ≡ payloadCount b = omega (arith, c .before .u16-at .ensures .0) in
     ap (λ (n : ℕ). take n (drop 4 b)) e ∙ read-accepted (a .number) (a .last) b ok
 
 pub read-block-spec : {M : Type 1} → statement M

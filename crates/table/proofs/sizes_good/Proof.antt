@@ -1,18 +1,20 @@
 -- `sizes_good` meets its contract. The loop's invariant: the whole answer is that of the sizes from place i on.
 -- Assumes nothing.
 use Prim.Native.Nat.{_≤_, _-_, _+_}
-use mathlib.Core.Path.{_≡_}
+use mathlib.Core.Path.{_≡_, sym, ap, _∙_}
+use mathlib.Core.Bool.{true, false}
 use native.Mathlib.Omega.{arith}
 use borrow.Author.Needs.{needs}
+use borrow.Author.Tests.{not-true, not-false}
 use lib.ListN.{take, drop, getD}
-use Rattle.base.specs.Shape.{allInSixteen, range-in}
-use Rattle.table.specs.View.{viewOf}
-use Rattle.table.specs.StreamLaws.{below-range, above-range, sizes-bad, sizes-next, sizes-end}
+use Rattle.base.specs.Shape.{inSixteen, allInSixteen}
+use Rattle.table.specs.View.{streamIn}
+use Rattle.table.specs.StreamLaws.{sizes-bad, sizes-next, sizes-end}
 use Rattle.table.proofs.sizes_good.Statement.{statement}
 use Rattle.table.proofs.sizes_good.Tie as tie
 
 abbrev Inv-loop : tie.InvT-loop
-Inv-loop bytes blocked count n i₀ i = (i ≤ n) × (allInSixteen (take n (drop 1 (viewOf blocked bytes))) ≡ allInSixteen (drop i (take n (drop 1 (viewOf blocked bytes)))))
+Inv-loop bytes blocked count n i₀ i = (i ≤ n) × (allInSixteen (take n (drop 1 (streamIn blocked bytes))) ≡ allInSixteen (drop i (take n (drop 1 (streamIn blocked bytes)))))
 
 abbrev μ-loop : tie.MeasureT-loop
 μ-loop bytes blocked count n i₀ i = n - i
@@ -27,7 +29,7 @@ returns : tie.Need-returns Inv-loop μ-loop
 returns c =
     let st = c .before .before .before .before in
     let l = c .before .before .loop in
-    sizes-end (viewOf (st .args .blocked) (st .args .bytes .now)) (st .args .n) (l .i) (l .inv .1) (omega (arith, st .pre .0 .counted))
+    sizes-end (streamIn (st .args .blocked) (st .args .bytes .now)) (st .args .n) (l .i) (l .inv .1) (omega (arith, st .pre .0 .counted))
 
 add-view-byte : tie.Need-add-view-byte Inv-loop μ-loop
 add-view-byte c = search needs
@@ -35,19 +37,16 @@ add-view-byte c = search needs
 view-byte-requires : tie.Need-view-byte-requires Inv-loop μ-loop
 view-byte-requires c κs = search needs
 
+is-value-requires : tie.Need-is-value-requires Inv-loop μ-loop
+is-value-requires c κs = search needs
+
 returns-2 : tie.Need-returns-2 Inv-loop μ-loop
 returns-2 c =
-    let st = c .before .before .before .before .before .before in
-    let l = c .before .before .before .before .loop in
-    let s = viewOf (st .args .blocked) (st .args .bytes .now) in
-    sizes-bad s (st .args .n) (l .i) (l .inv .1) (omega arith) (omega (arith, st .pre .0 .counted)) (below-range (getD s (1 + l .i) 0) (omega (arith, c .before .view-byte .ensures .0)))
-
-returns-3 : tie.Need-returns-3 Inv-loop μ-loop
-returns-3 c =
     let st = c .before .before .before .before .before .before .before in
     let l = c .before .before .before .before .before .loop in
-    let s = viewOf (st .args .blocked) (st .args .bytes .now) in
-    sizes-bad s (st .args .n) (l .i) (l .inv .1) (omega arith) (omega (arith, st .pre .0 .counted)) (above-range (getD s (1 + l .i) 0) (omega (arith, c .before .before .view-byte .ensures .0)))
+    let s = streamIn (st .args .blocked) (st .args .bytes .now) in
+    let e : inSixteen (getD s (1 + l .i) 0) ≡ false = ap inSixteen (sym (c .before .before .view-byte .ensures .0)) ∙ sym (c .before .is-value .ensures) ∙ not-true _ (c .if2 .taken) in
+    sizes-bad s (st .args .n) (l .i) (l .inv .1) (omega arith) (omega (arith, st .pre .0 .counted)) e
 
 add-i : tie.Need-add-i Inv-loop μ-loop
 add-i c = search needs
@@ -59,15 +58,15 @@ loop-again : tie.Need-loop-again Inv-loop μ-loop
 loop-again c =
     let st = c .before .before .before .before .before .before .before in
     let l = c .before .before .before .before .before .loop in
-    let s = viewOf (st .args .blocked) (st .args .bytes .now) in
-    let e = c .before .before .view-byte .ensures .0 in
-    (omega arith, sizes-next s (st .args .n) (l .i) (l .inv .1) (omega arith) (omega (arith, st .pre .0 .counted)) (range-in (getD s (1 + l .i) 0) (omega arith) (omega arith)))
+    let s = streamIn (st .args .blocked) (st .args .bytes .now) in
+    let e : inSixteen (getD s (1 + l .i) 0) ≡ true = ap inSixteen (sym (c .before .before .view-byte .ensures .0)) ∙ sym (c .before .is-value .ensures) ∙ not-false _ (c .if2 .left) in
+    (omega arith, sizes-next s (st .args .n) (l .i) (l .inv .1) (omega arith) (omega (arith, st .pre .0 .counted)) e)
 
-returns-4 : tie.Need-returns-4 Inv-loop μ-loop
-returns-4 c =
+returns-3 : tie.Need-returns-3 Inv-loop μ-loop
+returns-3 c =
     let st = c .before .before .before in
     let l = c .before .loop in
-    sizes-end (viewOf (st .args .blocked) (st .args .bytes .now)) (st .args .n) (l .i) (l .inv .1) (omega arith)
+    sizes-end (streamIn (st .args .blocked) (st .args .bytes .now)) (st .args .n) (l .i) (l .inv .1) (omega arith)
 
 pub sizes-good-spec : {M : Type 1} → statement M
 sizes-good-spec =
@@ -80,9 +79,9 @@ sizes-good-spec =
     returns
     add-view-byte
     view-byte-requires
+    is-value-requires
     returns-2
-    returns-3
     add-i
     loop-less
     loop-again
-    returns-4)
+    returns-3)

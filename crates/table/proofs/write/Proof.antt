@@ -1,9 +1,11 @@
 -- `write` meets its contract: refused, nothing is written; accepted, the file stands in front of what was there.
 -- Assumes nothing.
-use mathlib.Core.Path.{refl, sym, _∙_}
-use lib.ListN.{length}
-use Rattle.table.specs.FileLaws.{write-most, write-room, written-refused, kept-refused, written-accepted, kept-accepted}
+use mathlib.Core.Path.{_≡_, sym, ap, _∙_}
+use native.Mathlib.Omega.{arith}
 use borrow.Author.Needs.{needs}
+use lib.ListN.{length}
+use Rattle.table.specs.File.{fileOf, storeRefusal, storeOf, storeInto}
+use Rattle.table.specs.FileLaws.{write-most, write-room, written-length, file-in-front, gives-refused, gives-accepted}
 use Rattle.table.proofs.write.Statement.{statement}
 use Rattle.table.proofs.write.Tie as tie
 
@@ -11,23 +13,23 @@ write-refusal-requires : tie.Need-write-refusal-requires
 write-refusal-requires c κs = search needs
 
 returns : tie.Need-returns
+unfolding storeOf storeInto
 returns c =
     let a = c .before .before .before .before .args in
-    let r = c .before .write-refusal .result in
-    let e = c .before .write-refusal .ensures in
-    (written-refused (a .stream .now) (a .file .now) r e (c .if1 .taken), kept-refused (a .stream .now) (a .file .now) r e (c .if1 .taken))
+    let r = c .before .write-refusal in
+    gives-refused (storeRefusal (a .stream .now) (length (a .file .now))) (r .result) (r .ensures) (length (fileOf (a .stream .now))) (fileOf (a .stream .now)) (a .file .now) (c .if1 .taken)
 
-add-blocks : tie.Need-add-blocks
-add-blocks c = search needs
+blocks-for-requires : tie.Need-blocks-for-requires
+blocks-for-requires c κs =
+    let a = c .before .before .before .before .args in
+    write-most (a .stream .now) (length (a .file .now)) (sym (c .before .write-refusal .ensures) ∙ c .if1 .left)
 
 write-blocks-requires : tie.Need-write-blocks-requires
 write-blocks-requires c κs =
-    let x = c .before in
+    let x = c .before .before in
     let a = x .before .before .before .before .args in
-    let s = a .stream .now in
-    let o = a .file .now in
     let ok = sym (x .before .write-refusal .ensures) ∙ x .if1 .left in
-    (write-most s (length o) ok, refl, write-room s (length o) ok)
+    (write-most (a .stream .now) (length (a .file .now)) ok, c .before .blocks-for .ensures, rw (c .before .blocks-for .ensures) (write-room (a .stream .now) (length (a .file .now)) ok))
 
 mul-t5 : tie.Need-mul-t5
 mul-t5 c = search needs
@@ -36,15 +38,15 @@ same-length : tie.Need-same-length
 same-length c = search needs
 
 returns-2 : tie.Need-returns-2
+unfolding storeOf storeInto
 returns-2 c =
-    let x = c .before .before .before .before in
+    let x = c .before .before .before .before .before in
     let a = x .before .before .before .before .args in
     let s = a .stream .now in
-    let o = a .file .now in
-    let ok = sym (x .before .write-refusal .ensures) ∙ x .if1 .left in
-    let r = x .before .write-refusal .result in
-    let e = x .before .write-refusal .ensures in
-    (written-accepted s o r e (x .if1 .left), c .before .before .write-blocks .ensures ∙ kept-accepted s o r e (x .if1 .left))
+    let r = x .before .write-refusal in
+    let b = c .before .before .before .before .blocks-for .ensures in
+    let g = gives-accepted (storeRefusal s (length (a .file .now))) (r .result) (r .ensures) (length (fileOf s)) (fileOf s) (a .file .now) (x .if1 .left) in
+    (rw (b, ← written-length s) (g .0), c .before .before .write-blocks .ensures ∙ rw b (file-in-front s (a .file .now)) ∙ g .1)
 
 pub write-spec : {M : Type 1} → statement M
 write-spec =
@@ -52,7 +54,7 @@ write-spec =
     (tie.spec
     write-refusal-requires
     returns
-    add-blocks
+    blocks-for-requires
     write-blocks-requires
     mul-t5
     same-length

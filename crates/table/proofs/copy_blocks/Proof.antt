@@ -1,0 +1,110 @@
+-- `copy_blocks` meets its contract. The loop's invariant: the first k payloads joined, then the buffer as it was.
+-- Assumes nothing.
+use Prim.Native.Nat.{_≤_, _+_, _*_, _-_, _/_}
+use mathlib.Core.Path.{_≡_, refl, _∙_}
+use mathlib.Core.List.{_++_}
+use native.Mathlib.Omega.{arith}
+use borrow.Author.Needs.{needs}
+use lib.ListN.{length, drop}
+use Rattle.table.specs.File.{joined, streamOf}
+use Rattle.table.specs.FileLaws.{good-size, payload-read, payload-fits, payload-put}
+use Rattle.table.proofs.copy_blocks.Statement.{statement}
+use Rattle.table.proofs.copy_blocks.Tie as tie
+
+abbrev Inv-loop : tie.InvT-loop
+Inv-loop file out₀ blocks k₀ out k = (k ≤ blocks) × (length out ≡ length out₀) × (out ≡ joined k file ++ drop (length (joined k file)) out₀)
+
+abbrev μ-loop : tie.MeasureT-loop
+μ-loop file out₀ blocks k₀ out k = blocks - k
+
+loop-holds : tie.Need-loop-holds Inv-loop μ-loop
+unfolding joined
+loop-holds c = (omega arith, refl, refl)
+
+mul-start : tie.Need-mul-start Inv-loop μ-loop
+mul-start c = search needs
+
+add-end : tie.Need-add-end Inv-loop μ-loop
+add-end c = search needs
+
+sub-read-block : tie.Need-sub-read-block Inv-loop μ-loop
+sub-read-block c = search needs
+
+part-read-block-start : tie.Need-part-read-block-start Inv-loop μ-loop
+part-read-block-start c = search needs
+
+part-read-block-end : tie.Need-part-read-block-end Inv-loop μ-loop
+part-read-block-end c = search needs
+
+cast-read-block : tie.Need-cast-read-block Inv-loop μ-loop
+cast-read-block c =
+    let st = c .before .before .before .before .before in
+    record { fits = omega (arith, good-size (length (st .args .file .now)) (st .pre .0)) }
+
+add-read-block : tie.Need-add-read-block Inv-loop μ-loop
+add-read-block c = search needs
+
+read-block-requires : tie.Need-read-block-requires Inv-loop μ-loop
+read-block-requires c κs = search needs
+
+mul-put : tie.Need-mul-put Inv-loop μ-loop
+mul-put c = search needs
+
+put-requires : tie.Need-put-requires Inv-loop μ-loop
+unfolding streamOf
+put-requires c κs =
+    let st = c .before .before .before .before .before .before .before in
+    let l = c .before .before .before .before .loop in
+    let f = st .args .file .now in
+    let p = payload-read f (length f / 512) (l .k) (st .pre .1) (omega arith) (512 * l .k + 512 - 512 * l .k) (c .before .read-block .result .now) (omega arith) (c .before .read-block .ensures) in
+    let h = payload-fits f (length f / 512) (l .k) (st .pre .1) (omega arith) (c .before .read-block .result .now) p in
+    search needs
+
+add-k : tie.Need-add-k Inv-loop μ-loop
+add-k c = search needs
+
+loop-less : tie.Need-loop-less Inv-loop μ-loop
+loop-less c = search needs
+
+loop-again : tie.Need-loop-again Inv-loop μ-loop
+loop-again c =
+    let st = c .before .before .before .before .before .before .before .before .before .before in
+    let l = c .before .before .before .before .before .before .before .loop in
+    let f = st .args .file .now in
+    let r = c .before .before .before .before .read-block in
+    let p = payload-read f (length f / 512) (l .k) (st .pre .1) (omega arith) (512 * l .k + 512 - 512 * l .k) (r .result .now) (omega arith) (r .ensures) in
+    (omega arith, search needs, c .before .before .put .ensures ∙ payload-put f (length f / 512) (l .k) (st .pre .1) (omega arith) (st .args .out .now) (r .result .now) (l .out) p (l .inv .2))
+
+same-length : tie.Need-same-length Inv-loop μ-loop
+same-length c = search needs
+
+returns : tie.Need-returns Inv-loop μ-loop
+unfolding streamOf
+returns c =
+    let st = c .before .before .before .before in
+    let l = c .before .loop in
+    let e : l .k ≡ length (st .args .file .now) / 512 = omega arith in
+    l .inv .2 ∙ rw e
+
+pub copy-blocks-spec : {M : Type 1} → statement M
+copy-blocks-spec =
+    tie.close
+    (tie.spec
+    Inv-loop
+    μ-loop
+    loop-holds
+    mul-start
+    add-end
+    sub-read-block
+    part-read-block-start
+    part-read-block-end
+    cast-read-block
+    add-read-block
+    read-block-requires
+    mul-put
+    put-requires
+    add-k
+    loop-less
+    loop-again
+    same-length
+    returns)

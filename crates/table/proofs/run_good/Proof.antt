@@ -1,0 +1,70 @@
+-- `run_good` meets its contract: a run in one block is as many costs of the file, and a cost in two blocks is that of its two bytes.
+-- Assumes nothing.
+use Prim.Native.Nat.{ℕ}
+use mathlib.Core.Path.{_≡_, ap, _∙_}
+use native.Mathlib.Omega.{arith}
+use borrow.Author.Needs.{needs}
+use lib.ListN.{getD}
+use Rattle.table.specs.FileLaws.{run-in-block, cost-in-two}
+use Rattle.table.proofs.run_good.Statement.{statement}
+use Rattle.table.proofs.run_good.Tie as tie
+
+add-if1 : tie.Need-add-if1
+add-if1 c = search needs
+
+place-in-file-requires : tie.Need-place-in-file-requires
+place-in-file-requires c κs = search needs
+
+byte-at-requires : tie.Need-byte-at-requires
+byte-at-requires c κs = search needs
+
+add-place-in-file : tie.Need-add-place-in-file
+add-place-in-file c = search needs
+
+place-in-file-requires-2 : tie.Need-place-in-file-requires-2
+place-in-file-requires-2 c κs = search needs
+
+byte-at-requires-2 : tie.Need-byte-at-requires-2
+byte-at-requires-2 c κs = search needs
+
+slice-aggregate-costs-good : tie.Need-slice-aggregate-costs-good
+slice-aggregate-costs-good c = search needs
+
+costs-good-requires : tie.Need-costs-good-requires
+costs-good-requires c κs = search needs
+
+returns : tie.Need-returns
+returns c =
+    let st = c .before .before .before .before .before .before .before .before in
+    let one : st .args .run ≡ 1 = st .pre .5 (omega arith) in
+    let a = c .before .before .before .before .byte-at .ensures ∙ ap (λ (x : ℕ). getD (st .args .file .now) x 0) (c .before .before .before .before .before .place-in-file .ensures) in
+    let b = c .before .before .byte-at2 .ensures ∙ ap (λ (x : ℕ). getD (st .args .file .now) x 0) (c .before .before .before .place-in-file2 .ensures) in
+    c .costs-good .ensures ∙ rw one (cost-in-two (st .args .file .now) (st .args .count) (st .pre .0) (st .args .at) (c .before .before .before .before .byte-at .result) (c .before .before .byte-at2 .result) (omega arith) a b)
+
+place-in-file-requires-3 : tie.Need-place-in-file-requires-3
+place-in-file-requires-3 c κs = search needs
+
+costs-good-requires-2 : tie.Need-costs-good-requires-2
+costs-good-requires-2 c κs = search needs
+
+returns-2 : tie.Need-returns-2
+returns-2 c =
+    let st = c .before .before .before .before in
+    c .costs-good2 .ensures ∙ rw (c .before .place-in-file3 .ensures) (run-in-block (st .args .file .now) (st .args .count) (st .pre .0) (st .args .at) (st .args .run) (st .pre .1) (st .pre .4 (omega arith)))
+
+pub run-good-spec : {M : Type 1} → statement M
+run-good-spec =
+    tie.close
+    (tie.spec
+    add-if1
+    place-in-file-requires
+    byte-at-requires
+    add-place-in-file
+    place-in-file-requires-2
+    byte-at-requires-2
+    slice-aggregate-costs-good
+    costs-good-requires
+    returns
+    place-in-file-requires-3
+    costs-good-requires-2
+    returns-2)
