@@ -1,4 +1,6 @@
-// Reads the sample tables of data/, and says of each what reading it gives.
+// Reads the sample tables of data/ and says of each what reading it gives; an accepted one is written again and compared.
+use base::FILE_SIZE;
+use base::STREAM_SIZE;
 use libc::STDOUT_FILENO;
 
 // Room for one block more than a table may have.
@@ -29,48 +31,77 @@ fn main() {
     show(b"long.table");
     // 7: a cost of 60,001
     show(b"cost.table");
-    // 13: a stream buffer of 61,456 bytes
+    // 13: read into 61,456 bytes; written into 511
     show_cramped(b"t.table");
 }
 
 // Reads the named file as a table into a buffer that holds any stream.
 fn show(name: &[u8]) {
     let mut file = [0u8; FILE];
-    let fd = os::open_read(name);
-    if fd < 0 {
-        os::fail(name);
-        return;
-    }
-    let n = io::read_full(fd, &mut file);
-    libc::close(fd);
-    let mut stream = [0u8; 61457];
-    let r = table::read(&file[..n], &mut stream);
-    say(name, r.refusal, r.length, checksum::sum(&stream));
+    let n = load(name, &mut file);
+    let mut stream = [0u8; STREAM_SIZE];
+    show_read(name, front(&file, n), &mut stream);
 }
 
-// The same with a buffer one byte shorter.
+// The same with a buffer that is a byte short, for reading and then for writing.
 fn show_cramped(name: &[u8]) {
     let mut file = [0u8; FILE];
+    let n = load(name, &mut file);
+    let mut cramped = [0u8; 61456];
+    show_read(name, front(&file, n), &mut cramped);
+    let mut stream = [0u8; STREAM_SIZE];
+    let r = table::read(front(&file, n), &mut stream);
+    let mut again = [0u8; 511];
+    let w = table::write(front(&stream, r.length), &mut again);
+    io::write_all(STDOUT_FILENO, name);
+    say(b" written refusal ", w.refusal as u64);
+    io::write_all(STDOUT_FILENO, b"\n");
+}
+
+// The named file's bytes, and how many they are.
+fn load(name: &[u8], file: &mut [u8]) -> usize {
     let fd = os::open_read(name);
     if fd < 0 {
         os::fail(name);
-        return;
+        return 0;
     }
-    let n = io::read_full(fd, &mut file);
+    let n = io::read_full(fd, file);
     libc::close(fd);
-    let mut stream = [0u8; 61456];
-    let r = table::read(&file[..n], &mut stream);
-    say(name, r.refusal, r.length, checksum::sum(&stream));
+    n
+}
+
+// The first n bytes, or all that there are.
+fn front<'a>(bytes: &'a [u8], n: usize) -> &'a [u8] {
+    if bytes.len() < n {
+        return bytes;
+    }
+    &bytes[0..n]
 }
 
 // One line of output. A refused reading leaves the buffer zero, and so its sum.
-fn say(name: &[u8], refusal: u8, length: usize, sum: u32) {
+fn show_read(name: &[u8], file: &[u8], stream: &mut [u8]) {
+    let r = table::read(file, stream);
     io::write_all(STDOUT_FILENO, name);
-    io::write_all(STDOUT_FILENO, b" refusal ");
-    io::print_decimal(STDOUT_FILENO, refusal as u64);
-    io::write_all(STDOUT_FILENO, b" stream ");
-    io::print_decimal(STDOUT_FILENO, length as u64);
-    io::write_all(STDOUT_FILENO, b" sum ");
-    io::print_decimal(STDOUT_FILENO, sum as u64);
+    say(b" refusal ", r.refusal as u64);
+    say(b" stream ", r.length as u64);
+    say(b" sum ", checksum::sum(stream) as u64);
+    if r.refusal == 0 {
+        show_written(file, front(stream, r.length));
+    }
     io::write_all(STDOUT_FILENO, b"\n");
+}
+
+// The stream written again, and whether that gave the file.
+fn show_written(file: &[u8], stream: &[u8]) {
+    let mut again = [0u8; FILE_SIZE];
+    let w = table::write(stream, &mut again);
+    say(b" written ", w.length as u64);
+    if check::same(front(&again, w.length), file) {
+        io::write_all(STDOUT_FILENO, b" the same");
+    }
+}
+
+fn say(word: &[u8], x: u64) {
+    io::write_all(STDOUT_FILENO, word);
+    io::print_decimal(STDOUT_FILENO, x);
 }
