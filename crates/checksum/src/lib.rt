@@ -1,7 +1,7 @@
 // The check of blocks and packets.
 
 ghost use mathlib.Core.Path.{_≡_};
-ghost use Prim.Native.Nat.{ℕ, _%_, _<_};
+ghost use Prim.Native.Nat.{_%_, _<_};
 ghost use Rattle.checksum.specs.Sum.{sumOf};
 
 const MODULUS: u32 = 65521;

@@ -2,7 +2,7 @@
 -- In order: unused bytes; the answers of blockRefusal; an accepted block; what readBlockOf gives; a written block; a block filled
 -- part by part; a block written again.
 -- Assumes nothing.
-use Prim.Native.Nat.{ℕ, zero, suc, _+_, _*_, _-_, _/_, _%_, _≤_, _<_}
+use Prim.Native.Nat.{ℕ, zero, suc, _+_, _-_, _/_, _%_, _≤_, _<_}
 use native.Mathlib.Numerals.{add-one}
 use native.Mathlib.Omega.{arith}
 use mathlib.Core.Bool.{Bool, true, false, cond, _&&_}
@@ -10,9 +10,9 @@ use mathlib.Core.List.{List, [], _∷_, _++_, append-assoc, append-nil}
 use mathlib.Core.Path.{_≡_, refl, sym, ap, _∙_}
 use lib.Dec.{eqb, leb}
 use lib.ListN.{length, getD, take, drop, replicate, length-take, length-drop, length-append, length-replicate, drop-of-length-le, take-append-drop}
-use lib.Seq.{drop-cons, length-take-le, getD-take, take-take, take-at, drop-at, drop-drop, getD-append-add}
+use lib.Seq.{drop-cons, length-take-le, getD-take, take-add, take-all, take-take, take-at, drop-at, drop-drop, getD-append-add}
 use borrow.Author.Tests.{eqb-true, leb-true, eq-eqb, ne-eqb}
-use Rattle.base.specs.Bytes.{u16At, le16}
+use Rattle.base.specs.Bytes.{u16At, le16, AllBytes, u16-of-le16, le16-again}
 use Rattle.base.specs.Shape.{and-left, and-right}
 use Rattle.checksum.specs.Sum.{sumOf, sum-small}
 use Rattle.base.specs.Put.{putAt, put-next}
@@ -133,10 +133,6 @@ unfolding allZero
 zeros zero = refl
 zeros (suc n) = zeros n
 
--- a number below 65,536 is what its two bytes say
-le16-back : (x : ℕ) → x < 65536 → x % 256 + 256 * (x / 256 % 256) ≡ x
-le16-back x h = omega arith
-
 -- the two bytes behind a body
 check-back : (a : List ℕ) (x : ℕ) → length a ≡ 510 → x < 65536 → u16At (a ++ le16 x) 510 ≡ x
 check-back a x e h =
@@ -144,7 +140,7 @@ check-back a x e h =
     let j : 511 ≡ length a + 1 = omega arith in
     let u : getD (a ++ le16 x) 510 0 ≡ x % 256 = ap (λ (n : ℕ). getD (a ++ le16 x) n 0) i ∙ getD-append-add a (le16 x) 0 0 in
     let v : getD (a ++ le16 x) 511 0 ≡ x / 256 % 256 = ap (λ (n : ℕ). getD (a ++ le16 x) n 0) j ∙ getD-append-add a (le16 x) 1 0 in
-    rw (u, v) (le16-back x h)
+    rw (u, v) (u16-of-le16 x h)
 
 module _ (k : ℕ) (p : List ℕ) (h : length p ≤ 506) where
   pub body-length : length (bodyOf k p) ≡ 510
@@ -160,7 +156,7 @@ module _ (k : ℕ) (p : List ℕ) (h : length p ≤ 506) where
 
   written-count : payloadCount (blockOf k p) ≡ length p
   unfolding blockOf
-  written-count = le16-back (length p) (omega arith)
+  written-count = u16-of-le16 (length p) (omega arith)
 
   pub written-payload : payloadOf (blockOf k p) ≡ p
   unfolding blockOf
@@ -179,7 +175,7 @@ module _ (k : ℕ) (p : List ℕ) (h : length p ≤ 506) where
 
   written-number : k < 65536 → numberOf (blockOf k p) ≡ k
   unfolding blockOf
-  written-number l = le16-back k l
+  written-number l = u16-of-le16 k l
 
   -- is accepted where the count fits its place
   pub written-good : k < 65536 → (last : Bool) → countGood last (length p) ≡ true → blockRefusal k last (blockOf k p) ≡ 0
@@ -224,46 +220,23 @@ all-zero (x ∷ l) e = cc (eqb-true x 0 (and-left (eqb x 0) (allZero l) e), all-
 zeros-are : (l : List ℕ) (n : ℕ) → allZero l ≡ true → length l ≡ n → replicate n 0 ≡ l
 zeros-are l n e h = rw (← h) (sym (all-zero l e))
 
--- two bytes are those of their number
-le16-of : (x lo hi : ℕ) → lo < 256 → hi < 256 → lo + 256 * hi ≡ x → le16 x ≡ lo ∷ hi ∷ []
-le16-of x lo hi l h e =
-    let a : x % 256 ≡ lo = omega arith in
-    let d : x / 256 ≡ hi = omega arith in
-    let b : x / 256 % 256 ≡ hi = rw d (omega arith) in
-    rw (a, b)
+-- the parts of a body, each by its own equation
+parts : {a b z a' b' z' : List ℕ} (p : List ℕ) → a ≡ a' → b ≡ b' → z ≡ z' → a ++ b ++ p ++ z ≡ a' ++ b' ++ p ++ z'
+parts p e f g = cc
 
--- the four parts of a body, each by its own equation
-parts : {a b p z a' b' p' z' : List ℕ} → a ≡ a' → b ≡ b' → p ≡ p' → z ≡ z' → a ++ b ++ p ++ z ≡ a' ++ b' ++ p' ++ z'
-parts e f g h = cc
-
--- and of the body that a block's first bytes, its payload and its unused bytes make
-body-of : (k c x0 x1 x2 x3 : ℕ) (p r : List ℕ) → le16 k ≡ x0 ∷ x1 ∷ [] → le16 (length p) ≡ x2 ∷ x3 ∷ [] → p ≡ take c r → replicate (506 - length p) 0 ≡ drop c r
-    → bodyOf k p ≡ x0 ∷ x1 ∷ x2 ∷ x3 ∷ r
-body-of k c x0 x1 x2 x3 p r e f g h = parts e f g h ∙ ap (λ (q : List ℕ). x0 ∷ x1 ∷ x2 ∷ x3 ∷ q) (take-append-drop c r)
-
-last-two : (r : List ℕ) → length r ≡ 508 → drop 506 r ≡ getD r 506 0 ∷ getD r 507 0 ∷ []
-last-two r e =
-    let h : 506 < length r = omega arith in
-    let g : 507 < length r = omega arith in
-    let m : length r ≤ 508 = omega arith in
-    drop-cons r 506 0 h ∙ ap (λ (l : List ℕ). getD r 506 0 ∷ l) (drop-cons r 507 0 g ∙ ap (λ (l : List ℕ). getD r 507 0 ∷ l) (drop-of-length-le r m))
-
-pub written-again : (k : ℕ) (last : Bool) (b : List ℕ) → blockRefusal k last b ≡ 0 → ((i : ℕ) → getD b i 0 < 256) → blockOf k (payloadOf b) ≡ b
+pub written-again : (k : ℕ) (last : Bool) (b : List ℕ) → blockRefusal k last b ≡ 0 → AllBytes b → blockOf k (payloadOf b) ≡ b
 unfolding blockOf
-written-again k last [] ok bytes = absurd (omega (arith, block-size k last [] ok))
-written-again k last (x0 ∷ []) ok bytes = absurd (omega (arith, block-size k last (x0 ∷ []) ok))
-written-again k last (x0 ∷ x1 ∷ []) ok bytes = absurd (omega (arith, block-size k last (x0 ∷ x1 ∷ []) ok))
-written-again k last (x0 ∷ x1 ∷ x2 ∷ []) ok bytes = absurd (omega (arith, block-size k last (x0 ∷ x1 ∷ x2 ∷ []) ok))
-written-again k last (x0 ∷ x1 ∷ x2 ∷ x3 ∷ r) ok bytes =
-    let b : List ℕ = x0 ∷ x1 ∷ x2 ∷ x3 ∷ r in
-    let p : List ℕ = payloadOf b in
-    let n : length p ≡ payloadCount b = block-payload-length k last b ok in
-    let most : payloadCount b ≤ 506 = block-most k last b ok in
-    let long : length r ≡ 508 = omega (arith, block-size k last b ok) in
-    let u : unusedOf b ≡ drop (payloadCount b) (take 506 r) = sym (drop-drop (payloadCount b) 4 (take 510 b)) in
-    let l : length (unusedOf b) ≡ 506 - length p = rw u (simp (length-drop, length-take) (omega arith)) in
-    let z : replicate (506 - length p) 0 ≡ drop (payloadCount b) (take 506 r) = zeros-are (unusedOf b) (506 - length p) (block-unused k last b ok) l ∙ u in
-    let body : bodyOf k p ≡ take 510 b =
-    body-of k (payloadCount b) x0 x1 x2 x3 p (take 506 r) (le16-of k x0 x1 (bytes 0) (bytes 1) (block-number k last b ok)) (le16-of (length p) x2 x3 (bytes 2) (bytes 3) (sym n)) (sym (take-take (payloadCount b) 506 r most)) z in
-    let check : le16 (sumOf (take 510 b)) ≡ drop 506 r = le16-of (sumOf (take 510 b)) (getD r 506 0) (getD r 507 0) (bytes 510) (bytes 511) (block-check k last b ok) ∙ sym (last-two r long) in
+written-again k last b ok bytes =
+    let c : ℕ = payloadCount b in
+    let long : length b ≡ 512 = block-size k last b ok in
+    let most : c ≤ 506 = block-most k last b ok in
+    let n : length (payloadOf b) ≡ c = block-payload-length k last b ok in
+    let number : le16 k ≡ take 2 b = ap le16 (sym (block-number k last b ok)) ∙ le16-again b 0 (omega arith) bytes in
+    let count : le16 (length (payloadOf b)) ≡ take 2 (drop 2 b) = ap le16 n ∙ le16-again b 2 (omega arith) bytes in
+    let l : length (unusedOf b) ≡ 506 - length (payloadOf b) = simp (length-drop, length-take) (omega arith) in
+    let unused : replicate (506 - length (payloadOf b)) 0 ≡ unusedOf b = zeros-are (unusedOf b) (506 - length (payloadOf b)) (block-unused k last b ok) l in
+    let front : take 2 b ++ take 2 (drop 2 b) ++ payloadOf b ≡ take (4 + c) (take 510 b) =
+    rw (← take-add 2 2 b, ← take-add 4 c b) (sym (take-take (4 + c) 510 b (omega arith))) in
+    let body : bodyOf k (payloadOf b) ≡ take 510 b = parts (payloadOf b) number count unused ∙ ap (λ (q : List ℕ). q ++ unusedOf b) front ∙ take-append-drop (4 + c) (take 510 b) in
+    let check : le16 (sumOf (take 510 b)) ≡ drop 510 b = ap le16 (sym (block-check k last b ok)) ∙ le16-again b 510 (omega arith) bytes ∙ take-all 2 (drop 510 b) (simp length-drop (omega arith)) in
     ap (λ (q : List ℕ). q ++ le16 (sumOf q)) body ∙ ap (λ (q : List ℕ). take 510 b ++ q) check ∙ take-append-drop 510 b

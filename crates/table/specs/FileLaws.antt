@@ -10,8 +10,8 @@ use mathlib.Core.Bool.{Bool, true, false, cond, _&&_, not, false≢true}
 use mathlib.Core.List.{List, [], _∷_, _++_, append-nil, append-assoc}
 use mathlib.Core.Path.{_≡_, refl, sym, ap, _∙_}
 use lib.Dec.{eqb, leb, ltb, eqb·suc-zero}
-use lib.ListN.{length, getD, take, drop, set, length-take, length-drop, length-append, List·getD-append}
-use lib.Seq.{take-suc, take-all, drop-cons, drop-drop, length-take-le, getD-take, getD-drop, getD-append-add, set-at}
+use lib.ListN.{length, getD, take, drop, length-take, length-drop, length-append, List·getD-append}
+use lib.Seq.{take-all, drop-drop, getD-take, getD-drop, getD-append-add}
 use borrow.Author.Tests.{eqb-true, eqb-false, leb-true, leb-false, eq-eqb, ne-eqb, lt-ltb, le-ltb, ltb-true, ltb-false}
 use Rattle.base.specs.declared.Length.{Length}
 use Rattle.base.specs.Limits.{fileSize, streamSize}
@@ -22,7 +22,7 @@ use Rattle.table.specs.Stream.{costsGood, streamRefusal, Accepted}
 use Rattle.table.specs.StreamLaws.{costs-same, accepted-most}
 use Rattle.table.specs.Block.{payloadCount, payloadOf, blockRefusal, readBlockOf, blockOf}
 use Rattle.table.specs.BlockLaws.{block-count, block-most, block-payload-length, read-accepted, written-size}
-use Rattle.table.specs.File.{answer, leaves, sizeGood, blocksRefusal, joined, streamOf, readRefusal, readOf, blocksFor, fileFrom, fileOf, storeRefusal, storeOf}
+use Rattle.table.specs.File.{answer, leaves, sizeGood, blocksRefusal, joined, streamOf, readRefusal, blocksFor, fileFrom, fileOf, storeRefusal}
 use Rattle.table.specs.View.{placeInFile, Viewed}
 
 -- ---- a turn of a loop over m blocks, at block k, and its end: w is what all of them give
@@ -234,15 +234,6 @@ module _ (refusal r : ℕ) (e : r ≡ refusal) (count : ℕ) (bytes out : List �
   pub gives-accepted : r ≡ 0 → _≡_ {A = Length} (record { refusal = 0; length = count }) (answer refusal count) × (bytes ++ drop (length bytes) out ≡ leaves refusal bytes out)
   gives-accepted z = rw (← e, z) (refl, refl)
 
--- what is written fits the buffer, whatever was lent
-pub read-fits : (f : List ℕ) (room : ℕ) → readOf f room .length ≤ room
-unfolding readOf
-read-fits f room = go (eqb (readRefusal f room) 0) refl
-  where
-    go : (x : Bool) → eqb (readRefusal f room) 0 ≡ x → cond x (length (streamOf f)) 0 ≤ room
-    go true e = let z = eqb-true (readRefusal f room) 0 e in omega (arith, read-most f room z, read-room f room z)
-    go false e = omega arith
-
 -- ---- reading: payloads one behind the other
 
 joined-split : (a b : ℕ) (f : List ℕ) → joined (a + b) f ≡ joined a f ++ joined b (drop (512 * a) f)
@@ -389,11 +380,3 @@ module _ (s : List ℕ) (room : ℕ) (ok : storeRefusal s room ≡ 0) where
 
   pub write-most : length s ≤ streamSize
   write-most = accepted-most s write-stream
-
-pub store-fits : (s : List ℕ) (room : ℕ) → storeOf s room .length ≤ room
-unfolding storeOf
-store-fits s room = go (eqb (storeRefusal s room) 0) refl
-  where
-    go : (x : Bool) → eqb (storeRefusal s room) 0 ≡ x → cond x (length (fileOf s)) 0 ≤ room
-    go true e = omega (arith, write-room s room (eqb-true (storeRefusal s room) 0 e), written-length s)
-    go false e = omega arith

@@ -5,13 +5,13 @@
 -- Each by recursion on the number of blocks, a block at a time (BlockLaws). Assumes nothing.
 use Prim.Native.Nat.{ℕ, zero, suc, _+_, _*_, _-_, _/_, _%_, _≤_, _<_}
 use native.Mathlib.Omega.{arith}
-use mathlib.Core.Bool.{Bool, true, false}
+use mathlib.Core.Bool.{true}
 use mathlib.Core.List.{List, [], _∷_, _++_, append-nil}
 use mathlib.Core.Path.{_≡_, refl, sym, ap, _∙_}
-use lib.Dec.{eqb, leb, ltb, eqb·suc-zero}
-use lib.ListN.{length, getD, take, drop, length-take, length-drop, length-append, take-append-drop, List·getD-eq-default}
-use lib.Seq.{take-at, drop-at, take-all, getD-take, getD-drop}
-use borrow.Author.Tests.{leb-true, eq-eqb, ne-eqb, le-leb, ltb-true, ltb-false}
+use lib.Dec.{eqb, leb, eqb·suc-zero}
+use lib.ListN.{length, take, drop, length-take, length-drop, length-append, take-append-drop}
+use lib.Seq.{take-at, drop-at, take-all}
+use borrow.Author.Tests.{leb-true, eq-eqb, ne-eqb, le-leb}
 use Rattle.base.specs.Limits.{fileSize, streamSize}
 use Rattle.base.specs.Bytes.{AllBytes, bytes-take, bytes-drop}
 use Rattle.base.specs.Shape.{and-left}
@@ -20,7 +20,7 @@ use Rattle.table.specs.StreamLaws.{accepted-most, accepted-length}
 use Rattle.table.specs.Block.{payloadCount, payloadOf, countGood, blockOf}
 use Rattle.table.specs.BlockLaws.{block-count, block-most, block-payload-length, written-good, written-payload, written-again}
 use Rattle.table.specs.File.{answer, leaves, sizeGood, blocksRefusal, joined, streamOf, readRefusal, readOf, readInto, AcceptedFile, blocksFor, fileFrom, fileOf, storeRefusal, storeOf, storeInto}
-use Rattle.table.specs.FileLaws.{first-good, rest-good, full, good-size, block-long, written-length, take-most, read-size, read-blocks, read-stream, read-room, by-stream, gives-accepted, write-accepted, write-stream}
+use Rattle.table.specs.FileLaws.{first-good, rest-good, full, good-size, block-long, written-length, take-most, read-size, read-blocks, read-stream, by-stream, gives-accepted, write-accepted, write-stream}
 
 -- the file that a writing of s left in a lent buffer, and the stream that a reading of f left: as many bytes as it said
 abbrev pub written : List ℕ → List ℕ → List ℕ

@@ -9,12 +9,12 @@ use mathlib.Core.Bool.{Bool, true, false, cond, _&&_}
 use mathlib.Core.List.{List, [], _∷_, _++_}
 use mathlib.Core.Path.{_≡_, refl, sym, ap, _∙_}
 use lib.Dec.{eqb, leb}
-use lib.ListN.{length, getD, take, drop, length-take, length-drop, drop-of-length-le}
-use lib.Seq.{take-suc, drop-cons, length-take-le, getD-take, getD-drop}
+use lib.ListN.{length, getD, take, drop, length-take, length-drop}
+use lib.Seq.{take-suc, length-take-le, getD-take, getD-drop}
 use borrow.Author.Tests.{eqb-true, leb-true, eq-eqb, ne-eqb, le-leb, lt-leb}
 use Rattle.base.specs.Limits.{pairLimit, streamSize}
 use Rattle.base.specs.Bytes.{u16At, u16-past}
-use Rattle.base.specs.Shape.{inSixteen, allInSixteen, shapeGood, and-left, and-right, in-range, shape-n, shape-size}
+use Rattle.base.specs.Shape.{inSixteen, allInSixteen, shapeGood, and-left, and-right, in-range, shape-n, shape-size, all-step, all-none}
 use Rattle.table.specs.Stream.{unitsOf, sizesOf, sumList, pairsIn, needed, costAt, costsGood, streamRefusal, Accepted}
 
 -- ---- how pairsIn and costsGood grow
@@ -94,10 +94,7 @@ costs-same s t k j (suc m) e =
 
 module _ {w : Bool} (s : List ℕ) (n i : ℕ) (inv : w ≡ allInSixteen (drop i (take n (drop 1 s)))) where
   sizes-step : i < n → 1 + i < length s → w ≡ (inSixteen (getD s (1 + i) 0) && allInSixteen (drop (i + 1) (take n (drop 1 s))))
-  unfolding allInSixteen
-  sizes-step h l =
-      let b : i < length (take n (drop 1 s)) = simp (length-take, length-drop) (omega arith) in
-      inv ∙ rw (drop-cons (take n (drop 1 s)) i 0 b, getD-take n (drop 1 s) i 0 h, getD-drop 1 s i 0, add-one)
+  sizes-step h l = inv ∙ all-step n i (drop 1 s) h (simp length-drop (omega arith)) ∙ rw (getD-drop 1 s i 0)
 
   pub sizes-bad : i < n → 1 + i < length s → inSixteen (getD s (1 + i) 0) ≡ false → false ≡ w
   sizes-bad h l e = sym (sizes-step h l ∙ rw e)
@@ -106,10 +103,7 @@ module _ {w : Bool} (s : List ℕ) (n i : ℕ) (inv : w ≡ allInSixteen (drop i
   sizes-next h l e = sizes-step h l ∙ rw e
 
   pub sizes-end : min n (length s - 1) ≤ i → true ≡ w
-  unfolding allInSixteen
-  sizes-end h =
-      let b : length (take n (drop 1 s)) ≤ i = simp (length-take, length-drop) h in
-      sym (inv ∙ rw (drop-of-length-le (take n (drop 1 s)) b))
+  sizes-end h = sym (inv ∙ all-none n i (drop 1 s) (simp length-drop h))
 
 module _ {w : Bool} (s : List ℕ) (k m : ℕ) (inv : w ≡ costsGood s k m) where
   costs-step : 0 < m → w ≡ (leb (u16At s k) pairLimit && costsGood s (k + 2) (m - 1))
@@ -239,10 +233,6 @@ module _ (s : List ℕ) (ok : Accepted s) where
   -- each cost is at most 60,000
   pub accepted-cost : (k : ℕ) → k < pairsIn (sizesOf s) → costAt s k ≤ pairLimit
   accepted-cost k h = costs-at s (1 + unitsOf s) (pairsIn (sizesOf s)) (tests .3) k h
-
-  -- and lies inside the stream
-  pub accepted-cost-inside : (k : ℕ) → k < pairsIn (sizesOf s) → 1 + unitsOf s + 2 * k + 1 < length s
-  accepted-cost-inside k h = omega (arith, accepted-length)
 
   -- 01: "At most 61,457 bytes"
   pub accepted-most : length s ≤ streamSize

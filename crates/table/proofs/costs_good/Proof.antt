@@ -1,10 +1,8 @@
 -- `costs_good` meets its contract. The loop's invariant: the whole answer is that of the costs left from byte `at` on.
 -- Assumes nothing.
-use Prim.Native.Nat.{_≤_}
 use mathlib.Core.Path.{_≡_, refl}
 use native.Mathlib.Omega.{arith}
 use borrow.Author.Needs.{needs}
-use lib.ListN.{length}
 use Rattle.table.specs.Stream.{costsGood}
 use Rattle.table.specs.StreamLaws.{costs-bad, costs-next, costs-past, costs-end}
 use Rattle.table.proofs.costs_good.Statement.{statement}

@@ -1,10 +1,10 @@
 -- `read` meets its contract: refused, nothing is written; accepted, the stream stands in front of what was there.
 -- Assumes nothing.
-use mathlib.Core.Path.{_≡_, sym, ap, _∙_}
+use mathlib.Core.Path.{sym, _∙_}
 use native.Mathlib.Omega.{arith}
 use borrow.Author.Needs.{needs}
 use lib.ListN.{length}
-use Rattle.table.specs.File.{streamOf, readRefusal, readOf, readInto, answer}
+use Rattle.table.specs.File.{streamOf, readRefusal, readOf, readInto}
 use Rattle.table.specs.FileLaws.{read-room, read-size, read-blocks, read-most, gives-refused, gives-accepted}
 use Rattle.table.proofs.read.Statement.{statement}
 use Rattle.table.proofs.read.Tie as tie

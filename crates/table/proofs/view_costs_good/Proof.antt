@@ -1,11 +1,7 @@
 -- `view_costs_good` meets its contract: in each of the two views it is the call that it hands on to.
 -- Assumes nothing.
-use mathlib.Core.Path.{_≡_, sym, ap, _∙_}
-use mathlib.Core.Bool.{Bool}
-use lib.ListN.{length}
+use mathlib.Core.Path.{_∙_}
 use borrow.Author.Needs.{needs}
-use Rattle.table.specs.Stream.{costsGood}
-use Rattle.table.specs.View.{streamIn, Viewed}
 use Rattle.table.proofs.view_costs_good.Statement.{statement}
 use Rattle.table.proofs.view_costs_good.Tie as tie
 

@@ -1,7 +1,6 @@
 -- `write` meets its contract: refused, nothing is written; accepted, the file stands in front of what was there.
 -- Assumes nothing.
-use mathlib.Core.Path.{_≡_, sym, ap, _∙_}
-use native.Mathlib.Omega.{arith}
+use mathlib.Core.Path.{sym, _∙_}
 use borrow.Author.Needs.{needs}
 use lib.ListN.{length}
 use Rattle.table.specs.File.{fileOf, storeRefusal, storeOf, storeInto}

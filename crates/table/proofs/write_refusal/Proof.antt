@@ -1,7 +1,6 @@
 -- `write_refusal` meets its contract: each way out is one answer of `storeRefusal`, by the law that says so.
 -- Assumes nothing.
 use mathlib.Core.Path.{sym, _∙_}
-use native.Mathlib.Omega.{arith}
 use borrow.Author.Needs.{needs}
 use Rattle.table.specs.Stream.{Accepted}
 use Rattle.table.specs.StreamLaws.{accepted-most}
