@@ -13,8 +13,8 @@ use Rattle.checksum.specs.Sum.{sumOf}
 
 -- ---- the fields
 
-abbrev pub numberOf : List ℕ → ℕ
-numberOf b = u16At b 0
+abbrev pub blockNumber : List ℕ → ℕ
+blockNumber b = u16At b 0
 
 abbrev pub payloadCount : List ℕ → ℕ
 payloadCount b = u16At b 2
@@ -45,7 +45,7 @@ unfoldable pub blockRefusal : ℕ → Bool → List ℕ → ℕ
 blockRefusal number last b =
     cond (eqb (length b) blockSize)
     (cond (eqb (checkOf b) (sumOf (take checkedSize b)))
-    (cond (eqb (numberOf b) number) (cond (countGood last (payloadCount b) && allZero (unusedOf b)) 0 3) 2)
+    (cond (eqb (blockNumber b) number) (cond (countGood last (payloadCount b) && allZero (unusedOf b)) 0 3) 2)
     4)
     1
 

@@ -16,7 +16,7 @@ use Rattle.base.specs.Bytes.{u16At, le16, AllBytes, u16-of-le16, le16-again}
 use Rattle.base.specs.Shape.{and-left, and-right}
 use Rattle.checksum.specs.Sum.{sumOf, sum-small}
 use Rattle.base.specs.Put.{putAt, put-next}
-use Rattle.table.specs.Block.{numberOf, payloadCount, payloadOf, unusedOf, checkOf, countGood, allZero, blockRefusal, readBlockOf, bodyOf, blockOf}
+use Rattle.table.specs.Block.{blockNumber, payloadCount, payloadOf, unusedOf, checkOf, countGood, allZero, blockRefusal, readBlockOf, bodyOf, blockOf}
 
 -- ---- unused bytes: a turn of a loop from place i to place m, and its end
 
@@ -56,14 +56,14 @@ module _ (k : ℕ) (last : Bool) (b : List ℕ) where
     refused-check h = simp (eq-eqb (length b) 512 l, ne-eqb (checkOf b) (sumOf (take 510 b)) h)
 
     module _ (s : checkOf b ≡ sumOf (take 510 b)) where
-      pub refused-number : (numberOf b ≡ k → ⊥) → 2 ≡ blockRefusal k last b
+      pub refused-number : (blockNumber b ≡ k → ⊥) → 2 ≡ blockRefusal k last b
       unfolding blockRefusal
-      refused-number h = simp (eq-eqb (length b) 512 l, eq-eqb (checkOf b) (sumOf (take 510 b)) s, ne-eqb (numberOf b) k h)
+      refused-number h = simp (eq-eqb (length b) 512 l, eq-eqb (checkOf b) (sumOf (take 510 b)) s, ne-eqb (blockNumber b) k h)
 
-      module _ (n : numberOf b ≡ k) (c : ℕ) (e : c ≡ payloadCount b) where
+      module _ (n : blockNumber b ≡ k) (c : ℕ) (e : c ≡ payloadCount b) where
         by-payload : (x : Bool) → (countGood last (payloadCount b) && allZero (unusedOf b)) ≡ x → cond x 0 3 ≡ blockRefusal k last b
         unfolding blockRefusal
-        by-payload x h = simp (eq-eqb (length b) 512 l, eq-eqb (checkOf b) (sumOf (take 510 b)) s, eq-eqb (numberOf b) k n, h)
+        by-payload x h = simp (eq-eqb (length b) 512 l, eq-eqb (checkOf b) (sumOf (take 510 b)) s, eq-eqb (blockNumber b) k n, h)
 
         pub refused-count : countGood last c ≡ false → 3 ≡ blockRefusal k last b
         refused-count h = let g : countGood last (payloadCount b) ≡ false = rw e at h in by-payload false (rw g)
@@ -91,9 +91,9 @@ passed true true true false h = absurd (omega arith)
 passed true true true true h = (refl, refl, refl, refl)
 
 module _ (k : ℕ) (last : Bool) (b : List ℕ) (ok : blockRefusal k last b ≡ 0) where
-  tests : (eqb (length b) 512 ≡ true) × (eqb (checkOf b) (sumOf (take 510 b)) ≡ true) × (eqb (numberOf b) k ≡ true) × ((countGood last (payloadCount b) && allZero (unusedOf b)) ≡ true)
+  tests : (eqb (length b) 512 ≡ true) × (eqb (checkOf b) (sumOf (take 510 b)) ≡ true) × (eqb (blockNumber b) k ≡ true) × ((countGood last (payloadCount b) && allZero (unusedOf b)) ≡ true)
   unfolding blockRefusal
-  tests = passed (eqb (length b) 512) (eqb (checkOf b) (sumOf (take 510 b))) (eqb (numberOf b) k) (countGood last (payloadCount b) && allZero (unusedOf b)) ok
+  tests = passed (eqb (length b) 512) (eqb (checkOf b) (sumOf (take 510 b))) (eqb (blockNumber b) k) (countGood last (payloadCount b) && allZero (unusedOf b)) ok
 
   pub block-size : length b ≡ 512
   block-size = eqb-true (length b) 512 (tests .0)
@@ -101,8 +101,8 @@ module _ (k : ℕ) (last : Bool) (b : List ℕ) (ok : blockRefusal k last b ≡ 
   pub block-check : checkOf b ≡ sumOf (take 510 b)
   block-check = eqb-true (checkOf b) (sumOf (take 510 b)) (tests .1)
 
-  pub block-number : numberOf b ≡ k
-  block-number = eqb-true (numberOf b) k (tests .2)
+  pub block-number : blockNumber b ≡ k
+  block-number = eqb-true (blockNumber b) k (tests .2)
 
   pub block-count : countGood last (payloadCount b) ≡ true
   block-count = and-left (countGood last (payloadCount b)) (allZero (unusedOf b)) (tests .3)
@@ -173,7 +173,7 @@ module _ (k : ℕ) (p : List ℕ) (h : length p ≤ 506) where
   unfolding blockOf
   written-check = check-back (bodyOf k p) (sumOf (bodyOf k p)) body-length (omega (arith, sum-small (bodyOf k p)))
 
-  written-number : k < 65536 → numberOf (blockOf k p) ≡ k
+  written-number : k < 65536 → blockNumber (blockOf k p) ≡ k
   unfolding blockOf
   written-number l = u16-of-le16 k l
 

@@ -23,11 +23,11 @@ use Rattle.table.specs.File.{answer, leaves, sizeGood, blocksRefusal, jo
 use Rattle.table.specs.FileLaws.{first-good, rest-good, full, good-size, block-long, written-length, take-most, read-size, read-blocks, read-stream, by-stream, gives-accepted, write-accepted, write-stream}
 
 -- the file that a writing of s left in a lent buffer, and the stream that a reading of f left: as many bytes as it said
-abbrev pub written : List ℕ → List ℕ → List ℕ
-written s out = take (storeOf s (length out) .length) (storeInto s out)
+abbrev pub fileLeft : List ℕ → List ℕ → List ℕ
+fileLeft s out = take (storeOf s (length out) .length) (storeInto s out)
 
-abbrev pub readBack : List ℕ → List ℕ → List ℕ
-readBack f out = take (readOf f (length out) .length) (readInto f out)
+abbrev pub streamLeft : List ℕ → List ℕ → List ℕ
+streamLeft f out = take (readOf f (length out) .length) (readInto f out)
 
 -- what was given stands in front of what was there
 front-of : (refusal : ℕ) (bytes out : List ℕ) → refusal ≡ 0 → take (answer refusal (length bytes) .length) (leaves refusal bytes out) ≡ bytes
@@ -118,7 +118,7 @@ module _ (s : List ℕ) (ok : Accepted s) where
 
 -- what an accepted writing left in any buffer reads back as the stream
 pub reads-back : (s file out : List ℕ) → storeOf s (length file) .refusal ≡ 0 → streamSize ≤ length out
-    → (readOf (written s file) (length out) ≡ record { refusal = 0; length = length s }) × (readInto (written s file) out ≡ s ++ drop (length s) out)
+    → (readOf (fileLeft s file) (length out) ≡ record { refusal = 0; length = length s }) × (readInto (fileLeft s file) out ≡ s ++ drop (length s) out)
 unfolding storeOf storeInto
 reads-back s file out z h =
     rw (front-of (storeRefusal s (length file)) (fileOf s) file z) (reads-file s (write-stream s (length file) z) out h)
@@ -210,7 +210,7 @@ module _ (f : List ℕ) (ok : AcceptedFile f) (bytes : AllBytes f) where
 
 -- what an accepted reading left in any buffer is written again as the file
 pub writes-back : (f stream out : List ℕ) → readOf f (length stream) .refusal ≡ 0 → AllBytes f → length f ≤ length out
-    → (storeOf (readBack f stream) (length out) ≡ record { refusal = 0; length = length f }) × (storeInto (readBack f stream) out ≡ f ++ drop (length f) out)
+    → (storeOf (streamLeft f stream) (length out) ≡ record { refusal = 0; length = length f }) × (storeInto (streamLeft f stream) out ≡ f ++ drop (length f) out)
 unfolding readOf readInto
 writes-back f stream out z bytes h =
     rw (front-of (readRefusal f (length stream)) (streamOf f) stream z) (writes-stream f (read-accepted-file f (length stream) z) bytes out h)

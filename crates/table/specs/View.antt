@@ -1,12 +1,17 @@
--- One view of a stream for the checks 5, 6 and 7: the lent bytes are the stream itself, or a file whose blocks carry it.
--- The checks are written once, over the view; a leaf knows where byte k of it stands. Assumes nothing.
-use Prim.Native.Nat.{ℕ, _+_, _*_, _/_, _%_, _<_}
+-- What private functions go by: a file whose blocks are accepted, and one view of a stream for the checks 5, 6 and 7. The lent bytes are the
+-- stream itself, or a file whose blocks carry it; the checks are written once, over the view, and a leaf knows where byte k of it stands.
+-- Assumes nothing.
+use Prim.Native.Nat.{ℕ, _+_, _*_, _/_, _%_, _≤_, _<_}
 use mathlib.Core.Bool.{Bool, true, false}
 use mathlib.Core.List.{List}
 use mathlib.Core.Path.{_≡_}
 use lib.ListN.{length, getD}
 use Rattle.base.specs.Limits.{blockSize, payloadSize}
-use Rattle.table.specs.File.{streamOf}
+use Rattle.table.specs.File.{sizeGood, blocksRefusal, streamOf}
+
+-- a file whose blocks pass 1, 4, 2 and 3
+abbrev pub BlocksAccepted : List ℕ → Type 0
+BlocksAccepted f = (sizeGood (length f) ≡ true) × (blocksRefusal 0 (length f / blockSize) f ≡ 0)
 
 abbrev pub streamIn : Bool → List ℕ → List ℕ
 streamIn false b = b
@@ -24,3 +29,7 @@ placeIn true k = placeInFile k
 pub record Viewed (blocked : Bool) (b : List ℕ) (count : ℕ) : Type 0 where
   pub counted : length (streamIn blocked b) ≡ count
   pub placed : (k : ℕ) → k < count → getD (streamIn blocked b) k 0 ≡ getD b (placeIn blocked k) 0
+
+-- a run of r costs from byte k of the stream on stands in one block; or it is one cost, in two
+abbrev pub RunAt : ℕ → ℕ → Type 0
+RunAt k r = (k % payloadSize + 1 < payloadSize → k % payloadSize + 2 * r ≤ payloadSize) × (k % payloadSize + 1 ≡ payloadSize → r ≡ 1)

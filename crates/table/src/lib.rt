@@ -11,15 +11,16 @@ use base::STREAM_SIZE;
 ghost use mathlib.Core.Path.{_≡_};
 ghost use mathlib.Core.Bool.{true};
 ghost use mathlib.Core.List.{_++_};
-ghost use Prim.Native.Nat.{_+_, _*_, _/_, _%_, _≤_, _<_, min};
+ghost use Prim.Native.Nat.{_+_, _*_, _/_, _≤_, _<_, min};
 ghost use lib.ListN.{length, getD, take, drop, replicate};
+ghost use Rattle.base.specs.Limits.{blockSize, checkedSize, payloadSize, places, streamSize};
 ghost use Rattle.base.specs.Bytes.{le16};
 ghost use Rattle.base.specs.Put.{putAt};
 ghost use Rattle.base.specs.Shape.{allInSixteen};
 ghost use Rattle.table.specs.Stream.{pairsIn, costsGood, streamRefusal};
 ghost use Rattle.table.specs.Block.{countGood, allZero, blockRefusal, readBlockOf, blockOf};
 ghost use Rattle.table.specs.File.{sizeGood, blocksRefusal, streamOf, readRefusal, readOf, readInto, blocksFor, fileFrom, storeRefusal, storeOf, storeInto};
-ghost use Rattle.table.specs.View.{streamIn, placeInFile, Viewed};
+ghost use Rattle.table.specs.View.{BlocksAccepted, streamIn, placeInFile, Viewed, RunAt};
 
 // ---- public calls
 
@@ -129,8 +130,8 @@ fn count_good(last: bool, count: usize) -> bool
 
 // Whether the payload bytes after the count are zero.
 fn unused_zero(block: &[u8], count: usize) -> bool
-    requires { ⌜ (length (now block) ≡ 512) × (count ≤ 506) ⌝ }
-    ensures { λ r. ⌜ r ≡ allZero (drop (4 + count) (take 510 (now (block .entry)))) ⌝ }
+    requires { ⌜ (length (now block) ≡ blockSize) × (count ≤ payloadSize) ⌝ }
+    ensures { λ r. ⌜ r ≡ allZero (drop (4 + count) (take checkedSize (now (block .entry)))) ⌝ }
 {
     let mut k = 4 + count;
     while k < CHECKED_SIZE {
@@ -177,7 +178,7 @@ fn size_good(length: usize) -> bool
 // The first refusal of a file's blocks, or 0.
 fn blocks_refusal(file: &[u8]) -> u8
     requires { ⌜ sizeGood (length (now file)) ≡ true ⌝ }
-    ensures { λ r. ⌜ r ≡ blocksRefusal 0 (length (now (file .entry)) / 512) (now (file .entry)) ⌝ }
+    ensures { λ r. ⌜ r ≡ blocksRefusal 0 (length (now (file .entry)) / blockSize) (now (file .entry)) ⌝ }
 {
     let blocks = file.len() / BLOCK_SIZE;
     let mut k = 0;
@@ -195,7 +196,7 @@ fn blocks_refusal(file: &[u8]) -> u8
 
 // How long the stream of a file with accepted blocks is.
 fn stream_length(file: &[u8]) -> usize
-    requires { ⌜ (sizeGood (length (now file)) ≡ true) × (blocksRefusal 0 (length (now file) / 512) (now file) ≡ 0) ⌝ }
+    requires { ⌜ BlocksAccepted (now file) ⌝ }
     ensures { λ r. ⌜ r ≡ length (streamOf (now (file .entry))) ⌝ }
 {
     let before = file.len() / BLOCK_SIZE - 1;
@@ -204,7 +205,7 @@ fn stream_length(file: &[u8]) -> usize
 
 // The payloads of a file with accepted blocks, one behind the other, to the front of `out`.
 fn copy_blocks(file: &[u8], out: &mut [u8])
-    requires { ⌜ (sizeGood (length (now file)) ≡ true) × (blocksRefusal 0 (length (now file) / 512) (now file) ≡ 0) × (length (streamOf (now file)) ≤ length (now out)) ⌝ }
+    requires { ⌜ BlocksAccepted (now file) × (length (streamOf (now file)) ≤ length (now out)) ⌝ }
     ensures { λ r. ⌜ now (out .exit) ≡ streamOf (now (file .entry)) ++ drop (length (streamOf (now (file .entry)))) (now (out .entry)) ⌝ }
 {
     let blocks = file.len() / BLOCK_SIZE;
@@ -236,7 +237,7 @@ fn write_refusal(stream: &[u8], room: usize) -> u8
 
 // How many blocks carry so many bytes.
 fn blocks_for(length: usize) -> usize
-    requires { ⌜ length ≤ 61457 ⌝ }
+    requires { ⌜ length ≤ streamSize ⌝ }
     ensures { λ r. ⌜ r ≡ blocksFor length ⌝ }
 {
     (length + (PAYLOAD_SIZE - 1)) / PAYLOAD_SIZE
@@ -244,8 +245,8 @@ fn blocks_for(length: usize) -> usize
 
 // The blocks of a stream, to the front of `file`.
 fn write_blocks(stream: &[u8], blocks: usize, file: &mut [u8])
-    requires { ⌜ (length (now stream) ≤ 61457) × (blocks ≡ blocksFor (length (now stream))) × (512 * blocks ≤ length (now file)) ⌝ }
-    ensures { λ r. ⌜ now (file .exit) ≡ fileFrom 0 blocks (now (stream .entry)) ++ drop (512 * blocks) (now (file .entry)) ⌝ }
+    requires { ⌜ (length (now stream) ≤ streamSize) × (blocks ≡ blocksFor (length (now stream))) × (blockSize * blocks ≤ length (now file)) ⌝ }
+    ensures { λ r. ⌜ now (file .exit) ≡ fileFrom 0 blocks (now (stream .entry)) ++ drop (blockSize * blocks) (now (file .entry)) ⌝ }
 {
     let mut k = 0;
     while k < blocks {
@@ -260,7 +261,7 @@ fn write_blocks(stream: &[u8], blocks: usize, file: &mut [u8])
 
 // The block of that number that carries the payload.
 fn fill_block(block: &mut [u8], number: u16, payload: &[u8])
-    requires { ⌜ (length (now block) ≡ 512) × (length (now payload) ≤ 506) ⌝ }
+    requires { ⌜ (length (now block) ≡ blockSize) × (length (now payload) ≤ payloadSize) ⌝ }
     ensures { λ r. ⌜ now (block .exit) ≡ blockOf number (now (payload .entry)) ⌝ }
 {
     let count = payload.len();
@@ -347,7 +348,7 @@ fn view_refusal(bytes: &[u8], blocked: bool, count: usize) -> u8
 
 // Whether the sizes that are present, of n, are 1 to 16.
 fn sizes_good(bytes: &[u8], blocked: bool, count: usize, n: usize) -> bool
-    requires { ⌜ Viewed blocked (now bytes) count × (n ≤ 16) ⌝ }
+    requires { ⌜ Viewed blocked (now bytes) count × (n ≤ places) ⌝ }
     ensures { λ r. ⌜ r ≡ allInSixteen (take n (drop 1 (streamIn blocked (now (bytes .entry))))) ⌝ }
 {
     let mut i = 0;
@@ -365,7 +366,7 @@ fn sizes_good(bytes: &[u8], blocked: bool, count: usize, n: usize) -> bool
 
 // How many costs the n sizes need.
 fn pairs_in(bytes: &[u8], blocked: bool, count: usize, n: usize) -> usize
-    requires { ⌜ Viewed blocked (now bytes) count × (n ≤ 16) × (1 + n ≤ count) ⌝ }
+    requires { ⌜ Viewed blocked (now bytes) count × (n ≤ places) × (1 + n ≤ count) ⌝ }
     ensures { λ r. ⌜ (r ≡ pairsIn (take n (drop 1 (streamIn blocked (now (bytes .entry)))))) × (r < 33554432) ⌝ }
 {
     let mut earlier: usize = 0;
@@ -412,7 +413,7 @@ fn file_costs_good(file: &[u8], count: usize, from: usize, pairs: usize) -> bool
 // How many of the costs left from byte `at` of the stream on stand whole in its block; 1 for a cost that stands in two blocks.
 fn run_at(at: usize, left: usize) -> usize
     requires { ⌜ 0 < left ⌝ }
-    ensures { λ r. ⌜ (1 ≤ r) × (r ≤ left) × (at % 506 < 505 → at % 506 + 2 * r ≤ 506) × (at % 506 ≡ 505 → r ≡ 1) ⌝ }
+    ensures { λ r. ⌜ (1 ≤ r) × (r ≤ left) × RunAt at r ⌝ }
 {
     let inside = at % PAYLOAD_SIZE;
     if inside + 1 == PAYLOAD_SIZE {
@@ -423,7 +424,7 @@ fn run_at(at: usize, left: usize) -> usize
 
 // Whether such a run of costs is within the limit.
 fn run_good(file: &[u8], count: usize, at: usize, run: usize) -> bool
-    requires { ⌜ Viewed true (now file) count × (at + 2 * run ≤ count) × (count < 268435456) × (1 ≤ run) × (at % 506 < 505 → at % 506 + 2 * run ≤ 506) × (at % 506 ≡ 505 → run ≡ 1) ⌝ }
+    requires { ⌜ Viewed true (now file) count × (at + 2 * run ≤ count) × (count < 268435456) × (1 ≤ run) × RunAt at run ⌝ }
     ensures { λ r. ⌜ r ≡ costsGood (streamOf (now (file .entry))) at run ⌝ }
 {
     if at % PAYLOAD_SIZE + 1 == PAYLOAD_SIZE {

@@ -39,7 +39,7 @@ part-read-block-end c = search needs
 cast-read-block : tie.Need-cast-read-block Inv-loop μ-loop
 cast-read-block c =
     let st = c .before .before .before .before .before in
-    record { fits = omega (arith, good-size (length (st .args .file .now)) (st .pre .0)) }
+    record { fits = omega (arith, good-size (length (st .args .file .now)) (st .pre .0 .0)) }
 
 add-read-block : tie.Need-add-read-block Inv-loop μ-loop
 add-read-block c = search needs
@@ -56,8 +56,8 @@ put-requires c κs =
     let st = c .before .before .before .before .before .before .before in
     let l = c .before .before .before .before .loop in
     let f = st .args .file .now in
-    let p = payload-read f (length f / 512) (l .k) (st .pre .1) (omega arith) (512 * l .k + 512 - 512 * l .k) (c .before .read-block .result .now) (omega arith) (c .before .read-block .ensures) in
-    let h = payload-fits f (length f / 512) (l .k) (st .pre .1) (omega arith) (c .before .read-block .result .now) p in
+    let p = payload-read f (length f / 512) (l .k) (st .pre .0 .1) (omega arith) (512 * l .k + 512 - 512 * l .k) (c .before .read-block .result .now) (omega arith) (c .before .read-block .ensures) in
+    let h = payload-fits f (length f / 512) (l .k) (st .pre .0 .1) (omega arith) (c .before .read-block .result .now) p in
     search needs
 
 add-k : tie.Need-add-k Inv-loop μ-loop
@@ -72,8 +72,8 @@ loop-again c =
     let l = c .before .before .before .before .before .before .before .loop in
     let f = st .args .file .now in
     let r = c .before .before .before .before .read-block in
-    let p = payload-read f (length f / 512) (l .k) (st .pre .1) (omega arith) (512 * l .k + 512 - 512 * l .k) (r .result .now) (omega arith) (r .ensures) in
-    (omega arith, search needs, c .before .before .put .ensures ∙ payload-put f (length f / 512) (l .k) (st .pre .1) (omega arith) (st .args .out .now) (r .result .now) (l .out) p (l .inv .2))
+    let p = payload-read f (length f / 512) (l .k) (st .pre .0 .1) (omega arith) (512 * l .k + 512 - 512 * l .k) (r .result .now) (omega arith) (r .ensures) in
+    (omega arith, search needs, c .before .before .put .ensures ∙ payload-put f (length f / 512) (l .k) (st .pre .0 .1) (omega arith) (st .args .out .now) (r .result .now) (l .out) p (l .inv .2))
 
 same-length : tie.Need-same-length Inv-loop μ-loop
 same-length c = search needs

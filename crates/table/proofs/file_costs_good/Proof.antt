@@ -27,7 +27,7 @@ run-good-requires : tie.Need-run-good-requires Inv-loop μ-loop
 run-good-requires c κs =
     let st = c .before .before .before .before in
     let e = c .run-at .ensures in
-    (st .pre .0, omega arith, st .pre .2, e .0, e .2, e .3)
+    (st .pre .0, omega arith, st .pre .2, e .0, e .2)
 
 returns : tie.Need-returns Inv-loop μ-loop
 returns c =

@@ -34,7 +34,7 @@ copy-blocks-requires c κs =
     let ok = sym (x .before .read-refusal .ensures) ∙ x .if1 .left in
     let m = read-most f (length o) ok in
     let h = read-room f (length o) ok in
-    (read-size f (length o) ok, read-blocks f (length o) ok, omega arith)
+    ((read-size f (length o) ok, read-blocks f (length o) ok), omega arith)
 
 same-length : tie.Need-same-length
 same-length c = search needs

@@ -36,7 +36,7 @@ costs-good-requires c κs = search needs
 returns : tie.Need-returns
 returns c =
     let st = c .before .before .before .before .before .before .before .before in
-    let one : st .args .run ≡ 1 = st .pre .5 (omega arith) in
+    let one : st .args .run ≡ 1 = st .pre .4 .1 (omega arith) in
     let a = c .before .before .before .before .byte-at .ensures ∙ ap (λ (x : ℕ). getD (st .args .file .now) x 0) (c .before .before .before .before .before .place-in-file .ensures) in
     let b = c .before .before .byte-at2 .ensures ∙ ap (λ (x : ℕ). getD (st .args .file .now) x 0) (c .before .before .before .place-in-file2 .ensures) in
     c .costs-good .ensures ∙ rw one (cost-in-two (st .args .file .now) (st .args .count) (st .pre .0) (st .args .at) (c .before .before .before .before .byte-at .result) (c .before .before .byte-at2 .result) (omega arith) a b)
@@ -50,7 +50,7 @@ costs-good-requires-2 c κs = search needs
 returns-2 : tie.Need-returns-2
 returns-2 c =
     let st = c .before .before .before .before in
-    c .costs-good2 .ensures ∙ rw (c .before .place-in-file3 .ensures) (run-in-block (st .args .file .now) (st .args .count) (st .pre .0) (st .args .at) (st .args .run) (st .pre .1) (st .pre .4 (omega arith)))
+    c .costs-good2 .ensures ∙ rw (c .before .place-in-file3 .ensures) (run-in-block (st .args .file .now) (st .args .count) (st .pre .0) (st .args .at) (st .args .run) (st .pre .1) (st .pre .4 .0 (omega arith)))
 
 pub run-good-spec : {M : Type 1} → statement M
 run-good-spec =
