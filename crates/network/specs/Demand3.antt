@@ -15,9 +15,7 @@ use mathlib.Core.List.{List, [], _∷_, _++_, map}
 use lib.Dec.{eqb}
 use lib.ListN.{length, take}
 use Rattle.costs.specs.Instance.{Instance, instanceOf}
-use Rattle.costs.specs.Bounds.{Assignment, total}
-use Rattle.costs.specs.Laws.{problemOf}
-use Rattle.protocol.specs.Problem.{N}
+use Rattle.costs.specs.Bounds.{Assignment, total, N}
 use Rattle.message.specs.Message.{Packet}
 use Rattle.message.specs.Encode.{encode}
 use Rattle.unit.specs.Send.{encodeAll}
@@ -91,7 +89,7 @@ reportOf S = let u = unitAt (S .network .core .units) 0 in record { total = u .b
 
 -- (3n - 1) × N
 abbrev pub most : Instance → ℕ
-most I = (3 * I .n - 1) * N (problemOf I)
+most I = (3 * I .n - 1) * N I
 
 -- how many packets of a list pass a test
 unfoldable pub times : (Packet → Bool) → List Packet → ℕ

@@ -70,7 +70,7 @@ module _ {W : Type 0} where
   onward H (refusedBy r) = H
   onward H (delivered K) = K
 
--- ---- making, a delivery and a run over a pool
+-- ---- making and a delivery over a pool
 
 module _ {W : Type 0} (L : Pool W) where
   abbrev pub begunWith : Instance → Out → HistoryOf W
