@@ -14,7 +14,11 @@ ghost use Rattle.unit.specs.Laying.{Room};
 ghost use Rattle.unit.specs.Calls.{outcomeOf, reportOf, unitOf, bytesOf, makeRefusal, start, makeOut, stepRefusal, stepOut};
 ghost use Rattle.unit.specs.Ready.{Shaped};
 
-mod decide; // what each message makes a unit do
+mod assign; // assigning: values tried, the first below the bound written
+mod backtrack; // backtracking: the own value off, the cpa handed back
+mod decide; // what a message makes a unit do, by its kind
+mod estimate; // requests and the estimates that answer them
+mod receive; // a cpa that comes in
 mod send; // what is sent, laid into the lent buffer
 mod state; // whether a state is in range, the order of stamps, and the parts of a state set
 
@@ -194,7 +198,7 @@ fn start(own: u8, n: u8, sizes: [u8; 16], costs: &[u8]) -> Decided
 {
     let u = fresh();
     if own == 1 {
-        return decide::assign(own, n, sizes, costs, u);
+        return assign::assign(own, n, sizes, costs, u);
     }
     decide::quiet(u)
 }

@@ -1,0 +1,46 @@
+-- `assign` meets its contract: the values after the own one are tried, from where `begin` leaves the state.
+-- Assumes nothing.
+use Prim.Native.Nat.{_-_}
+use mathlib.Core.Path.{ap, _∙_}
+use Rattle.costs.specs.Instance.{lentView}
+use Rattle.unit.specs.Step.{Out, decidedOf}
+use Rattle.unit.proofs.Rules.{begun-low, begun-few, assign-lent}
+use borrow.Author.Needs.{needs}
+use Rattle.unit.proofs.assign.assign.Statement.{statement}
+use Rattle.unit.proofs.assign.assign.Tie as tie
+
+sub-place : tie.Need-sub-place
+sub-place c = search needs
+
+cast-place : tie.Need-cast-place
+cast-place c = search needs
+
+element-copy-out-value : tie.Need-element-copy-out-value
+element-copy-out-value c = search needs
+
+begin-requires : tie.Need-begin-requires
+begin-requires c κs = search needs
+
+try-after-requires : tie.Need-try-after-requires
+try-after-requires c κs =
+    let s = c .before .before .before in
+    let a = s .args in
+    let w = lentView (a .own) (a .n) (a .sizes) (a .costs .now) in
+    (s .pre .0, begun-low w (a .t5) (c .begin .result) (c .begin .ensures) (a .own) (s .pre .1), begun-few (a .own) (a .n) (a .sizes) (a .costs .now) (a .t5) (c .begin .result) (c .begin .ensures) (s .pre .1))
+
+returns : tie.Need-returns
+returns c =
+    λ was. let s = c .before .before .before .before in
+    let a = s .args in
+    c .try-after .ensures was ∙ ap (λ (o : Out). decidedOf was o) (assign-lent (a .own) (a .n) (a .sizes) (a .costs .now) (s .pre .0 .number .first) (s .pre .0 .within) (a .t5) (c .before .begin .result) (c .before .begin .ensures))
+
+pub assign-spec : {M : Type 1} → statement M
+assign-spec =
+    tie.close
+    (tie.spec
+    sub-place
+    cast-place
+    element-copy-out-value
+    begin-requires
+    try-after-requires
+    returns)

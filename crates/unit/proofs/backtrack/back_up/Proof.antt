@@ -1,0 +1,53 @@
+-- `back_up` meets its contract: the parts set are those of `backedUp`, at the unit's place; unit 1's is place 0.
+-- Assumes nothing.
+use Prim.Native.Nat.{_-_}
+use native.Mathlib.Omega.{arith}
+use native.Mathlib.Numerals.{add-one}
+use mathlib.Core.Path.{_≡_, _∙_}
+use borrow.Author.Tests.{eq-eqb, ne-eqb}
+use borrow.Author.Needs.{needs}
+use Rattle.unit.proofs.backtrack.back_up.Statement.{statement}
+use Rattle.unit.proofs.backtrack.back_up.Tie as tie
+
+sub-place : tie.Need-sub-place
+sub-place c = search needs
+
+cast-place : tie.Need-cast-place
+cast-place c = search needs
+
+element-copy-out-v : tie.Need-element-copy-out-v
+element-copy-out-v c = search needs
+
+add-v : tie.Need-add-v
+add-v c = record { fits = omega arith }
+
+element-write-v : tie.Need-element-write-v
+element-write-v c = search needs
+
+with-stopped-requires : tie.Need-with-stopped-requires
+with-stopped-requires c κs = search needs
+
+returns : tie.Need-returns
+returns c =
+    λ w e. let a = c .before .before .before .before .before .before .args in
+    let p : w .place ≡ a .own - 1 = omega arith in
+    c .with-stopped .ensures ∙ simp (p, eq-eqb (a .own - 1) 0 (omega arith), add-one)
+
+returns-2 : tie.Need-returns-2
+returns-2 c =
+    λ w e. let a = c .before .before .before .before .before .args in
+    let p : w .place ≡ a .own - 1 = omega arith in
+    simp (p, ne-eqb (a .own - 1) 0 (λ z. omega arith), add-one)
+
+pub back-up-spec : {M : Type 1} → statement M
+back-up-spec =
+    tie.close
+    (tie.spec
+    sub-place
+    cast-place
+    element-copy-out-v
+    add-v
+    element-write-v
+    with-stopped-requires
+    returns
+    returns-2)

@@ -1,0 +1,19 @@
+-- `backtrack` meets its contract: the state and the fields sent are what the two callees ensure.
+-- Assumes nothing.
+use Rattle.unit.specs.Step.{backtrack}
+use borrow.Author.Needs.{needs}
+use Rattle.unit.proofs.backtrack.backtrack.Statement.{statement}
+use Rattle.unit.proofs.backtrack.backtrack.Tie as tie
+
+back-up-requires : tie.Need-back-up-requires
+back-up-requires c κs = search needs
+
+carry-requires : tie.Need-carry-requires
+carry-requires c κs = search needs
+
+returns : tie.Need-returns
+unfolding backtrack
+returns c = λ w was e. rw (c .before .back-up .ensures w e, c .carry .ensures w e)
+
+pub backtrack-spec : {M : Type 1} → statement M
+backtrack-spec = tie.close (tie.spec back-up-requires carry-requires returns)

@@ -1,0 +1,17 @@
+-- `answer` meets its contract: the fields are those of `reply`, the cost the estimate.
+-- Assumes nothing.
+use Rattle.unit.proofs.Lent.{own-lent}
+use borrow.Author.Needs.{needs}
+use Rattle.unit.proofs.estimate.answer.Statement.{statement}
+use Rattle.unit.proofs.estimate.answer.Tie as tie
+
+estimate-requires : tie.Need-estimate-requires
+estimate-requires c κs = search needs
+
+returns : tie.Need-returns
+returns c =
+    λ was. let a = c .before .before .before .before .args in
+    rw (c .estimate .ensures, own-lent (a .own) (a .n) (a .sizes) (a .costs .now) (c .before .before .before .before .pre .first))
+
+pub answer-spec : {M : Type 1} → statement M
+answer-spec = tie.close (tie.spec estimate-requires returns)

@@ -1,0 +1,52 @@
+-- `resume` meets its contract: the test is that of `resume`.
+-- Assumes nothing.
+use Prim.Native.Nat.{_≤_, _<_}
+use native.Mathlib.Omega.{arith}
+use mathlib.Core.Path.{ap, sym, _∙_}
+use mathlib.Core.Bool.{false}
+use Rattle.costs.specs.Instance.{lentView}
+use Rattle.unit.specs.declared.Unit.{Unit}
+use Rattle.unit.specs.Step.{Out, bareCost, backtrack, decidedOf}
+use Rattle.unit.proofs.Lent.{own-lent}
+use Rattle.unit.proofs.Rules.{resume-back, resume-on}
+use borrow.Author.Needs.{needs}
+use Rattle.unit.proofs.receive.resume.Statement.{statement}
+use Rattle.unit.proofs.receive.resume.Tie as tie
+
+bare-cost-requires : tie.Need-bare-cost-requires
+bare-cost-requires c κs = search needs
+
+take-off-requires : tie.Need-take-off-requires
+take-off-requires c κs = search needs
+
+backtrack-requires : tie.Need-backtrack-requires
+backtrack-requires c κs = (c .before .before .before .before .before .pre .0 .number, rw (c .take-off .ensures) (omega (arith, c .before .before .before .before .before .pre .1 .threshold)))
+
+returns : tie.Need-returns
+returns c =
+    λ was. let a = c .before .before .before .before .before .before .args in
+    let w = lentView (a .own) (a .n) (a .sizes) (a .costs .now) in
+    let l : a .u .bound ≤ bareCost w (a .u) = rw (c .before .before .before .before .bare-cost .ensures) at (c .before .before .if1 .taken) in
+    c .backtrack .ensures w was (own-lent (a .own) (a .n) (a .sizes) (a .costs .now) (c .before .before .before .before .before .before .pre .0 .number .first))
+    ∙ ap (λ (t : Unit). decidedOf was (backtrack w false t)) (c .before .take-off .ensures) ∙ ap (λ (o : Out). decidedOf was o) (sym (resume-back w (a .u) l))
+
+assign-requires : tie.Need-assign-requires
+assign-requires c κs = search needs
+
+returns-2 : tie.Need-returns-2
+returns-2 c =
+    λ was. let a = c .before .before .before .before .before .args in
+    let w = lentView (a .own) (a .n) (a .sizes) (a .costs .now) in
+    let l : bareCost w (a .u) < a .u .bound = rw (c .before .before .before .bare-cost .ensures) at (c .before .if1 .left) in
+    c .assign .ensures was ∙ ap (λ (o : Out). decidedOf was o) (sym (resume-on w (a .u) l))
+
+pub resume-spec : {M : Type 1} → statement M
+resume-spec =
+    tie.close
+    (tie.spec
+    bare-cost-requires
+    take-off-requires
+    backtrack-requires
+    returns
+    assign-requires
+    returns-2)

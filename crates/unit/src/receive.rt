@@ -1,0 +1,141 @@
+// A cpa comes in: 01, "Paper".
+
+use crate::Decided;
+use crate::Order;
+use crate::Unit;
+use crate::assign::assign;
+use crate::backtrack::backtrack;
+use crate::backtrack::bare_cost;
+use crate::backtrack::take_off;
+use crate::decide::quiet;
+use crate::decide::refuse;
+use crate::decide::take_bound;
+use crate::state::compare;
+use crate::state::not_smaller;
+use crate::state::same;
+use crate::state::with_cpa;
+use crate::state::with_threshold;
+use message::Message;
+ghost use mathlib.Core.Path.{_≡_};
+ghost use mathlib.Core.Bool.{_&&_};
+ghost use Prim.Native.Nat.{suc, _<_};
+ghost use Rattle.costs.specs.Instance.{View, lentView};
+ghost use Rattle.unit.specs.State.{withThreshold, withCpa, sameOn};
+ghost use Rattle.unit.specs.Step.{takeBound, resume, onDown, isCpaOut, onBack, onCpa, isOut, decidedOf};
+ghost use Rattle.unit.specs.Ready.{Own, Shaped, Ready, Heard};
+
+// A cpa: one from a lower unit goes down.
+pub(crate) fn on_cpa(own: u8, n: u8, sizes: [u8; 16], costs: &[u8], u: Unit, m: Message) -> Decided
+    requires { ⌜ Shaped own n sizes × Ready own u × Heard own m ⌝ }
+    ensures { λ r. ⌜ r ≡ decidedOf u (onCpa (lentView own n sizes (now (costs .entry))) u m) ⌝ }
+{
+    let stamp = m.stamp;
+    let threshold = u.threshold;
+    let order = compare(own as usize, stamp, threshold);
+    if m.sender < own {
+        return on_down(own, n, sizes, costs, order, u, m);
+    }
+    on_back(own, n, sizes, costs, order, u, m)
+}
+
+// A cpa going down, by how its stamp compares with the threshold.
+fn on_down(
+    own: u8,
+    n: u8,
+    sizes: [u8; 16],
+    costs: &[u8],
+    order: Order,
+    u: Unit,
+    m: Message,
+) -> Decided
+    requires { ⌜ Shaped own n sizes × Ready own u × Heard own m × (m .sender < own) ⌝ }
+    ensures { λ r. ⌜ ((was : Unit) → r ≡ decidedOf was (onDown (lentView own n sizes (now (costs .entry))) order u m)) ⌝ }
+{
+    match order {
+        Order::Smaller => quiet(u),
+        Order::Equal => resume(own, n, sizes, costs, receive(m, u)),
+        Order::Bigger => resume(own, n, sizes, costs, receive(m, follow(m, u))),
+    }
+}
+
+// The cpa of a message is the one out, and its bound is taken if lower.
+fn receive(m: Message, u: Unit) -> Unit
+    ensures { λ r. ⌜ r ≡ takeBound m (withCpa (m .stamp) (m .values) (m .cost) u) ⌝ }
+{
+    let stamp = m.stamp;
+    let values = m.values;
+    let t = with_cpa(stamp, values, m.cost, u);
+    take_bound(m, t)
+}
+
+// The threshold becomes the message's stamp.
+pub(crate) fn follow(m: Message, u: Unit) -> Unit
+    ensures { λ r. ⌜ r ≡ withThreshold (m .stamp) u ⌝ }
+{
+    let stamp = m.stamp;
+    with_threshold(stamp, u)
+}
+
+// A cpa going back, by how its stamp compares with the threshold.
+fn on_back(
+    own: u8,
+    n: u8,
+    sizes: [u8; 16],
+    costs: &[u8],
+    order: Order,
+    u: Unit,
+    m: Message,
+) -> Decided
+    requires { ⌜ Shaped own n sizes × Ready own u ⌝ }
+    ensures { λ r. ⌜ r ≡ decidedOf u (onBack (lentView own n sizes (now (costs .entry))) order u m) ⌝ }
+{
+    if !not_smaller(order) {
+        return quiet(u);
+    }
+    if !is_cpa_out(own, u, m) {
+        return refuse(11, u);
+    }
+    resume(own, n, sizes, costs, take_bound(m, u))
+}
+
+// Whether a message's cpa is the one out.
+fn is_cpa_out(own: u8, u: Unit, m: Message) -> bool
+    requires { ⌜ Own own ⌝ }
+    ensures { λ r. ⌜ ((w : View) → suc (w .place) ≡ own → r ≡ isCpaOut w u m) ⌝ }
+{
+    if !is_stamp_out(own, u, m) {
+        return false;
+    }
+    let values = u.values;
+    let theirs = m.values;
+    if !same(own as usize, theirs, values) {
+        return false;
+    }
+    m.cost == u.cost
+}
+
+// Whether a cpa is out, and a message's stamp is its stamp.
+pub(crate) fn is_stamp_out(own: u8, u: Unit, m: Message) -> bool
+    requires { ⌜ Own own ⌝ }
+    ensures { λ r. ⌜ ((w : View) → suc (w .place) ≡ own → r ≡ (isOut w u && sameOn (suc (w .place)) (m .stamp) (u .stamp))) ⌝ }
+{
+    if u.values[(own - 1) as usize] < 1 {
+        return false;
+    }
+    let stamp = u.stamp;
+    let theirs = m.stamp;
+    same(own as usize, theirs, stamp)
+}
+
+// Backtrack where the cost without the own value reaches the bound, else assign.
+fn resume(own: u8, n: u8, sizes: [u8; 16], costs: &[u8], u: Unit) -> Decided
+    requires { ⌜ Shaped own n sizes × Ready own u ⌝ }
+    ensures { λ r. ⌜ ((was : Unit) → r ≡ decidedOf was (resume (lentView own n sizes (now (costs .entry))) u)) ⌝ }
+{
+    let bare = bare_cost(own, n, sizes, costs, u);
+    if u.bound <= bare {
+        let t = take_off(own, n, sizes, costs, u);
+        return backtrack(own, false, t);
+    }
+    assign(own, n, sizes, costs, u)
+}
