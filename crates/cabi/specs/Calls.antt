@@ -16,7 +16,7 @@ use Rattle.message.specs.Decode.{writeRefusal, packetInto}
 use Rattle.unit.specs.declared.Outcome.{Outcome}
 use Rattle.unit.specs.declared.Report.{Report}
 use Rattle.unit.specs.declared.Unit.{Unit}
-use Rattle.unit.specs.Step.{Out}
+use Rattle.unit.specs.Step.{Decision}
 use Rattle.unit.specs.Calls.{outcomeOf, bytesOf, stepOut}
 use Rattle.network.specs.declared.Network.{Network}
 use Rattle.network.specs.declared.Answer.{Answer}
@@ -62,7 +62,7 @@ writtenByCode n sizes code m out = writtenAs (kindOf code) n sizes m out
 
 -- ---- a step on a lent state: unit's, on the state that is read
 
-abbrev pub stepBy : LentUnit → ℕ → ℕ → List ℕ → List ℕ → List ℕ → ℕ → Out
+abbrev pub stepBy : LentUnit → ℕ → ℕ → List ℕ → List ℕ → List ℕ → ℕ → Decision
 stepBy s own n sizes costs packet room = stepOut (unitFrom s) own n sizes costs packet room
 
 unfoldable pub stepOf : LentUnit → ℕ → ℕ → List ℕ → List ℕ → List ℕ → ℕ → LentOutcome

@@ -15,7 +15,7 @@ use Rattle.message.specs.Message.{isUnit, every}
 use Rattle.message.specs.Decode.{parseFor}
 use Rattle.unit.specs.declared.Unit.{Unit}
 use Rattle.unit.specs.State.{noUnit, fresh, inRange}
-use Rattle.unit.specs.Step.{Out, refused, accepted, assign}
+use Rattle.unit.specs.Step.{Decision, refused, accepted, assign}
 use Rattle.unit.specs.Send.{packets, laid}
 use Rattle.unit.specs.Calls.{unlessRefused, onRead}
 use Rattle.network.specs.declared.Core.{Core}
@@ -36,7 +36,7 @@ pub record Result : Type 0 where
 abbrev pub noNetwork : Network
 noNetwork = record { core = record { units = replicate 16 noUnit; records = zeroCount; deliveries = zeroCount }; used = 0 }
 
-abbrev pub made : ℕ → List ℕ → Out → Result
+abbrev pub made : ℕ → List ℕ → Decision → Result
 made n pool (refused r) = record { answer = record { refusal = r; network = noNetwork }; pool = pool }
 made n pool (accepted u s ws) =
     let ps = packets n 0 s in
@@ -77,7 +77,7 @@ abbrev pub receiverOf : ℕ → List ℕ → ℕ
 receiverOf n bytes = cond (isUnit n (getD bytes 2 0)) (getD bytes 2 0) 1
 
 -- 01: "the step's from 8 on"
-unfoldable pub stepFrom8 : List ℕ → List Unit → ℕ → List ℕ → Out
+unfoldable pub stepFrom8 : List ℕ → List Unit → ℕ → List ℕ → Decision
 stepFrom8 stream units own bytes =
     let p = parseFor (unitsOf stream) (sizesIn stream) own bytes in
     onRead (viewOf (instanceOf stream) (pred own)) (unitAt units (pred own)) (p .answer) (p .message)
@@ -97,7 +97,7 @@ abbrev pub ifFits : Bool → Network → List ℕ → Result → Result
 ifFits true net pool r = r
 ifFits false net pool r = refusedDelivery net pool 14
 
-abbrev pub onOut : Network → List ℕ → ℕ → ℕ → ℕ → Out → Result
+abbrev pub onOut : Network → List ℕ → ℕ → ℕ → ℕ → Decision → Result
 onOut net pool cell n own (refused r) = refusedDelivery net pool r
 onOut net pool cell n own (accepted u s ws) =
     let ps = packets n (pred own) s in

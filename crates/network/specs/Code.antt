@@ -14,7 +14,7 @@ use native.Mathlib.Nat.{sub-zero}
 use lib.Dec.{ltb, leb}
 use lib.ListN.{length, getD, set, take, drop, replicate}
 use lib.Seq.{paste}
-use borrow.Author.Tests.{lt-ltb, le-ltb, ltb-false, le-leb, lt-leb, leb-true, leb-false, eq-eqb}
+use borrow.Author.Tests.{lt-ltb, le-ltb, ltb-false, le-leb, lt-leb, leb-true, leb-false}
 use Rattle.base.specs.Shape.{and-left, and-right}
 use Rattle.base.specs.Refusal.{or-left, or-right, or-first}
 use Rattle.table.specs.Stream.{unitsOf, streamRefusal, Accepted}
@@ -31,16 +31,16 @@ use Rattle.message.specs.Laws.{every-at}
 use Rattle.message.specs.RoundTrip.{AllBytes}
 use Rattle.unit.specs.declared.Unit.{Unit as UnitState}
 use Rattle.unit.specs.declared.Outcome.{Outcome}
-use Rattle.unit.specs.State.{noUnit, fresh, inRangePaid, inRange}
+use Rattle.unit.specs.State.{noUnit, fresh, paidInRange, inRange}
 use Rattle.unit.specs.Step as U
-use Rattle.unit.specs.Step.{Out, assign}
+use Rattle.unit.specs.Step.{Decision, assign}
 use Rattle.unit.specs.Send.{packets, encodeAll}
 use Rattle.unit.specs.Units.{unitAt}
 use Rattle.unit.specs.Calls as UC
 use Rattle.unit.specs.Calls.{outcomeOf, bytesOf, stepOut, makeOut}
 use Rattle.unit.specs.Laws.Views.{unit-range}
 use Rattle.unit.specs.Laws.Range.{SizedUnit}
-use Rattle.unit.specs.Laws.Assign.{Whenever, Kept}
+use Rattle.unit.specs.Laws.Assign.{Whenever, GoodDecision}
 use Rattle.unit.specs.Laws.Refusals.{Numbered, Accepts, assign-accepts, parse-numbered, read-numbered}
 use Rattle.unit.specs.Laws.Units.{each-of-all}
 use Rattle.unit.specs.Laws.Calls as UL
@@ -60,7 +60,7 @@ unitInRange s us k = inRange (sizesIn s) (viewOf (instanceOf s) k) (unitAt us k)
 
 -- by what its own value pays
 pub range-of-paid : (s : List ℕ) (us : List UnitState) (k : ℕ) (u : UnitState) (v paid : ℕ) → u ≡ unitAt us k → v ≡ getD (u .values) k 0
-    → paid ≡ costWith (viewOf (instanceOf s) k) (u .values) k v → inRangePaid (unitsOf s) (sizesIn s) k paid u ≡ unitInRange s us k
+    → paid ≡ costWith (viewOf (instanceOf s) k) (u .values) k v → paidInRange (unitsOf s) (sizesIn s) (suc k) paid u ≡ unitInRange s us k
 unfolding inRange instanceOf
 range-of-paid s us k u v paid unit own pays = rw (pays, own, unit)
 
@@ -188,10 +188,10 @@ module _ (s : List ℕ) (ok : Accepted s) (us : List UnitState) (own : ℕ) (fir
   step-is =
       rw (UL.not-refused own (unitsOf s) (sizesIn s) (gathered s own) room (unitAt us (pred own)) passes, gathered-view s ok own first last (sizesIn s) (accepted-sizes-first s ok))
 
-  pub step-keeps : SizedUnit (unitAt us (pred own)) → AllBytes bytes → Whenever (Kept (unitsOf s) (sizesIn s) (viewOf (instanceOf s) (pred own)) 16) (stepFrom8 s us own bytes)
+  pub step-keeps : SizedUnit (unitAt us (pred own)) → AllBytes bytes → Whenever (GoodDecision (unitsOf s) (sizesIn s) (viewOf (instanceOf s) (pred own)) 16) (stepFrom8 s us own bytes)
   step-keeps arrays all =
       let most : unitsOf s ≤ length (sizesIn s) = omega (arith, length-sizes s, accepted-units s ok .1) in
-      subst (λ (o : Out). Whenever (Kept (unitsOf s) (sizesIn s) (viewOf (instanceOf s) (pred own)) 16) o) step-is
+      subst (λ (o : Decision). Whenever (GoodDecision (unitsOf s) (sizesIn s) (viewOf (instanceOf s) (pred own)) 16) o) step-is
       (rw (gathered-view s ok own first last (sizesIn s) (accepted-sizes-first s ok)) at
       (UL.step-kept own (unitsOf s) (sizesIn s) (gathered s own) room most (unitAt us (pred own)) arrays bytes all))
 
@@ -207,8 +207,8 @@ pub step-told : (s : List ℕ) (own : ℕ) (u : UnitState) → Stepping s own u 
     → 1024 ≤ length before → r ≡ outcomeOf n (pred own) u (stepOut u own n sizes costs bytes (length before)) → after ≡ bytesOf n (pred own) before (stepOut u own n sizes costs bytes (length before))
     → Stepped s own u bytes before r after
 step-told s own u g n sizes costs bytes before after r units array lent fits e f = record {
-  outcome = λ us at. e ∙ rw (units, array, lent) (ap (λ (o : Out). outcomeOf (unitsOf s) (pred own) u o) (same us at));
-  buffer = λ us at. f ∙ rw (units, array, lent) (ap (λ (o : Out). bytesOf (unitsOf s) (pred own) before o) (same us at));
+  outcome = λ us at. e ∙ rw (units, array, lent) (ap (λ (o : Decision). outcomeOf (unitsOf s) (pred own) u o) (same us at));
+  buffer = λ us at. f ∙ rw (units, array, lent) (ap (λ (o : Decision). bytesOf (unitsOf s) (pred own) before o) (same us at));
 }
   where
     same : (us : List UnitState) → unitAt us (pred own) ≡ u → stepOut u own (unitsOf s) (sizesIn s) (gathered s own) bytes (length before) ≡ stepFrom8 s us own bytes
@@ -237,12 +237,12 @@ abbrev pub storedPool : Network → ℕ → Outcome → List ℕ → List ℕ �
 storedPool net cell r out pool =
     cond (leb (net .used - 1 + r .sent) 1024) (paste (closeGap pool (64 * cell) (64 * net .used)) (64 * (net .used - 1)) out (64 * r .sent)) pool
 
-module _ (net : Network) (s pool : List ℕ) (cell own : ℕ) (was : UnitState) (o : Out) (r : Outcome) (told : r ≡ outcomeOf (unitsOf s) (pred own) was o) where
+module _ (net : Network) (s pool : List ℕ) (cell own : ℕ) (was : UnitState) (o : Decision) (r : Outcome) (told : r ≡ outcomeOf (unitsOf s) (pred own) was o) where
   -- a step never sends more than 16 packets
-  pub few-sent : Whenever (Kept (unitsOf s) (sizesIn s) (viewOf (instanceOf s) (pred own)) 16) o → r .sent ≤ 16
+  pub few-sent : Whenever (GoodDecision (unitsOf s) (sizesIn s) (viewOf (instanceOf s) (pred own)) 16) o → r .sent ≤ 16
   few-sent k = go o told k
     where
-      go : (o : Out) → r ≡ outcomeOf (unitsOf s) (pred own) was o → Whenever (Kept (unitsOf s) (sizesIn s) (viewOf (instanceOf s) (pred own)) 16) o → r .sent ≤ 16
+      go : (o : Decision) → r ≡ outcomeOf (unitsOf s) (pred own) was o → Whenever (GoodDecision (unitsOf s) (sizesIn s) (viewOf (instanceOf s) (pred own)) 16) o → r .sent ≤ 16
       go (U.refused x) e k = rw e (omega arith)
       go (U.accepted u m ws) e k = rw e (k .few)
 
@@ -250,17 +250,17 @@ module _ (net : Network) (s pool : List ℕ) (cell own : ℕ) (was : UnitState) 
       → (record { refusal = r .refusal; network = net } ≡ onOut net pool cell (unitsOf s) own o .answer) × (pool ≡ onOut net pool cell (unitsOf s) own o .pool)
   deliver-refuses z = go o told
     where
-      go : (o : Out) → r ≡ outcomeOf (unitsOf s) (pred own) was o
+      go : (o : Decision) → r ≡ outcomeOf (unitsOf s) (pred own) was o
           → (record { refusal = r .refusal; network = net } ≡ onOut net pool cell (unitsOf s) own o .answer) × (pool ≡ onOut net pool cell (unitsOf s) own o .pool)
       go (U.refused x) e = (rw e, refl)
       go (U.accepted u m ws) e = absurd (z (rw e))
 
-  pub deliver-stores : r .refusal ≡ 0 → Numbered o → Whenever (Kept (unitsOf s) (sizesIn s) (viewOf (instanceOf s) (pred own)) 16) o → cell < net .used → 64 * net .used ≤ length pool
+  pub deliver-stores : r .refusal ≡ 0 → Numbered o → Whenever (GoodDecision (unitsOf s) (sizesIn s) (viewOf (instanceOf s) (pred own)) 16) o → cell < net .used → 64 * net .used ≤ length pool
       → (out was-out : List ℕ) → out ≡ bytesOf (unitsOf s) (pred own) was-out o
       → (storedAnswer net own r ≡ onOut net pool cell (unitsOf s) own o .answer) × (storedPool net cell r out pool ≡ onOut net pool cell (unitsOf s) own o .pool)
   deliver-stores z number k inside fits out was-out sent = go o told number k sent
     where
-      go : (o : Out) → r ≡ outcomeOf (unitsOf s) (pred own) was o → Numbered o → Whenever (Kept (unitsOf s) (sizesIn s) (viewOf (instanceOf s) (pred own)) 16) o → out ≡ bytesOf (unitsOf s) (pred own) was-out o
+      go : (o : Decision) → r ≡ outcomeOf (unitsOf s) (pred own) was o → Numbered o → Whenever (GoodDecision (unitsOf s) (sizesIn s) (viewOf (instanceOf s) (pred own)) 16) o → out ≡ bytesOf (unitsOf s) (pred own) was-out o
           → (storedAnswer net own r ≡ onOut net pool cell (unitsOf s) own o .answer) × (storedPool net cell r out pool ≡ onOut net pool cell (unitsOf s) own o .pool)
       go (U.refused x) e number k sent = let q : x ≡ 0 = sym (ap (λ (y : Outcome). y .refusal) e) ∙ z in absurd (omega arith)
       go (U.accepted u m ws) e number k sent = rw e (by-room (leb (net .used - 1 + length (packets (unitsOf s) (pred own) m)) 1024))
@@ -311,7 +311,7 @@ module _ (net : Network) (s pool : List ℕ) (cell : ℕ) (checks : Open net s p
     stepping = record { table = checks .table; first = own-first; last = own-last; state = rw at-place at in-range }
 
     module _ (before out : List ℕ) (r : Outcome) (told : Stepped s own u (take m (drop (64 * cell) pool)) before r out) (arrays : SizedUnit u) (all : AllBytes (take m (drop (64 * cell) pool))) where
-      abbrev o : Out
+      abbrev o : Decision
       o = stepFrom8 s (net .core .units) own (cellOf pool cell)
 
       gives : r ≡ outcomeOf (unitsOf s) (pred own) u (stepFrom8 s (net .core .units) own (cellOf pool cell))
@@ -320,7 +320,7 @@ module _ (net : Network) (s pool : List ℕ) (cell : ℕ) (checks : Open net s p
       leaves : out ≡ bytesOf (unitsOf s) (pred own) before (stepFrom8 s (net .core .units) own (cellOf pool cell))
       leaves = rw size at (told .buffer (net .core .units) at-place)
 
-      keeps : Whenever (Kept (unitsOf s) (sizesIn s) (viewOf (instanceOf s) (pred own)) 16) (stepFrom8 s (net .core .units) own (cellOf pool cell))
+      keeps : Whenever (GoodDecision (unitsOf s) (sizesIn s) (viewOf (instanceOf s) (pred own)) 16) (stepFrom8 s (net .core .units) own (cellOf pool cell))
       keeps =
           step-keeps s (checks .table) (net .core .units) own own-first own-last in-range (cellOf pool cell) 1024 (omega arith) (subst (λ (x : UnitState). SizedUnit x) (sym at-place) arrays)
           (rw size at all)
@@ -362,11 +362,11 @@ module _ (s pool : List ℕ) where
 
   -- unit 1 assigns
   pub first-step : Accepted s → (room : ℕ) → 1024 ≤ room → makeOut 1 (unitsOf s) (sizesIn s) (gathered s 1) room ≡ assign (viewOf (instanceOf s) 0) fresh
-  unfolding makeOut UC.makeRefusal
+  unfolding makeOut UC.makeRefusal UC.seatRefusal
   first-step ok room fits =
       let last : 1 ≤ unitsOf s = accepted-units s ok .0 in
       let lent = gathered-good s ok 1 (omega arith) last (sizesIn s) (accepted-sizes-first s ok) in
-      rw (accepted-sizes-good s ok, le-leb 1 (unitsOf s) last, eq-eqb _ 0 lent, le-ltb room 1024 fits, gathered-view s ok 1 (omega arith) last (sizesIn s) (accepted-sizes-first s ok))
+      rw (accepted-sizes-good s ok, le-leb 1 (unitsOf s) last, lent, le-ltb room 1024 fits, gathered-view s ok 1 (omega arith) last (sizesIn s) (accepted-sizes-first s ok))
 
 -- the network as making leaves it, by the outcome of unit 1's making
 abbrev pub begunAnswer : Outcome → Answer
@@ -381,7 +381,7 @@ module _ (s pool : List ℕ) (r : Outcome) (out : List ℕ) (told : r ≡ outcom
   unfolding makeOf
   make-begins z = rw z (go (assign (viewOf (instanceOf s) 0) fresh) (assign-accepts (viewOf (instanceOf s) 0) fresh) told sent)
     where
-      go : (o : Out) → Accepts o → r ≡ outcomeOf (unitsOf s) 0 noUnit o → out ≡ bytesOf (unitsOf s) 0 pool o
+      go : (o : Decision) → Accepts o → r ≡ outcomeOf (unitsOf s) 0 noUnit o → out ≡ bytesOf (unitsOf s) 0 pool o
           → (begunAnswer r ≡ made (unitsOf s) pool o .answer) × (out ≡ made (unitsOf s) pool o .pool)
       go (U.refused x) a e f = absurd a
       go (U.accepted u m ws) a e f = (rw e, f)

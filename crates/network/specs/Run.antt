@@ -17,7 +17,7 @@ use Rattle.costs.specs.Instance.{Instance, viewOf, instanceOf}
 use Rattle.message.specs.Message.{Packet}
 use Rattle.unit.specs.declared.Unit.{Unit}
 use Rattle.unit.specs.State.{fresh}
-use Rattle.unit.specs.Step.{Out, refused, accepted, Written, assign}
+use Rattle.unit.specs.Step.{Decision, refused, accepted, Written, assign}
 use Rattle.unit.specs.Send.{packets}
 pub use Rattle.unit.specs.Units.{unitAt, placeOf, stepOn}
 
@@ -58,7 +58,7 @@ module _ {W : Type 0} where
   ifFits H p u ps ws none = refusedBy 14
   ifFits H p u ps ws (some w) = delivered (after H p u ps ws w)
 
-  abbrev pub onOut : Instance → HistoryOf W → Packet → (List Packet → Option W) → Out → DeliveryOf W
+  abbrev pub onOut : Instance → HistoryOf W → Packet → (List Packet → Option W) → Decision → DeliveryOf W
   onOut I H p put (refused r) = refusedBy r
   onOut I H p put (accepted u s ws) = ifFits H p u (packets (I .n) (placeOf p) s) ws (put (packets (I .n) (placeOf p) s))
 
@@ -73,7 +73,7 @@ module _ {W : Type 0} where
 -- ---- making and a delivery over a pool
 
 module _ {W : Type 0} (L : Pool W) where
-  abbrev pub begunWith : Instance → Out → HistoryOf W
+  abbrev pub begunWith : Instance → Decision → HistoryOf W
   begunWith I (refused r) = record { units = replicate 16 fresh; waiting = L .start []; written = []; sent = []; handed = [] }
   begunWith I (accepted u s ws) =
       let ps = packets (I .n) 0 s in

@@ -9,14 +9,14 @@ use unit::Outcome;
 use unit::Unit;
 ghost use mathlib.Core.Path.{_≡_};
 ghost use mathlib.Core.List.{List};
-ghost use Prim.Native.Nat.{ℕ, _≤_, _<_};
+ghost use Prim.Native.Nat.{ℕ, suc, _≤_, _<_};
 ghost use lib.ListN.{length, getD};
 ghost use Rattle.table.specs.Stream.{unitsOf, Accepted};
 ghost use Rattle.message.specs.Message.{every};
 ghost use Rattle.message.specs.RoundTrip.{AllBytes};
 ghost use Rattle.costs.specs.Instance.{viewOf, instanceOf};
 ghost use Rattle.costs.specs.Bounds.{costWith};
-ghost use Rattle.unit.specs.State.{inRangePaid};
+ghost use Rattle.unit.specs.State.{paidInRange};
 ghost use Rattle.unit.specs.Laws.Range.{SizedUnit};
 ghost use Rattle.network.specs.Calls.{deliverRefusal, receiverOf, stepped, deliverBy, deliverOf};
 ghost use Rattle.network.specs.Code.{unitInRange, Open, Stepping, Stepped, Storing, storedAnswer, storedPool};
@@ -86,11 +86,12 @@ fn units_in_range(units: [Unit; 16], stream: &[u8]) -> bool
 // Whether the state of the unit at place k is in range, by what its own value costs in the stream.
 fn unit_in_range(k: u8, n: u8, sizes: [u8; 16], stream: &[u8], u: Unit) -> bool
     requires { ⌜ k < 16 ⌝ }
-    ensures { λ r. ⌜ r ≡ inRangePaid n sizes k (costWith (viewOf (instanceOf (now (stream .entry))) k) (u .values) k (getD (u .values) k 0)) u ⌝ }
+    ensures { λ r. ⌜ r ≡ paidInRange n sizes (suc k) (costWith (viewOf (instanceOf (now (stream .entry))) k) (u .values) k (getD (u .values) k 0)) u ⌝ }
 {
+    let own = k + 1;
     let values = u.values;
-    let paid = costs::stream_cost_with(stream, values, k + 1, values[k as usize]);
-    unit::in_range_paid(k, n, sizes, paid, u)
+    let paid = costs::stream_cost_with(stream, values, own, values[k as usize]);
+    unit::in_range_paid(own, n, sizes, paid, u)
 }
 
 // The message at the cell goes to its receiver, and what that unit sends is added at the end.

@@ -5,11 +5,12 @@ use native.Mathlib.Omega.{arith}
 use mathlib.Core.Path.{_≡_, refl, sym, ap, _∙_}
 use mathlib.Core.Bool.{true, false}
 use mathlib.Core.List.{List}
-use lib.Dec.{eqb}
 use lib.ListN.{length}
-use borrow.Author.Tests.{lt-ltb, le-ltb, eq-eqb, ne-eqb, eqb-true}
+use borrow.Author.Tests.{lt-ltb, le-ltb}
+use Rattle.base.specs.Refusal.{or-first}
 use Rattle.base.specs.Shape.{shapeGood, shape-n}
-use Rattle.costs.specs.Instance.{View, lentView}
+use Rattle.costs.specs.declared.Seat.{Seat}
+use Rattle.costs.specs.Instance.{View, lentView, viewFrom}
 use Rattle.costs.specs.Lent.{lentRefusal}
 use Rattle.message.specs.declared.Parsed.{Parsed}
 use Rattle.message.specs.declared.Kind.{Kind}
@@ -21,32 +22,36 @@ use Rattle.unit.specs.declared.Unit.{Unit}
 use Rattle.unit.specs.declared.Decided.{Decided}
 use Rattle.unit.specs.declared.Outcome.{Outcome}
 use Rattle.unit.specs.State.{fresh, inRange}
-use Rattle.unit.specs.Step.{Out, refused, accepted, stale, assign, respond, decidedOf}
+use Rattle.unit.specs.Step.{Decision, refused, accepted, quiet, assign, respond}
 use Rattle.unit.specs.Send.{packets, laid}
 use Rattle.unit.specs.Laying.{Room, laid-none}
-use Rattle.unit.specs.Calls.{outcomeOf, reportOf, unitOf, bytesOf, makeRefusal, start, unlessRefused, makeOut, stepRefusal, stepOut}
-use Rattle.unit.specs.Ready.{Shaped, Ready, Heard}
+use Rattle.unit.specs.Calls.{outcomeOf, reportOf, unitOf, bytesOf, seatRefusal, makeRefusal, rangeRefusal, start, unlessRefused, makeOut, stepRefusal, stepOut}
+use Rattle.unit.specs.Ready.{Shaped, Ready, Heard, decidedOf}
 use Rattle.unit.specs.Laws.Views.{unit-range, lent-good}
 use Rattle.unit.specs.Laws.Range.{SizedUnit}
-use Rattle.unit.specs.Laws.Assign.{Whenever, Kept}
+use Rattle.unit.specs.Laws.Assign.{Whenever, GoodDecision}
 use Rattle.unit.specs.Laws.Steps.{respond-kept, start-kept}
 use Rattle.unit.specs.Laws.Calls.{Makes, Passed}
 use Rattle.unit.proofs.Lent.{pred-sub}
 use Rattle.unit.specs.Laws.Readiness.{own-of, shaped-of, ready-of, heard-of}
 
+-- a seat by its parts
+abbrev pub seatOf : ℕ → ℕ → List ℕ → Seat
+seatOf own n sizes = record { own = own; n = n; sizes = sizes }
+
 -- ---- what the caller gets
 
 -- a result and the bytes left, of what was decided
-abbrev pub Told : ℕ → ℕ → Unit → List ℕ → Outcome → List ℕ → Out → Type 0
+abbrev pub Told : ℕ → ℕ → Unit → List ℕ → Outcome → List ℕ → Decision → Type 0
 Told n k was l r t o = (r ≡ outcomeOf n k was o) × (t ≡ bytesOf n k l o)
 
-pub told-by : (n k : ℕ) (was : Unit) (l : List ℕ) (r : Outcome) (t : List ℕ) (o o′ : Out) → o ≡ o′ → Told n k was l r t o′ → Told n k was l r t o
+pub told-by : (n k : ℕ) (was : Unit) (l : List ℕ) (r : Outcome) (t : List ℕ) (o o′ : Decision) → o ≡ o′ → Told n k was l r t o′ → Told n k was l r t o
 told-by n k was l r t o o′ e h = rw e h
 
-pub told-refused : (n k : ℕ) (was : Unit) (l : List ℕ) (r : Outcome) (o : Out) (x : ℕ) → o ≡ refused x → r ≡ outcomeOf n k was (refused x) → Told n k was l r l o
+pub told-refused : (n k : ℕ) (was : Unit) (l : List ℕ) (r : Outcome) (o : Decision) (x : ℕ) → o ≡ refused x → r ≡ outcomeOf n k was (refused x) → Told n k was l r l o
 told-refused n k was l r o x e h = rw e (h, refl)
 
-pub carried-out : (n own : ℕ) (was : Unit) (o : Out) (d : Decided) (sent : ℕ) (l t : List ℕ) → d ≡ decidedOf was o → sent ≡ length (packets n (own - 1) (d .sending))
+pub carried-out : (n own : ℕ) (was : Unit) (o : Decision) (d : Decided) (sent : ℕ) (l t : List ℕ) → d ≡ decidedOf was o → sent ≡ length (packets n (own - 1) (d .sending))
     → t ≡ laid (packets n (own - 1) (d .sending)) l → Told n (pred own) was l (record { refusal = d .refusal; unit = d .unit; sent = sent; records = d .records }) t o
 unfolding packets
 carried-out n own was (refused x) d sent l t e f g = rw (f, g, e) (refl, laid-none l)
@@ -54,38 +59,65 @@ carried-out n own was (accepted u s ws) d sent l t e f g = rw (f, g, e, pred-sub
 
 -- ---- what was decided is at most 16 packets
 
-few-decided : (n : ℕ) (sizes : List ℕ) (w : View) (was : Unit) (o : Out) (d : Decided) → d ≡ decidedOf was o → Whenever (Kept n sizes w 16) o → length (packets n (w .place) (d .sending)) ≤ 16
+few-decided : (n : ℕ) (sizes : List ℕ) (w : View) (was : Unit) (o : Decision) (d : Decided) → d ≡ decidedOf was o → Whenever (GoodDecision n sizes w 16) o → length (packets n (w .place) (d .sending)) ≤ 16
 unfolding packets
 few-decided n sizes w was (refused x) d e h = rw e (omega arith)
 few-decided n sizes w was (accepted u s ws) d e h = rw e (h .few)
 
-room-of : (own n : ℕ) (sizes out : List ℕ) → shapeGood n sizes ≡ true → isUnit n own ≡ true → 1024 ≤ length out → Room own n out
-room-of own n sizes out s i f = let u = unit-range n own i in record { first = u .0; last = u .1; units = shape-n n sizes s .1; bytes = f }
+room-of : (seat : Seat) (out : List ℕ) → shapeGood (seat .n) (seat .sizes) ≡ true → isUnit (seat .n) (seat .own) ≡ true → 1024 ≤ length out → Room seat out
+room-of seat out s i f = let u = unit-range (seat .n) (seat .own) i in record { first = u .0; last = u .1; units = shape-n (seat .n) (seat .sizes) s .1; bytes = f }
+
+-- ---- refusals before anything is done
+
+module _ (seat : Seat) (costs : List ℕ) where
+  pub seat-5 : shapeGood (seat .n) (seat .sizes) ≡ false → 5 ≡ seatRefusal (seat .own) (seat .n) (seat .sizes) costs
+  unfolding seatRefusal
+  seat-5 a = rw a
+
+  pub seat-10 : shapeGood (seat .n) (seat .sizes) ≡ true → isUnit (seat .n) (seat .own) ≡ false → 10 ≡ seatRefusal (seat .own) (seat .n) (seat .sizes) costs
+  unfolding seatRefusal
+  seat-10 a b = rw (a, b)
+
+  pub seat-lent : shapeGood (seat .n) (seat .sizes) ≡ true → isUnit (seat .n) (seat .own) ≡ true → lentRefusal (seat .own) (seat .n) (seat .sizes) costs ≡ seatRefusal (seat .own) (seat .n) (seat .sizes) costs
+  unfolding seatRefusal
+  seat-lent a b = rw (a, b)
+
+  module _ (r : ℕ) (e : r ≡ seatRefusal (seat .own) (seat .n) (seat .sizes) costs) where
+    pub make-seat : (room : ℕ) → (r ≡ 0 → ⊥) → r ≡ makeRefusal (seat .own) (seat .n) (seat .sizes) costs room
+    unfolding makeRefusal
+    make-seat room h = rw (← e, or-first r _ h)
+
+    pub make-13 : (room : ℕ) → r ≡ 0 → room < 1024 → 13 ≡ makeRefusal (seat .own) (seat .n) (seat .sizes) costs room
+    unfolding makeRefusal
+    make-13 room z l = rw (← e, z, lt-ltb room 1024 l)
+
+    pub make-0 : (room : ℕ) → r ≡ 0 → 1024 ≤ room → 0 ≡ makeRefusal (seat .own) (seat .n) (seat .sizes) costs room
+    unfolding makeRefusal
+    make-0 room z l = rw (← e, z, le-ltb room 1024 l)
+
+    pub range-seat : (u : Unit) → (r ≡ 0 → ⊥) → r ≡ rangeRefusal u (seat .own) (seat .n) (seat .sizes) costs
+    unfolding rangeRefusal
+    range-seat u h = rw (← e, or-first r _ h)
+
+    pub range-5 : (u : Unit) → r ≡ 0 → inRange (seat .sizes) (viewFrom seat costs) u ≡ false → 5 ≡ rangeRefusal u (seat .own) (seat .n) (seat .sizes) costs
+    unfolding rangeRefusal
+    range-5 u z f = rw (← e, z, f)
+
+    pub range-0 : (u : Unit) → r ≡ 0 → inRange (seat .sizes) (viewFrom seat costs) u ≡ true → 0 ≡ rangeRefusal u (seat .own) (seat .n) (seat .sizes) costs
+    unfolding rangeRefusal
+    range-0 u z f = rw (← e, z, f)
+
+  pub step-13 : (u : Unit) (room : ℕ) → room < 1024 → 13 ≡ stepRefusal u (seat .own) (seat .n) (seat .sizes) costs room
+  unfolding stepRefusal
+  step-13 u room l = rw (lt-ltb room 1024 l)
+
+  pub step-range : (u : Unit) (room : ℕ) → 1024 ≤ room → rangeRefusal u (seat .own) (seat .n) (seat .sizes) costs ≡ stepRefusal u (seat .own) (seat .n) (seat .sizes) costs room
+  unfolding stepRefusal
+  step-range u room l = rw (le-ltb room 1024 l)
 
 -- ---- making
 
-module _ (own n : ℕ) (sizes costs : List ℕ) (room : ℕ) where
-  pub make-5 : shapeGood n sizes ≡ false → 5 ≡ makeRefusal own n sizes costs room
-  unfolding makeRefusal
-  make-5 a = rw a
-
-  pub make-10 : shapeGood n sizes ≡ true → isUnit n own ≡ false → 10 ≡ makeRefusal own n sizes costs room
-  unfolding makeRefusal
-  make-10 a b = rw (a, b)
-
-  pub make-lent : shapeGood n sizes ≡ true → isUnit n own ≡ true → (r : ℕ) → r ≡ lentRefusal own n sizes costs → (r ≡ 0 → ⊥) → r ≡ makeRefusal own n sizes costs room
-  unfolding makeRefusal
-  make-lent a b r e f = rw (a, b, ← e, ne-eqb r 0 f)
-
-  pub make-13 : shapeGood n sizes ≡ true → isUnit n own ≡ true → (r : ℕ) → r ≡ lentRefusal own n sizes costs → r ≡ 0 → room < 1024 → 13 ≡ makeRefusal own n sizes costs room
-  unfolding makeRefusal
-  make-13 a b r e f g = rw (a, b, ← e, eq-eqb r 0 f, lt-ltb room 1024 g)
-
-  pub make-0 : shapeGood n sizes ≡ true → isUnit n own ≡ true → (r : ℕ) → r ≡ lentRefusal own n sizes costs → r ≡ 0 → 1024 ≤ room → 0 ≡ makeRefusal own n sizes costs room
-  unfolding makeRefusal
-  make-0 a b r e f g = rw (a, b, ← e, eq-eqb r 0 f, le-ltb room 1024 g)
-
-unless : (r : ℕ) (o : Out) → (r ≡ 0 → ⊥) → unlessRefused r o ≡ refused r
+unless : (r : ℕ) (o : Decision) → (r ≡ 0 → ⊥) → unlessRefused r o ≡ refused r
 unless zero o h = absurd (h refl)
 unless (suc r) o h = refl
 
@@ -99,11 +131,11 @@ module _ (own n : ℕ) (sizes costs : List ℕ) (room : ℕ) where
   make-starts r e h = rw (← e, h)
 
 module _ (own n : ℕ) (sizes costs out : List ℕ) (m : Makes own n sizes costs (length out)) where
-  pub make-shaped : Shaped own n sizes
-  make-shaped = shaped-of own n sizes (m .shape) (m .unit)
+  pub make-shaped : Shaped (seatOf own n sizes)
+  make-shaped = shaped-of (seatOf own n sizes) (m .shape) (m .unit)
 
-  pub make-room : Room own n out
-  make-room = room-of own n sizes out (m .shape) (m .unit) (m .fits)
+  pub make-room : Room (seatOf own n sizes) out
+  make-room = room-of (seatOf own n sizes) out (m .shape) (m .unit) (m .fits)
 
   pub make-few : n ≤ length sizes → (was : Unit) (d : Decided) → d ≡ decidedOf was (start (lentView own n sizes costs) (pred own)) → length (packets n (own - 1) (d .sending)) ≤ 16
   unfolding lentView
@@ -114,39 +146,12 @@ module _ (own n : ℕ) (sizes costs out : List ℕ) (m : Makes own n sizes costs
 pub start-first : (own : ℕ) (was : Unit) (w : View) → own ≡ 1 → decidedOf was (assign w fresh) ≡ decidedOf was (start w (pred own))
 start-first own was w e = rw e
 
-pub start-later : (own : ℕ) (was : Unit) (w : View) → 1 ≤ own → (own ≡ 1 → ⊥) → decidedOf was (stale fresh) ≡ decidedOf was (start w (pred own))
+pub start-later : (own : ℕ) (was : Unit) (w : View) → 1 ≤ own → (own ≡ 1 → ⊥) → decidedOf was (quiet fresh) ≡ decidedOf was (start w (pred own))
 start-later own was w h f = let e : pred own ≡ suc (own - 2) = pred-sub own ∙ omega arith in rw e
 
 -- ---- a step
 
 module _ (u : Unit) (own n : ℕ) (sizes costs : List ℕ) (room : ℕ) where
-  pub step-13 : room < 1024 → 13 ≡ stepRefusal u own n sizes costs room
-  unfolding stepRefusal
-  step-13 h = rw (lt-ltb room 1024 h)
-
-  module _ (fits : 1024 ≤ room) where
-    pub step-5 : shapeGood n sizes ≡ false → 5 ≡ stepRefusal u own n sizes costs room
-    unfolding stepRefusal
-    step-5 a = rw (le-ltb room 1024 fits, a)
-
-    pub step-10 : shapeGood n sizes ≡ true → isUnit n own ≡ false → 10 ≡ stepRefusal u own n sizes costs room
-    unfolding stepRefusal
-    step-10 a b = rw (le-ltb room 1024 fits, a, b)
-
-    pub step-lent : shapeGood n sizes ≡ true → isUnit n own ≡ true → (r : ℕ) → r ≡ lentRefusal own n sizes costs → (r ≡ 0 → ⊥) → r ≡ stepRefusal u own n sizes costs room
-    unfolding stepRefusal
-    step-lent a b r e f = rw (le-ltb room 1024 fits, a, b, ← e, ne-eqb r 0 f)
-
-    pub step-state : shapeGood n sizes ≡ true → isUnit n own ≡ true → (r : ℕ) → r ≡ lentRefusal own n sizes costs → r ≡ 0 → inRange sizes (lentView own n sizes costs) u ≡ false
-        → 5 ≡ stepRefusal u own n sizes costs room
-    unfolding stepRefusal
-    step-state a b r e f g = rw (le-ltb room 1024 fits, a, b, ← e, eq-eqb r 0 f, g)
-
-    pub step-0 : shapeGood n sizes ≡ true → isUnit n own ≡ true → (r : ℕ) → r ≡ lentRefusal own n sizes costs → r ≡ 0 → inRange sizes (lentView own n sizes costs) u ≡ true
-        → 0 ≡ stepRefusal u own n sizes costs room
-    unfolding stepRefusal
-    step-0 a b r e f g = rw (le-ltb room 1024 fits, a, b, ← e, eq-eqb r 0 f, g)
-
   module _ (bytes : List ℕ) (r : ℕ) (e : r ≡ stepRefusal u own n sizes costs room) where
     pub step-stops : (r ≡ 0 → ⊥) → stepOut u own n sizes costs bytes room ≡ refused r
     unfolding stepOut
@@ -162,8 +167,8 @@ module _ (u : Unit) (own n : ℕ) (sizes costs : List ℕ) (room : ℕ) where
     step-reads z p f k a = rw (← e, z, ← f, a)
 
 module _ (u : Unit) (own n : ℕ) (sizes costs out : List ℕ) (q : Passed u own n sizes costs (length out)) where
-  pub step-room : Room own n out
-  step-room = room-of own n sizes out (q .shape) (q .unit) (q .fits)
+  pub step-room : Room (seatOf own n sizes) out
+  step-room = room-of (seatOf own n sizes) out (q .shape) (q .unit) (q .fits)
 
   module _ (long : n ≤ length sizes) (bytes : List ℕ) (p : Parsed) (read : p ≡ parseFor n sizes own bytes) (k : Kind) (good : p .answer ≡ Good k) where
     known : ParsedGood n sizes own bytes k
@@ -175,10 +180,10 @@ module _ (u : Unit) (own n : ℕ) (sizes costs out : List ℕ) (q : Passed u own
     to-own : p .message .receiver ≡ own
     to-own = rw fields (known .receiver)
 
-    pub step-asks : Shaped own n sizes × Ready own u × Heard own (p .message)
+    pub step-asks : Shaped (seatOf own n sizes) × Ready own u × Heard own (p .message)
     step-asks = (
-      shaped-of own n sizes (q .shape) (q .unit),
-      ready-of own n sizes costs u (own-of own n sizes (q .shape) (q .unit)) (q .state),
+      shaped-of (seatOf own n sizes) (q .shape) (q .unit),
+      ready-of (seatOf own n sizes) costs u (own-of own n sizes (q .shape) (q .unit)) (q .state),
       heard-of own n sizes k (p .message) (q .shape) long (rw fields (known .address)) to-own (rw fields (known .formed)),
     )
 
@@ -192,10 +197,10 @@ module _ (u : Unit) (own n : ℕ) (sizes costs out : List ℕ) (q : Passed u own
 
 -- ---- a step in place: the numbers and the state of the outcome
 
-pub reported : (n k : ℕ) (was : Unit) (o : Out) (r : Outcome) → r ≡ outcomeOf n k was o → record { refusal = r .refusal; sent = r .sent; records = r .records } ≡ reportOf n k o
+pub reported : (n k : ℕ) (was : Unit) (o : Decision) (r : Outcome) → r ≡ outcomeOf n k was o → record { refusal = r .refusal; sent = r .sent; records = r .records } ≡ reportOf n k o
 reported n k was (refused x) r e = rw e
 reported n k was (accepted u s ws) r e = rw e
 
-pub left-behind : (n k : ℕ) (was : Unit) (o : Out) (r : Outcome) → r ≡ outcomeOf n k was o → r .unit ≡ unitOf was o
+pub left-behind : (n k : ℕ) (was : Unit) (o : Decision) (r : Outcome) → r ≡ outcomeOf n k was o → r .unit ≡ unitOf was o
 left-behind n k was (refused x) r e = rw e
 left-behind n k was (accepted u s ws) r e = rw e

@@ -6,7 +6,8 @@ use mathlib.Core.Path.{_≡_, refl, ap}
 use mathlib.Core.List.{List}
 use lib.ListN.{getD}
 use lib.Seq.{getD-take}
-use Rattle.costs.specs.Instance.{lentView}
+use Rattle.costs.specs.declared.Seat.{Seat}
+use Rattle.costs.specs.Instance.{lentView, viewFrom}
 use Rattle.unit.specs.declared.Unit.{Unit}
 use Rattle.unit.specs.State.{ownValue}
 
@@ -14,22 +15,22 @@ pub pred-sub : (k : ℕ) → pred k ≡ k - 1
 pred-sub zero = refl
 pred-sub (suc k) = omega arith
 
-module _ (own n : ℕ) (sizes costs : List ℕ) where
-  pub place-lent : lentView own n sizes costs .place ≡ own - 1
+module _ (seat : Seat) (costs : List ℕ) where
+  pub place-lent : viewFrom seat costs .place ≡ seat .own - 1
   unfolding lentView
-  place-lent = pred-sub own
+  place-lent = pred-sub (seat .own)
 
-  pub n-lent : lentView own n sizes costs .n ≡ n
+  pub n-lent : viewFrom seat costs .n ≡ seat .n
   unfolding lentView
   n-lent = refl
 
   -- the unit's number is the next of its place
-  pub own-lent : 1 ≤ own → suc (lentView own n sizes costs .place) ≡ own
+  pub own-lent : 1 ≤ seat .own → suc (viewFrom seat costs .place) ≡ seat .own
   own-lent h = rw place-lent (omega arith)
 
-  pub dom-lent : 1 ≤ own → own ≤ n → lentView own n sizes costs .dom (lentView own n sizes costs .place) ≡ getD sizes (own - 1) 0
+  pub dom-lent : 1 ≤ seat .own → seat .own ≤ seat .n → viewFrom seat costs .dom (viewFrom seat costs .place) ≡ getD (seat .sizes) (seat .own - 1) 0
   unfolding lentView
-  dom-lent h b = rw (pred-sub own) (getD-take n sizes (own - 1) 0 (omega arith))
+  dom-lent h b = rw (pred-sub (seat .own)) (getD-take (seat .n) (seat .sizes) (seat .own - 1) 0 (omega arith))
 
-  pub value-lent : (u : Unit) → ownValue (lentView own n sizes costs) u ≡ getD (u .values) (own - 1) 0
+  pub value-lent : (u : Unit) → ownValue (viewFrom seat costs) u ≡ getD (u .values) (seat .own - 1) 0
   value-lent u = ap (λ (k : ℕ). getD (u .values) k 0) place-lent

@@ -10,14 +10,15 @@ use lib.Dec.{ltb, eqb}
 use lib.ListN.{getD}
 use borrow.Author.Tests.{lt-ltb, le-ltb, le-leb, lt-leb, ne-eqb}
 use Rattle.base.specs.Sums.{sumFrom}
-use Rattle.costs.specs.Instance.{View, lentView}
+use Rattle.costs.specs.declared.Seat.{Seat}
+use Rattle.costs.specs.Instance.{View, viewFrom}
 use Rattle.message.specs.declared.Message.{Message}
 use Rattle.message.specs.declared.Kind.{Kind}
 use Rattle.unit.specs.declared.Unit.{Unit}
-use Rattle.unit.specs.declared.Order.{Order}
-use Rattle.unit.specs.declared.Order.the-variants.{Smaller, Equal, Bigger}
-use Rattle.unit.specs.State.{zeros, withThreshold, withCpa, withCounter, withEstimates, ownValue, compareOn, sameOn, notSmaller}
-use Rattle.unit.specs.Step.{refused, stale, takeLower, takeBound, bareCost, takeOff, backtrack, tryAfter, begun, assign, resume, onDown, isOut, isCpaOut, onOwn, onBack, onCpa, onFresh, onRequest, stored, sumLater, reachedByEstimates, onOwnEstimate, onTimely, onEstimate, byKind, unlessStopped, respond}
+use Rattle.unit.specs.declared.Ordering.{Ordering}
+use Rattle.unit.specs.declared.Ordering.the-variants.{Less, Equal, Greater}
+use Rattle.unit.specs.State.{zeros, withThreshold, withCpa, withCounter, withEstimates, ownValue, compareOn, sameOn, notLess}
+use Rattle.unit.specs.Step.{refused, quiet, takeLower, takeBound, bareCost, takeOff, backtrack, tryAfter, begun, assign, resume, onDown, isOut, isCpaOut, onOwn, onBack, onCpa, onFresh, onRequest, stored, sumLater, reachedByEstimates, onOwnEstimate, onTimely, onEstimate, byKind, unlessStopped, respond}
 use Rattle.unit.specs.Ready.{Ready, Heard}
 use Rattle.unit.proofs.Lent.{dom-lent, value-lent}
 
@@ -53,28 +54,28 @@ begun-counter (suc v) c f = simp (ne-eqb (suc v) 0 (λ z. omega arith)) (f (omeg
 pub begun-low : (w : View) (u t : Unit) → t ≡ begun w u → (own : ℕ) → Ready own u → getD (t .threshold) (own - 1) 0 ≤ 17
 begun-low w u t e own r = rw e (r .threshold)
 
-module _ (own n : ℕ) (sizes costs : List ℕ) where
+module _ (seat : Seat) (costs : List ℕ) where
   abbrev view : View
-  view = lentView own n sizes costs
+  view = viewFrom seat costs
 
-  pub begun-lent : (u : Unit) (x : ℕ) → x ≡ cond (eqb (getD (u .values) (own - 1) 0) 0) 0 (u .counter)
+  pub begun-lent : (u : Unit) (x : ℕ) → x ≡ cond (eqb (getD (u .values) (seat .own - 1) 0) 0) 0 (u .counter)
       → takeOff view (withCounter x (withEstimates zeros u)) ≡ begun view u
   begun-lent u x e =
       ap (λ (y : ℕ). takeOff view (withCounter y (withEstimates zeros u)))
-      (e ∙ ap (λ (v : ℕ). cond (eqb v 0) 0 (u .counter)) (sym (value-lent own n sizes costs u)))
+      (e ∙ ap (λ (v : ℕ). cond (eqb v 0) 0 (u .counter)) (sym (value-lent seat costs u)))
 
-  pub begun-few : (u t : Unit) → t ≡ begun view u → Ready own u → t .counter ≤ getD (u .values) (own - 1) 0
+  pub begun-few : (u t : Unit) → t ≡ begun view u → Ready (seat .own) u → t .counter ≤ getD (u .values) (seat .own - 1) 0
   begun-few u t e r =
       let f : t .counter ≡ cond (eqb (ownValue view u) 0) 0 (u .counter) = ap (λ (s : Unit). s .counter) e in
-      rw (f, value-lent own n sizes costs u) (begun-counter (getD (u .values) (own - 1) 0) (u .counter) (r .counter))
+      rw (f, value-lent seat costs u) (begun-counter (getD (u .values) (seat .own - 1) 0) (u .counter) (r .counter))
 
-  pub assign-lent : 1 ≤ own → own ≤ n → (u t : Unit) → t ≡ begun view u
-      → tryAfter view (getD sizes (own - 1) 0 - getD (u .values) (own - 1) 0) (getD (u .values) (own - 1) 0) false t ≡ assign view u
+  pub assign-lent : 1 ≤ seat .own → seat .own ≤ seat .n → (u t : Unit) → t ≡ begun view u
+      → tryAfter view (getD (seat .sizes) (seat .own - 1) 0 - getD (u .values) (seat .own - 1) 0) (getD (u .values) (seat .own - 1) 0) false t ≡ assign view u
   unfolding assign
   assign-lent a b u t e =
-      ap (λ (s : Unit). tryAfter view (getD sizes (own - 1) 0 - getD (u .values) (own - 1) 0) (getD (u .values) (own - 1) 0) false s) e
-      ∙ ap (λ (v : ℕ). tryAfter view (getD sizes (own - 1) 0 - v) v false (begun view u)) (sym (value-lent own n sizes costs u))
-      ∙ ap (λ (d : ℕ). tryAfter view (d - ownValue view u) (ownValue view u) false (begun view u)) (sym (dom-lent own n sizes costs a b))
+      ap (λ (s : Unit). tryAfter view (getD (seat .sizes) (seat .own - 1) 0 - getD (u .values) (seat .own - 1) 0) (getD (u .values) (seat .own - 1) 0) false s) e
+      ∙ ap (λ (v : ℕ). tryAfter view (getD (seat .sizes) (seat .own - 1) 0 - v) v false (begun view u)) (sym (value-lent seat costs u))
+      ∙ ap (λ (d : ℕ). tryAfter view (d - ownValue view u) (ownValue view u) false (begun view u)) (sym (dom-lent seat costs a b))
 
 -- ---- resume
 
@@ -100,37 +101,37 @@ pub cpa-out : (w : View) (u : Unit) (m : Message) (own : ℕ) (stamps values : B
     → (stamps && values && eqb (m .cost) (u .cost)) ≡ isCpaOut w u m
 cpa-out w u m own stamps values o e f = rw (e, f, ← o)
 
-pub back-stale : (w : View) (o : Order) (u : Unit) (m : Message) → notSmaller o ≡ false → stale u ≡ onBack w o u m
-back-stale w Smaller u m e = refl
+pub back-stale : (w : View) (o : Ordering) (u : Unit) (m : Message) → notLess o ≡ false → quiet u ≡ onBack w o u m
+back-stale w Less u m e = refl
 back-stale w Equal u m e = absurd (false≢true (sym e))
-back-stale w Bigger u m e = absurd (false≢true (sym e))
+back-stale w Greater u m e = absurd (false≢true (sym e))
 
-pub back-own : (w : View) (o : Order) (u : Unit) (m : Message) → notSmaller o ≡ true → onOwn w (isCpaOut w u m) u m ≡ onBack w o u m
-back-own w Smaller u m e = absurd (false≢true e)
+pub back-own : (w : View) (o : Ordering) (u : Unit) (m : Message) → notLess o ≡ true → onOwn w (isCpaOut w u m) u m ≡ onBack w o u m
+back-own w Less u m e = absurd (false≢true e)
 back-own w Equal u m e = refl
-back-own w Bigger u m e = refl
+back-own w Greater u m e = refl
 
-module _ (w : View) (own : ℕ) (u : Unit) (m : Message) (o : Order) (number : suc (w .place) ≡ own) (compared : o ≡ compareOn own (m .stamp) (u .threshold)) where
+module _ (w : View) (own : ℕ) (u : Unit) (m : Message) (o : Ordering) (number : suc (w .place) ≡ own) (compared : o ≡ compareOn own (m .stamp) (u .threshold)) where
   there : o ≡ compareOn (suc (w .place)) (m .stamp) (u .threshold)
   there = compared ∙ ap (λ (k : ℕ). compareOn k (m .stamp) (u .threshold)) (sym number)
 
   pub cpa-down : m .sender < own → onDown w o u m ≡ onCpa w u m
   unfolding onCpa
-  cpa-down l = rw (lt-ltb (m .sender) (suc (w .place)) (omega arith)) (ap (λ (x : Order). onDown w x u m) there)
+  cpa-down l = rw (lt-ltb (m .sender) (suc (w .place)) (omega arith)) (ap (λ (x : Ordering). onDown w x u m) there)
 
   pub cpa-back : own ≤ m .sender → onBack w o u m ≡ onCpa w u m
   unfolding onCpa
-  cpa-back l = rw (le-ltb (m .sender) (suc (w .place)) (omega arith)) (ap (λ (x : Order). onBack w x u m) there)
+  cpa-back l = rw (le-ltb (m .sender) (suc (w .place)) (omega arith)) (ap (λ (x : Ordering). onBack w x u m) there)
 
   pub estimate-timely : onTimely w o u m ≡ onEstimate w u m
   unfolding onEstimate
-  estimate-timely = ap (λ (x : Order). onTimely w x u m) there
+  estimate-timely = ap (λ (x : Ordering). onTimely w x u m) there
 
 -- ---- requests
 
-pub request-fresh : (w : View) (u : Unit) (m : Message) (o : Order) (k : ℕ) → w .place ≡ k → o ≡ compareOn k (m .stamp) (u .threshold) → onFresh w o u m ≡ onRequest w u m
+pub request-fresh : (w : View) (u : Unit) (m : Message) (o : Ordering) (k : ℕ) → w .place ≡ k → o ≡ compareOn k (m .stamp) (u .threshold) → onFresh w o u m ≡ onRequest w u m
 unfolding onRequest
-request-fresh w u m o k p e = ap (λ (x : Order). onFresh w x u m) (e ∙ ap (λ (i : ℕ). compareOn i (m .stamp) (u .threshold)) (sym p))
+request-fresh w u m o k p e = ap (λ (x : Ordering). onFresh w x u m) (e ∙ ap (λ (i : ℕ). compareOn i (m .stamp) (u .threshold)) (sym p))
 
 -- ---- estimates
 
@@ -152,7 +153,7 @@ module _ (w : View) (u t : Unit) (m : Message) (same : (isOut w u && sameOn (suc
   pub estimate-reached : t .bound ≤ t .cost + sumLater w (t .estimates) → assign w t ≡ onTimely w Equal u m
   estimate-reached l = sym (own-estimate ∙ ap (λ (b : Bool). reachedByEstimates w b t) (le-leb _ _ l))
 
-  pub estimate-short : t .cost + sumLater w (t .estimates) < t .bound → stale t ≡ onTimely w Equal u m
+  pub estimate-short : t .cost + sumLater w (t .estimates) < t .bound → quiet t ≡ onTimely w Equal u m
   estimate-short l = sym (own-estimate ∙ ap (λ (b : Bool). reachedByEstimates w b t) (lt-leb _ _ l))
 
 -- ---- a message that was read

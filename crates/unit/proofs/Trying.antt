@@ -13,18 +13,19 @@ use Rattle.unit.specs.declared.Unit.{Unit}
 use Rattle.unit.specs.declared.Decided.{Decided}
 use Rattle.unit.specs.declared.Plan.the-variants.{Forward}
 use Rattle.unit.specs.State.{withBest}
-use Rattle.unit.specs.Step.{Out, refused, accepted, Written, after, silent, carried, takeOff, write, recordOf, costAt, backtrack, tryAfter, decidedOf}
+use Rattle.unit.specs.Step.{Decision, refused, accepted, Written, after, silent, carried, takeOff, write, recordOf, costAt, backtrack, tryAfter}
+use Rattle.unit.specs.Ready.{decidedOf}
 
 -- a decision as the code has it, after k records
-abbrev pub counted : ℕ → Unit → Out → Decided
+abbrev pub counted : ℕ → Unit → Decision → Decided
 counted k was (refused r) = record { refusal = r; unit = was; sending = silent; records = 0 }
 counted k was (accepted u s ws) = record { refusal = 0; unit = u; sending = s; records = k + length ws }
 
-pub counted-none : (was : Unit) (o : Out) → decidedOf was o ≡ counted 0 was o
+pub counted-none : (was : Unit) (o : Decision) → decidedOf was o ≡ counted 0 was o
 counted-none was (refused r) = refl
 counted-none was (accepted u s ws) = let e : 0 + length ws ≡ length ws = omega arith in rw e
 
-counted-more : (k : ℕ) (was : Unit) (r : Written) (o : Out) → counted k was (after r o) ≡ counted (k + 1) was o
+counted-more : (k : ℕ) (was : Unit) (r : Written) (o : Decision) → counted k was (after r o) ≡ counted (k + 1) was o
 counted-more k was r (refused x) = refl
 counted-more k was r (accepted u s ws) = let e : k + suc (length ws) ≡ k + 1 + length ws = omega arith in rw e
 

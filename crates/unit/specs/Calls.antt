@@ -3,9 +3,11 @@
 -- Assumes nothing.
 use Prim.Native.Nat.{ℕ, zero, suc, pred}
 use mathlib.Core.Bool.{cond, not}
-use mathlib.Core.List.{List, []}
-use lib.Dec.{ltb, eqb}
+use mathlib.Core.List.{List}
+use lib.Dec.{ltb}
 use lib.ListN.{length}
+use Rattle.base.specs.Limits.{sendingSize}
+use Rattle.base.specs.Refusal.{orElse}
 use Rattle.base.specs.Shape.{shapeGood}
 use Rattle.costs.specs.Instance.{View, lentView}
 use Rattle.costs.specs.Lent.{lentRefusal}
@@ -18,63 +20,68 @@ use Rattle.unit.specs.declared.Unit.{Unit}
 use Rattle.unit.specs.declared.Outcome.{Outcome}
 use Rattle.unit.specs.declared.Report.{Report}
 use Rattle.unit.specs.State.{fresh, inRange}
-use Rattle.unit.specs.Step.{Out, refused, accepted, silent, assign, respond}
+use Rattle.unit.specs.Step.{Decision, refused, accepted, quiet, assign, respond}
 use Rattle.unit.specs.Send.{packets, laid}
 
 -- ---- what the caller gets
 
-abbrev pub outcomeOf : ℕ → ℕ → Unit → Out → Outcome
+abbrev pub outcomeOf : ℕ → ℕ → Unit → Decision → Outcome
 outcomeOf n k was (refused r) = record { refusal = r; unit = was; sent = 0; records = 0 }
 outcomeOf n k was (accepted u s ws) = record { refusal = 0; unit = u; sent = length (packets n k s); records = length ws }
 
 -- the same of a step in place: its numbers, and the state left behind the reference
-abbrev pub reportOf : ℕ → ℕ → Out → Report
+abbrev pub reportOf : ℕ → ℕ → Decision → Report
 reportOf n k (refused r) = record { refusal = r; sent = 0; records = 0 }
 reportOf n k (accepted u s ws) = record { refusal = 0; sent = length (packets n k s); records = length ws }
 
-abbrev pub unitOf : Unit → Out → Unit
+abbrev pub unitOf : Unit → Decision → Unit
 unitOf was (refused r) = was
 unitOf was (accepted u s ws) = u
 
-abbrev pub bytesOf : ℕ → ℕ → List ℕ → Out → List ℕ
+abbrev pub bytesOf : ℕ → ℕ → List ℕ → Decision → List ℕ
 bytesOf n k out (refused r) = out
 bytesOf n k out (accepted u s ws) = laid (packets n k s) out
 
--- ---- making
+-- ---- refusals before anything is done
 
--- the first of 5, 10, 6, 7, 13 that applies, or 0
+-- of what is lent beside a state: the first of 5, 10, 6, 7 that applies, or 0
+unfoldable pub seatRefusal : ℕ → ℕ → List ℕ → List ℕ → ℕ
+seatRefusal own n sizes costs = cond (not (shapeGood n sizes)) 5 (cond (not (isUnit n own)) 10 (lentRefusal own n sizes costs))
+
+-- of making: the first of 5, 10, 6, 7, 13
 unfoldable pub makeRefusal : ℕ → ℕ → List ℕ → List ℕ → ℕ → ℕ
-makeRefusal own n sizes costs room =
-    cond (not (shapeGood n sizes)) 5 (cond (not (isUnit n own)) 10 (cond (not (eqb (lentRefusal own n sizes costs) 0)) (lentRefusal own n sizes costs) (cond (ltb room 1024) 13 0)))
+makeRefusal own n sizes costs room = orElse (seatRefusal own n sizes costs) (cond (ltb room sendingSize) 13 0)
 
--- 01: "Making unit 1 assigns"
-abbrev pub start : View → ℕ → Out
-start w zero = assign w fresh
-start w (suc k) = accepted fresh silent []
+-- of a lent state: the first of 5, 10, 6, 7, 5
+unfoldable pub rangeRefusal : Unit → ℕ → ℕ → List ℕ → List ℕ → ℕ
+rangeRefusal u own n sizes costs = orElse (seatRefusal own n sizes costs) (cond (inRange sizes (lentView own n sizes costs) u) 0 5)
 
-abbrev pub unlessRefused : ℕ → Out → Out
+-- of a step before its packet is read: the first of 13, 5, 10, 6, 7, 5
+unfoldable pub stepRefusal : Unit → ℕ → ℕ → List ℕ → List ℕ → ℕ → ℕ
+stepRefusal u own n sizes costs room = cond (ltb room sendingSize) 13 (rangeRefusal u own n sizes costs)
+
+abbrev pub unlessRefused : ℕ → Decision → Decision
 unlessRefused zero o = o
 unlessRefused (suc r) o = refused (suc r)
 
-unfoldable pub makeOut : ℕ → ℕ → List ℕ → List ℕ → ℕ → Out
+-- ---- making
+
+-- 01: "Making unit 1 assigns"
+abbrev pub start : View → ℕ → Decision
+start w zero = assign w fresh
+start w (suc k) = quiet fresh
+
+unfoldable pub makeOut : ℕ → ℕ → List ℕ → List ℕ → ℕ → Decision
 makeOut own n sizes costs room = unlessRefused (makeRefusal own n sizes costs room) (start (lentView own n sizes costs) (pred own))
 
 -- ---- a step
 
--- the first of 13, 5, 10, 6, 7, 5 that applies, or 0
-unfoldable pub stepRefusal : Unit → ℕ → ℕ → List ℕ → List ℕ → ℕ → ℕ
-stepRefusal u own n sizes costs room =
-    cond (ltb room 1024) 13
-    (cond (not (shapeGood n sizes)) 5
-    (cond (not (isUnit n own)) 10
-    (cond (not (eqb (lentRefusal own n sizes costs) 0)) (lentRefusal own n sizes costs) (cond (inRange sizes (lentView own n sizes costs) u) 0 5))))
-
 -- 01: "A message is read into its kind and fields, or a refusal; unless reading gave a message, the step ends there."
-abbrev pub onRead : View → Unit → Read → Message → Out
+abbrev pub onRead : View → Unit → Read → Message → Decision
 onRead w u (Good k) m = respond w k u m
 onRead w u (Refused r) m = refused r
 
-unfoldable pub stepOut : Unit → ℕ → ℕ → List ℕ → List ℕ → List ℕ → ℕ → Out
+unfoldable pub stepOut : Unit → ℕ → ℕ → List ℕ → List ℕ → List ℕ → ℕ → Decision
 stepOut u own n sizes costs bytes room =
     let p = parseFor n sizes own bytes in
     unlessRefused (stepRefusal u own n sizes costs room) (onRead (lentView own n sizes costs) u (p .answer) (p .message))

@@ -1,6 +1,4 @@
 -- Messages laid one after the other: what the sending code asks and ensures, and the laws of `laid` that it goes by.
---     withReceiver, noBound, boundOnly     the fields that a kind carries
---     addressed                            one message to the unit at a place; the messages of Send are all of this form
 --     Room, Wide                           the buffer holds 16 messages; each message of a list is 64 bytes
 -- Assumes nothing.
 use Prim.Native.Nat.{ℕ, zero, suc, _+_, _*_, _-_, _≤_}
@@ -12,38 +10,24 @@ use native.Mathlib.Numerals.{add-one}
 use native.Mathlib.Nat.{zero-add}
 use lib.ListN.{length, take, drop, length-append}
 use lib.Seq.{take-at, drop-at, drop-drop, length-take-le, paste-zero}
+use Rattle.costs.specs.declared.Seat.{Seat}
 use Rattle.message.specs.declared.Message.{Message}
 use Rattle.message.specs.declared.Kind.{Kind}
 use Rattle.message.specs.declared.Kind.the-variants.{Cpa, Request, Estimate, Solution, Stop}
 use Rattle.message.specs.Message.{Packet, Sized}
 use Rattle.message.specs.Encode.{encode, putAt, putInto}
 use Rattle.message.specs.EncodeLaws.{length-encode, put-fits}
-use Rattle.unit.specs.State.{zeros}
 use Rattle.unit.specs.declared.Sending.{Sending}
 use Rattle.unit.specs.declared.Plan.{Plan}
 use Rattle.unit.specs.declared.Plan.the-variants.{Forward, Back}
 use Rattle.unit.specs.Laws.Packets.{each-length}
-use Rattle.unit.specs.Send.{packet, requestTo, boundTo, each, handBack, byPlan, packets, encodeAll, laid}
-
-abbrev pub withReceiver : ℕ → Message → Message
-withReceiver r m = record { sender = m .sender; receiver = r; stamp = m .stamp; values = m .values; cost = m .cost; bound = m .bound; best = m .best }
-
--- a request carries no bound
-abbrev pub noBound : Message → Message
-noBound m = record { sender = m .sender; receiver = m .receiver; stamp = m .stamp; values = m .values; cost = m .cost; bound = 0; best = zeros }
-
--- solutions and stops carry only bound and best
-abbrev pub boundOnly : Message → Message
-boundOnly m = record { sender = m .sender; receiver = m .receiver; stamp = zeros; values = zeros; cost = 0; bound = m .bound; best = m .best }
-
-abbrev pub addressed : Kind → Message → ℕ → Packet
-addressed k m j = packet k (withReceiver (suc j) m)
+use Rattle.unit.specs.Send.{packet, withReceiver, sentTo, noBound, boundOnly, each, handBack, byPlan, packets, encodeAll, laid}
 
 -- a unit's number, and a buffer for 16 messages
-pub record Room (own n : ℕ) (out : List ℕ) : Type 0 where
-  pub first : 1 ≤ own
-  pub last : own ≤ n
-  pub units : n ≤ 16
+pub record Room (seat : Seat) (out : List ℕ) : Type 0 where
+  pub first : 1 ≤ seat .own
+  pub last : seat .own ≤ seat .n
+  pub units : seat .n ≤ 16
   pub bytes : 1024 ≤ length out
 
 -- ---- each message is 64 bytes
@@ -70,13 +54,13 @@ unfolding each
 each-more g lo zero = ap (λ (j : ℕ). g j ∷ []) (omega arith)
 each-more g lo (suc i) = ap (λ (l : List Packet). g lo ∷ l) (each-more g (suc lo) i ∙ ap (λ (j : ℕ). each g (suc lo) i ++ g j ∷ []) (omega arith))
 
-pub wide-each : (k : Kind) (m : Message) → Sized m → (lo c : ℕ) → Wide (each (addressed k m) lo c)
+pub wide-each : (k : Kind) (m : Message) → Sized m → (lo c : ℕ) → Wide (each (sentTo k m) lo c)
 unfolding each encodeAll
 wide-each k m z lo zero = refl
 wide-each k m z lo (suc c) =
     let p : Message = withReceiver (suc lo) m in
     let s : Sized p = record { stamp = z .stamp; values = z .values; best = z .best; cost = z .cost; bound = z .bound } in
-    rw (length-append (encode k p) (encodeAll (each (addressed k m) (suc lo) c)), length-encode k p s) (omega (arith, wide-each k m z (suc lo) c))
+    rw (length-append (encode k p) (encodeAll (each (sentTo k m) (suc lo) c)), length-encode k p s) (omega (arith, wide-each k m z (suc lo) c))
 
 -- ---- in the buffer
 
@@ -107,16 +91,16 @@ pub laid-none : (l : List ℕ) → laid [] l ≡ l
 unfolding laid encodeAll
 laid-none l = refl
 
-pub spread-none : (k : Kind) (m : Message) (l : List ℕ) (lo sent : ℕ) → l ≡ putAt l (64 * sent) (encodeAll (each (addressed k m) lo 0))
+pub spread-none : (k : Kind) (m : Message) (l : List ℕ) (lo sent : ℕ) → l ≡ putAt l (64 * sent) (encodeAll (each (sentTo k m) lo 0))
 unfolding each encodeAll
 spread-none k m l lo sent = paste-zero l (64 * sent) []
 
 -- the next of several messages is put behind those put
-pub spread-more : (k : Kind) (m : Message) → Sized m → (l r : List ℕ) (lo sent i : ℕ) → r ≡ putAt l (64 * sent) (encodeAll (each (addressed k m) lo i)) → length r ≡ length l → 64 * (sent + (i + 1)) ≤ length l
-    → putInto k (withReceiver (lo + i + 1) m) r (64 * (sent + i)) ≡ putAt l (64 * sent) (encodeAll (each (addressed k m) lo (i + 1)))
+pub spread-more : (k : Kind) (m : Message) → Sized m → (l r : List ℕ) (lo sent i : ℕ) → r ≡ putAt l (64 * sent) (encodeAll (each (sentTo k m) lo i)) → length r ≡ length l → 64 * (sent + (i + 1)) ≤ length l
+    → putInto k (withReceiver (lo + i + 1) m) r (64 * (sent + i)) ≡ putAt l (64 * sent) (encodeAll (each (sentTo k m) lo (i + 1)))
 unfolding encodeAll
 spread-more k m z l r lo sent i e len h =
-    let g : ℕ → Packet = addressed k m in
+    let g : ℕ → Packet = sentTo k m in
     let at : 64 * (sent + i) ≡ 64 * sent + 64 * i = omega arith in
     let w : length (encodeAll (each g lo i)) ≡ 64 * i = wide-each k m z lo i ∙ ap (λ (c : ℕ). 64 * c) (each-length g lo i) in
     let one : encodeAll (g (lo + i) ∷ []) ≡ encode k (withReceiver (lo + i + 1) m) = rw add-one (append-nil (encode k (withReceiver (suc (lo + i)) m))) in
@@ -127,11 +111,11 @@ spread-more k m z l r lo sent i e len h =
 
 -- several messages put behind those laid
 pub spread-laid : (k : Kind) (m : Message) → Sized m → (ps : List Packet) (l : List ℕ) (lo c sent : ℕ) → Wide ps → sent ≡ length ps → 64 * sent ≤ length l
-    → putAt (laid ps l) (64 * sent) (encodeAll (each (addressed k m) lo c)) ≡ laid (ps ++ each (addressed k m) lo c) l
-spread-laid k m z ps l lo c sent p e h = rw e (laid-more ps (each (addressed k m) lo c) l p (wide-each k m z lo c) (omega (arith, e)))
+    → putAt (laid ps l) (64 * sent) (encodeAll (each (sentTo k m) lo c)) ≡ laid (ps ++ each (sentTo k m) lo c) l
+spread-laid k m z ps l lo c sent p e h = rw e (laid-more ps (each (sentTo k m) lo c) l p (wide-each k m z lo c) (omega (arith, e)))
 
-pub spread-first : (k : Kind) (m : Message) → Sized m → (l : List ℕ) (lo c : ℕ) → putAt l (64 * 0) (encodeAll (each (addressed k m) lo c)) ≡ laid (each (addressed k m) lo c) l
-spread-first k m z l lo c = laid-first (each (addressed k m) lo c) l (wide-each k m z lo c)
+pub spread-first : (k : Kind) (m : Message) → Sized m → (l : List ℕ) (lo c : ℕ) → putAt l (64 * 0) (encodeAll (each (sentTo k m) lo c)) ≡ laid (each (sentTo k m) lo c) l
+spread-first k m z l lo c = laid-first (each (sentTo k m) lo c) l (wide-each k m z lo c)
 
 -- ---- the plans
 
@@ -151,25 +135,25 @@ module _ (n own : ℕ) (m : Message) (l : List ℕ) (first : 1 ≤ own) (z : Siz
   place : suc (own - 1) ≡ own
   place = omega arith
 
-  pub forward-laid : (b : Bool) (r : List ℕ) (bare : Message) (sent : ℕ) → r ≡ putAt l (64 * 0) (encodeAll (each (addressed Cpa m) own 1)) → bare ≡ noBound m → sent ≡ 0 + 1 → 64 ≤ length l
-      → putAt r (64 * sent) (encodeAll (each (addressed Request bare) own (n - own))) ≡ laid (byPlan n (own - 1) Forward b m) l
+  pub forward-laid : (b : Bool) (r : List ℕ) (bare : Message) (sent : ℕ) → r ≡ putAt l (64 * 0) (encodeAll (each (sentTo Cpa m) own 1)) → bare ≡ noBound m → sent ≡ 0 + 1 → 64 ≤ length l
+      → putAt r (64 * sent) (encodeAll (each (sentTo Request bare) own (n - own))) ≡ laid (byPlan n (own - 1) Forward b m) l
   unfolding each
   forward-laid b r bare sent e f g h =
-      rw (e, f, place, spread-first Cpa m z l own 1) (spread-laid Request (noBound m) (bare-sized m z) (each (addressed Cpa m) own 1) l own (n - own) sent (wide-each Cpa m z own 1) g (omega arith))
+      rw (e, f, place, spread-first Cpa m z l own 1) (spread-laid Request (noBound m) (bare-sized m z) (each (sentTo Cpa m) own 1) l own (n - own) sent (wide-each Cpa m z own 1) g (omega arith))
 
   pub forward-count : (b : Bool) (sent : ℕ) → sent ≡ 0 + 1 → sent + (n - own) ≡ length (byPlan n (own - 1) Forward b m)
-  forward-count b sent e = omega (arith, each-length (requestTo m) (suc (own - 1)) (n - suc (own - 1)))
+  forward-count b sent e = omega (arith, each-length (sentTo Request (noBound m)) (suc (own - 1)) (n - suc (own - 1)))
 
-  pub stops-laid : own ≡ 1 → (stop : Message) → stop ≡ boundOnly m → putAt l (64 * 0) (encodeAll (each (addressed Stop stop) 1 (n - 1))) ≡ laid (handBack n (own - 1) m) l
+  pub stops-laid : own ≡ 1 → (stop : Message) → stop ≡ boundOnly m → putAt l (64 * 0) (encodeAll (each (sentTo Stop stop) 1 (n - 1))) ≡ laid (handBack n (own - 1) m) l
   stops-laid e stop f = rw (e, f) (spread-first Stop (boundOnly m) (bound-sized m z) l 1 (n - 1))
 
   pub stops-count : own ≡ 1 → 0 + (n - 1) ≡ length (handBack n (own - 1) m)
-  stops-count e = rw e (omega (arith, each-length (boundTo Stop m) 1 (n - 1)))
+  stops-count e = rw e (omega (arith, each-length (sentTo Stop (boundOnly m)) 1 (n - 1)))
 
   later : (own ≡ 1 → ⊥) → own - 1 ≡ suc (own - 2)
   later e = omega arith
 
-  pub back-one-laid : (own ≡ 1 → ⊥) → putAt l (64 * 0) (encodeAll (each (addressed Cpa m) (own - 2) 1)) ≡ laid (handBack n (own - 1) m) l
+  pub back-one-laid : (own ≡ 1 → ⊥) → putAt l (64 * 0) (encodeAll (each (sentTo Cpa m) (own - 2) 1)) ≡ laid (handBack n (own - 1) m) l
   unfolding each
   back-one-laid e = rw (later e) (spread-first Cpa m z l (own - 2) 1)
 
@@ -181,26 +165,26 @@ module _ (n own : ℕ) (m : Message) (l : List ℕ) (first : 1 ≤ own) (z : Siz
     ps = handBack n (own - 1) m
 
     abbrev qs : List Packet
-    qs = each (addressed Solution (boundOnly m)) 0 (own - 1)
+    qs = each (sentTo Solution (boundOnly m)) 0 (own - 1)
 
     abbrev rs : List Packet
-    rs = each (addressed Solution (boundOnly m)) own (n - own)
+    rs = each (sentTo Solution (boundOnly m)) own (n - own)
 
     all : byPlan n (own - 1) Back b m ≡ ps ++ qs ++ rs
     all = rw (improved, place) (sym (append-assoc ps qs rs))
 
-    pub back-laid : (r t : List ℕ) (solution : Message) → solution ≡ boundOnly m → r ≡ laid (handBack n (own - 1) m) l → t ≡ putAt r (64 * sent) (encodeAll (each (addressed Solution solution) 0 (own - 1)))
-        → 64 * lower ≤ length l → putAt t (64 * lower) (encodeAll (each (addressed Solution solution) own (n - own))) ≡ laid (byPlan n (own - 1) Back b m) l
+    pub back-laid : (r t : List ℕ) (solution : Message) → solution ≡ boundOnly m → r ≡ laid (handBack n (own - 1) m) l → t ≡ putAt r (64 * sent) (encodeAll (each (sentTo Solution solution) 0 (own - 1)))
+        → 64 * lower ≤ length l → putAt t (64 * lower) (encodeAll (each (sentTo Solution solution) own (n - own))) ≡ laid (byPlan n (own - 1) Back b m) l
     back-laid r t solution g h i room =
         let y : Sized (boundOnly m) = bound-sized m z in
         let w : Wide ps = handed-wide n m z (own - 1) in
         let lo : putAt (laid ps l) (64 * sent) (encodeAll qs) ≡ laid (ps ++ qs) l = spread-laid Solution (boundOnly m) y ps l 0 (own - 1) sent w e (omega arith) in
-        let c : lower ≡ length (ps ++ qs) = rw (length-append ps qs, each-length (addressed Solution (boundOnly m)) 0 (own - 1), ← e) f in
+        let c : lower ≡ length (ps ++ qs) = rw (length-append ps qs, each-length (sentTo Solution (boundOnly m)) 0 (own - 1), ← e) f in
         rw (all, i, g, h, lo) (spread-laid Solution (boundOnly m) y (ps ++ qs) l own (n - own) lower (wide-append ps qs w (wide-each Solution (boundOnly m) y 0 (own - 1))) c room)
 
     pub back-count : lower + (n - own) ≡ length (byPlan n (own - 1) Back b m)
     back-count =
-        rw (all, length-append (ps ++ qs) rs, length-append ps qs, each-length (addressed Solution (boundOnly m)) 0 (own - 1), each-length (addressed Solution (boundOnly m)) own (n - own)) (omega (arith, e, f))
+        rw (all, length-append (ps ++ qs) rs, length-append ps qs, each-length (sentTo Solution (boundOnly m)) 0 (own - 1), each-length (sentTo Solution (boundOnly m)) own (n - own)) (omega (arith, e, f))
 
 -- nothing improved: only what is handed back
 pub back-quiet : (n k : ℕ) (m : Message) (b : Bool) (r : ℕ) (l t : List ℕ) → b ≡ false → (r ≡ length (handBack n k m)) × (t ≡ laid (handBack n k m) l)

@@ -1,13 +1,15 @@
--- What the deciding functions ask of their arguments: ranges only, so that no sum wraps and no index leaves its array.
+-- What the deciding functions ask of their arguments: ranges only, so that no sum wraps and no index leaves its array; and what they give.
 -- Places count from 0: unit `own` is at place own - 1. Assumes nothing.
 use Prim.Native.Nat.{ℕ, _-_, _≤_, _<_}
 use mathlib.Core.Path.{_≡_}
 use mathlib.Core.Bool.{true}
-use mathlib.Core.List.{List}
-use lib.ListN.{getD}
+use lib.ListN.{length, getD}
 use Rattle.base.specs.Shape.{shapeGood}
+use Rattle.costs.specs.declared.Seat.{Seat}
 use Rattle.message.specs.declared.Message.{Message}
 use Rattle.unit.specs.declared.Unit.{Unit}
+use Rattle.unit.specs.declared.Decided.{Decided}
+use Rattle.unit.specs.Step.{Decision, refused, accepted, silent}
 
 -- a unit's number
 pub record Own (own : ℕ) : Type 0 where
@@ -15,10 +17,10 @@ pub record Own (own : ℕ) : Type 0 where
   pub last : own ≤ 16
 
 -- a unit of a good shape
-pub record Shaped (own n : ℕ) (sizes : List ℕ) : Type 0 where
-  pub number : Own own
-  pub within : own ≤ n
-  pub shape : shapeGood n sizes ≡ true
+pub record Shaped (seat : Seat) : Type 0 where
+  pub number : Own (seat .own)
+  pub within : seat .own ≤ seat .n
+  pub shape : shapeGood (seat .n) (seat .sizes) ≡ true
 
 -- a state whose threshold and counter may go up by 1: the counter is used only with a cpa out
 pub record Ready (own : ℕ) (u : Unit) : Type 0 where
@@ -30,3 +32,8 @@ pub record Heard (own : ℕ) (m : Message) : Type 0 where
   pub sender : Own (m .sender)
   pub stamp : getD (m .stamp) (own - 1) 0 ≤ 17
   pub bare : m .sender < own → getD (m .values) (own - 1) 0 ≡ 0
+
+-- a decision as the code has it; a refusal keeps the state as it was
+abbrev pub decidedOf : Unit → Decision → Decided
+decidedOf was (refused r) = record { refusal = r; unit = was; sending = silent; records = 0 }
+decidedOf was (accepted u s ws) = record { refusal = 0; unit = u; sending = s; records = length ws }

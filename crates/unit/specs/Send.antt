@@ -1,11 +1,9 @@
 -- The messages of a plan, 01: "Outgoing order: paper first, the rest by receiver ascending", and their bytes in a buffer.
 -- Assumes nothing.
-use Prim.Native.Nat.{ℕ, zero, suc, _+_, _*_, _-_}
-use mathlib.Core.Bool.{Bool, true, false, cond}
+use Prim.Native.Nat.{ℕ, zero, suc, _*_, _-_}
+use mathlib.Core.Bool.{Bool, true, false}
 use mathlib.Core.List.{List, [], _∷_, _++_}
-use lib.Dec.{eqb}
 use lib.ListN.{length, drop}
-use Rattle.costs.specs.Instance.{View}
 use Rattle.message.specs.declared.Message.{Message}
 use Rattle.message.specs.declared.Kind.{Kind}
 use Rattle.message.specs.declared.Kind.the-variants.{Cpa, Request, Estimate, Solution, Stop}
@@ -21,17 +19,19 @@ use Rattle.unit.specs.State.{zeros}
 abbrev pub packet : Kind → Message → Packet
 packet k m = record { kind = k; message = m }
 
--- a cpa carries all fields
-abbrev pub cpaTo : Message → ℕ → Packet
-cpaTo m j = packet Cpa (record { sender = m .sender; receiver = suc j; stamp = m .stamp; values = m .values; cost = m .cost; bound = m .bound; best = m .best })
+abbrev pub withReceiver : ℕ → Message → Message
+withReceiver r m = record { sender = m .sender; receiver = r; stamp = m .stamp; values = m .values; cost = m .cost; bound = m .bound; best = m .best }
 
--- a request carries no bound
-abbrev pub requestTo : Message → ℕ → Packet
-requestTo m j = packet Request (record { sender = m .sender; receiver = suc j; stamp = m .stamp; values = m .values; cost = m .cost; bound = 0; best = zeros })
+abbrev pub sentTo : Kind → Message → ℕ → Packet
+sentTo k m j = packet k (withReceiver (suc j) m)
+
+-- a cpa carries all fields; a request no bound
+abbrev pub noBound : Message → Message
+noBound m = record { sender = m .sender; receiver = m .receiver; stamp = m .stamp; values = m .values; cost = m .cost; bound = 0; best = zeros }
 
 -- solutions and stops carry only bound and best
-abbrev pub boundTo : Kind → Message → ℕ → Packet
-boundTo k m j = packet k (record { sender = m .sender; receiver = suc j; stamp = zeros; values = zeros; cost = 0; bound = m .bound; best = m .best })
+abbrev pub boundOnly : Message → Message
+boundOnly m = record { sender = m .sender; receiver = m .receiver; stamp = zeros; values = zeros; cost = 0; bound = m .bound; best = m .best }
 
 -- ---- to several units
 
@@ -46,17 +46,17 @@ others n k g = each g 0 k ++ each g (suc k) (n - suc k)
 
 -- 01: "Unit 1 stops and sends stop to all others; others send the paper to the unit before."
 abbrev pub handBack : ℕ → ℕ → Message → List Packet
-handBack n zero m = each (boundTo Stop m) 1 (n - 1)
-handBack n (suc k) m = cpaTo m k ∷ []
+handBack n zero m = each (sentTo Stop (boundOnly m)) 1 (n - 1)
+handBack n (suc k) m = sentTo Cpa m k ∷ []
 
 -- 01: "unit n sends one news, after its last improvement in a step, to all others"
 abbrev pub solutions : ℕ → ℕ → Bool → Message → List Packet
-solutions n k true m = others n k (boundTo Solution m)
+solutions n k true m = others n k (sentTo Solution (boundOnly m))
 solutions n k false m = []
 
 abbrev pub byPlan : ℕ → ℕ → Plan → Bool → Message → List Packet
 byPlan n k Nothing b m = []
-byPlan n k Forward b m = cpaTo m (suc k) ∷ each (requestTo m) (suc k) (n - suc k)
+byPlan n k Forward b m = sentTo Cpa m (suc k) ∷ each (sentTo Request (noBound m)) (suc k) (n - suc k)
 byPlan n k Back b m = handBack n k m ++ solutions n k b m
 byPlan n k Reply b m = packet Estimate m ∷ []
 

@@ -1,17 +1,17 @@
 -- What a unit does, document 01, 'What a unit does', after the AFB paper's figures 1 to 3.
 -- Changes with respect to the paper (01, "Amended from 000"): the bound and best ride on cpas and stops; a solution never raises
 -- a bound; unit n sends one round of solutions, after its last improvement in a step; unit 1 stops on backtracking.
---     Out                                  a refusal, or the new state, what is sent, and the records written
+--     Decision                             a refusal, or the new state, what is sent, and the records written
 --     takeBound, takeOff, carried          small pieces
 --     assign, backtrack                    01: "Assign", "Back up"
 --     onCpa .. onStop, respond             01: "Paper", "Copy", "Estimate", "News", "Stop"
 -- Each test is an argument of a definition by clauses. Places count from 0: the unit at place k is 01's unit i = k + 1.
 -- Assumes nothing.
-use Prim.Native.Nat.{ℕ, zero, suc, _+_, _*_, _-_}
-use mathlib.Core.Bool.{Bool, true, false, cond, not, _&&_, _||_}
-use mathlib.Core.List.{List, [], _∷_, _++_}
+use Prim.Native.Nat.{ℕ, zero, suc, _+_, _-_}
+use mathlib.Core.Bool.{Bool, true, false, cond, _&&_, _||_}
+use mathlib.Core.List.{List, [], _∷_}
 use lib.Dec.{ltb, leb, eqb}
-use lib.ListN.{length, getD, set, take}
+use lib.ListN.{getD, set, take}
 use Rattle.base.specs.Sums.{sumFrom}
 use Rattle.costs.specs.Instance.{View}
 use Rattle.costs.specs.Bounds.{costWith, h, estimate}
@@ -20,11 +20,9 @@ use Rattle.message.specs.declared.Kind.{Kind}
 use Rattle.message.specs.declared.Kind.the-variants.{Cpa, Request, Estimate, Solution, Stop}
 use Rattle.message.specs.Message.{noMessage}
 use Rattle.unit.specs.declared.Unit.{Unit}
-use Rattle.unit.specs.declared.Order.{Order}
-use Rattle.unit.specs.declared.Order.the-variants.{Smaller, Equal, Bigger}
+use Rattle.unit.specs.declared.Ordering.{Ordering}
+use Rattle.unit.specs.declared.Ordering.the-variants.{Less, Equal, Greater}
 use Rattle.unit.specs.declared.Sending.{Sending}
-use Rattle.unit.specs.declared.Decided.{Decided}
-use Rattle.unit.specs.declared.Plan.{Plan}
 use Rattle.unit.specs.declared.Plan.the-variants.{Nothing, Forward, Back, Reply}
 use Rattle.unit.specs.State.{zeros, withThreshold, withBest, withEstimates, withCpa, withCounter, withStopped, ownValue, next, left, compareOn, sameOn}
 
@@ -35,12 +33,12 @@ pub record Written : Type 0 where
   pub values : List ℕ
 
 -- what a unit decides: a refusal; or the state, what is sent, and the records written, oldest first
-pub data Out : Type 0 where
-  refused : ℕ → Out
-  accepted : Unit → Sending → List Written → Out
+pub data Decision : Type 0 where
+  refused : ℕ → Decision
+  accepted : Unit → Sending → List Written → Decision
 
 -- a record written before what follows
-abbrev pub after : Written → Out → Out
+abbrev pub after : Written → Decision → Decision
 after r (refused x) = refused x
 after r (accepted u s ws) = accepted u s (r ∷ ws)
 
@@ -50,9 +48,9 @@ after r (accepted u s ws) = accepted u s (r ∷ ws)
 abbrev pub silent : Sending
 silent = record { plan = Nothing; improved = false; message = noMessage }
 
--- 01: "A stale message changes nothing and sends nothing."
-abbrev pub stale : Unit → Out
-stale u = accepted u silent []
+-- this state, nothing sent and no record written; 01: "A stale message changes nothing and sends nothing."
+abbrev pub quiet : Unit → Decision
+quiet u = accepted u silent []
 
 -- 01: "Take its bound and best if lower."
 abbrev pub takeLower : Bool → ℕ → List ℕ → Unit → Unit
@@ -84,7 +82,7 @@ backedUp w u =
     (withCpa zeros zeros 0 (withEstimates zeros (withThreshold (set (u .threshold) (w .place) (suc (getD (u .threshold) (w .place) 0))) u)))
 
 -- 01: "sends stop to all others; others send the paper to the unit before"
-unfoldable pub backtrack : View → Bool → Unit → Out
+unfoldable pub backtrack : View → Bool → Unit → Decision
 backtrack w improved u = accepted (backedUp w u) (record { plan = Back; improved = improved; message = carried w u }) []
 
 -- ---- 01: "Assign"
@@ -100,7 +98,7 @@ abbrev pub recordOf : View → Unit → Written
 recordOf w u = record { unit = suc (w .place); stamp = take (suc (w .place)) (u .stamp); values = take (suc (w .place)) (u .values) }
 
 -- 01: "Unit n takes its cost as bound and the lotting as best, and assigns again. Others send the paper to the next unit and a copy to every later unit."
-abbrev pub afterWrite : View → Bool → Unit → (Bool → Unit → Out) → Out
+abbrev pub afterWrite : View → Bool → Unit → (Bool → Unit → Decision) → Decision
 afterWrite w true u again = after (recordOf w u) (again true (takeOff w (withBest (u .cost) (u .values) u)))
 afterWrite w false u again = accepted u (record { plan = Forward; improved = false; message = carried w u }) (recordOf w u ∷ [])
 
@@ -108,7 +106,7 @@ abbrev pub isLast : View → Bool
 isLast w = eqb (suc (w .place)) (w .n)
 
 -- 01: "The first with cost + h(v) below the bound is written"
-abbrev pub tryValue : View → Bool → ℕ → ℕ → Bool → Unit → (Bool → Unit → Out) → Out
+abbrev pub tryValue : View → Bool → ℕ → ℕ → Bool → Unit → (Bool → Unit → Decision) → Decision
 tryValue w true v c improved u again = afterWrite w (isLast w) (write w v c u) again
 tryValue w false v c improved u again = again improved u
 
@@ -117,7 +115,7 @@ abbrev pub costAt : View → ℕ → Unit → ℕ
 costAt w v u = u .cost + costWith w (u .values) (w .place) v
 
 -- 01: "Try the values after the current one, ascending": m values after v are left, the own value is off. "No value: back up."
-unfoldable pub tryAfter : View → ℕ → ℕ → Bool → Unit → Out
+unfoldable pub tryAfter : View → ℕ → ℕ → Bool → Unit → Decision
 tryAfter w zero v improved u = backtrack w improved u
 tryAfter w (suc m) v improved u =
     let x = next v in
@@ -128,24 +126,28 @@ tryAfter w (suc m) v improved u =
 abbrev pub begun : View → Unit → Unit
 begun w u = takeOff w (withCounter (cond (eqb (ownValue w u) 0) 0 (u .counter)) (withEstimates zeros u))
 
-unfoldable pub assign : View → Unit → Out
+unfoldable pub assign : View → Unit → Decision
 assign w u = tryAfter w (left w (ownValue w u)) (ownValue w u) false (begun w u)
 
 -- ---- 01: "Paper"
 
 -- 01: "If the cost without the own value is at least the bound, back up; else assign."
-abbrev pub reachedBound : View → Bool → Unit → Out
+abbrev pub reachedBound : View → Bool → Unit → Decision
 reachedBound w true u = backtrack w false (takeOff w u)
 reachedBound w false u = assign w u
 
-unfoldable pub resume : View → Unit → Out
+unfoldable pub resume : View → Unit → Decision
 resume w u = reachedBound w (leb (u .bound) (bareCost w u)) u
 
+-- a message's cpa is the one out, and its bound is taken
+abbrev pub received : Message → Unit → Unit
+received m u = takeBound m (withCpa (m .stamp) (m .values) (m .cost) u)
+
 -- 01: "Smaller: stale. A bigger one going down sets the threshold."
-abbrev pub onDown : View → Order → Unit → Message → Out
-onDown w Smaller u m = stale u
-onDown w Equal u m = resume w (takeBound m (withCpa (m .stamp) (m .values) (m .cost) u))
-onDown w Bigger u m = resume w (takeBound m (withCpa (m .stamp) (m .values) (m .cost) (withThreshold (m .stamp) u)))
+abbrev pub onDown : View → Ordering → Unit → Message → Decision
+onDown w Less u m = quiet u
+onDown w Equal u m = resume w (received m u)
+onDown w Greater u m = resume w (received m (withThreshold (m .stamp) u))
 
 -- 01: "One going back must equal this unit's paper out in stamp, values and cost, else refusal 11."
 abbrev pub isOut : View → Unit → Bool
@@ -155,21 +157,21 @@ abbrev pub isCpaOut : View → Unit → Message → Bool
 isCpaOut w u m =
     isOut w u && sameOn (suc (w .place)) (m .stamp) (u .stamp) && sameOn (suc (w .place)) (m .values) (u .values) && eqb (m .cost) (u .cost)
 
-abbrev pub onOwn : View → Bool → Unit → Message → Out
+abbrev pub onOwn : View → Bool → Unit → Message → Decision
 onOwn w true u m = resume w (takeBound m u)
 onOwn w false u m = refused 11
 
-abbrev pub onBack : View → Order → Unit → Message → Out
-onBack w Smaller u m = stale u
+abbrev pub onBack : View → Ordering → Unit → Message → Decision
+onBack w Less u m = quiet u
 onBack w Equal u m = onOwn w (isCpaOut w u m) u m
-onBack w Bigger u m = onOwn w (isCpaOut w u m) u m
+onBack w Greater u m = onOwn w (isCpaOut w u m) u m
 
 -- 01: "Compare stamps on units 1 to i." A lower sender's cpa goes down.
-abbrev pub onEither : View → Bool → Unit → Message → Out
+abbrev pub onEither : View → Bool → Unit → Message → Decision
 onEither w true u m = onDown w (compareOn (suc (w .place)) (m .stamp) (u .threshold)) u m
 onEither w false u m = onBack w (compareOn (suc (w .place)) (m .stamp) (u .threshold)) u m
 
-unfoldable pub onCpa : View → Unit → Message → Out
+unfoldable pub onCpa : View → Unit → Message → Decision
 onCpa w u m = onEither w (ltb (m .sender) (suc (w .place))) u m
 
 -- ---- 01: "Copy"
@@ -183,13 +185,13 @@ reply w m = record {
 }
 
 -- 01: "Smaller: stale; bigger sets the threshold."
-abbrev pub onFresh : View → Order → Unit → Message → Out
-onFresh w Smaller u m = stale u
+abbrev pub onFresh : View → Ordering → Unit → Message → Decision
+onFresh w Less u m = quiet u
 onFresh w Equal u m = accepted u (reply w m) []
-onFresh w Bigger u m = accepted (withThreshold (m .stamp) u) (reply w m) []
+onFresh w Greater u m = accepted (withThreshold (m .stamp) u) (reply w m) []
 
 -- 01: "Compare on units 1 to i-1."
-unfoldable pub onRequest : View → Unit → Message → Out
+unfoldable pub onRequest : View → Unit → Message → Decision
 onRequest w u m = onFresh w (compareOn (w .place) (m .stamp) (u .threshold)) u m
 
 -- ---- 01: "Estimate"
@@ -198,40 +200,40 @@ onRequest w u m = onFresh w (compareOn (w .place) (m .stamp) (u .threshold)) u m
 abbrev pub sumLater : View → List ℕ → ℕ
 sumLater w e = sumFrom (λ (j : ℕ). getD e j 0) (suc (w .place)) (w .n - suc (w .place))
 
-abbrev pub reachedByEstimates : View → Bool → Unit → Out
+abbrev pub reachedByEstimates : View → Bool → Unit → Decision
 reachedByEstimates w true u = assign w u
-reachedByEstimates w false u = stale u
+reachedByEstimates w false u = quiet u
 
 abbrev pub stored : Message → Unit → Unit
 stored m u = withEstimates (set (u .estimates) (m .sender - 1) (m .cost)) u
 
-abbrev pub onOwnEstimate : View → Bool → Unit → Out
+abbrev pub onOwnEstimate : View → Bool → Unit → Decision
 onOwnEstimate w true u = reachedByEstimates w (leb (u .bound) (u .cost + sumLater w (u .estimates))) u
 onOwnEstimate w false u = refused 11
 
 -- 01: "Smaller: stale. Bigger, no paper out, or a stamp that isn't the paper out's on those units: refusal 11. Store it; .."
-abbrev pub onTimely : View → Order → Unit → Message → Out
-onTimely w Smaller u m = stale u
+abbrev pub onTimely : View → Ordering → Unit → Message → Decision
+onTimely w Less u m = quiet u
 onTimely w Equal u m = onOwnEstimate w (isOut w u && sameOn (suc (w .place)) (m .stamp) (u .stamp)) (stored m u)
-onTimely w Bigger u m = refused 11
+onTimely w Greater u m = refused 11
 
 -- 01: "Compare on 1 to i."
-unfoldable pub onEstimate : View → Unit → Message → Out
+unfoldable pub onEstimate : View → Unit → Message → Decision
 onEstimate w u m = onTimely w (compareOn (suc (w .place)) (m .stamp) (u .threshold)) u m
 
 -- ---- 01: "News", "Stop"
 
 -- 01: "Take it only if lower."
-unfoldable pub onSolution : View → Unit → Message → Out
-onSolution w u m = accepted (takeBound m u) silent []
+unfoldable pub onSolution : View → Unit → Message → Decision
+onSolution w u m = quiet (takeBound m u)
 
 -- 01: "Take its bound and best if lower; the unit has stopped."
-unfoldable pub onStop : View → Unit → Message → Out
-onStop w u m = accepted (withStopped true (takeBound m u)) silent []
+unfoldable pub onStop : View → Unit → Message → Decision
+onStop w u m = quiet (withStopped true (takeBound m u))
 
 -- ---- a message that was read
 
-abbrev pub byKind : View → Kind → Unit → Message → Out
+abbrev pub byKind : View → Kind → Unit → Message → Decision
 byKind w Cpa u m = onCpa w u m
 byKind w Request u m = onRequest w u m
 byKind w Estimate u m = onEstimate w u m
@@ -239,15 +241,9 @@ byKind w Solution u m = onSolution w u m
 byKind w Stop u m = onStop w u m
 
 -- 01, refusal 12: "unit has stopped"
-abbrev pub unlessStopped : Bool → View → Kind → Unit → Message → Out
+abbrev pub unlessStopped : Bool → View → Kind → Unit → Message → Decision
 unlessStopped true w k u m = refused 12
 unlessStopped false w k u m = byKind w k u m
 
-unfoldable pub respond : View → Kind → Unit → Message → Out
+unfoldable pub respond : View → Kind → Unit → Message → Decision
 respond w k u m = unlessStopped (u .stopped) w k u m
-
--- ---- a decision as the code has it
-
-abbrev pub decidedOf : Unit → Out → Decided
-decidedOf was (refused r) = record { refusal = r; unit = was; sending = silent; records = 0 }
-decidedOf was (accepted u s ws) = record { refusal = 0; unit = u; sending = s; records = length ws }

@@ -8,7 +8,7 @@ use Rattle.costs.specs.Instance.{Instance, viewOf}
 use Rattle.message.specs.Message.{Packet}
 use Rattle.unit.specs.declared.Unit.{Unit as State}
 use Rattle.unit.specs.State.{emptyUnit}
-use Rattle.unit.specs.Step.{Out, Written, respond}
+use Rattle.unit.specs.Step.{Decision, Written, respond}
 
 -- the unit at a place
 abbrev pub unitAt : List State → ℕ → State
@@ -19,7 +19,7 @@ abbrev pub placeOf : Packet → ℕ
 placeOf p = pred (p .message .receiver)
 
 -- the step of that unit
-abbrev pub stepOn : Instance → List State → Packet → Out
+abbrev pub stepOn : Instance → List State → Packet → Decision
 stepOn I us p = respond (viewOf I (placeOf p)) (p .kind) (unitAt us (placeOf p)) (p .message)
 
 -- two records are of one unit with the same values, 01: "a beginning: the values of units 1 to i"

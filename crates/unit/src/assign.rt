@@ -14,33 +14,33 @@ ghost use mathlib.Core.Bool.{false, cond};
 ghost use Prim.Native.Nat.{suc, _+_, _-_, _≤_, _<_};
 ghost use lib.Dec.{eqb};
 ghost use lib.ListN.{getD};
-ghost use Rattle.costs.specs.Instance.{View, lentView};
+ghost use Rattle.costs.specs.Instance.{View, viewFrom};
 ghost use Rattle.unit.specs.State.{withBest};
-ghost use Rattle.unit.specs.Step.{takeOff, carried, write, costAt, tryAfter, begun, assign, decidedOf};
-ghost use Rattle.unit.specs.Ready.{Own, Shaped, Ready};
+ghost use Rattle.unit.specs.Step.{takeOff, carried, write, costAt, tryAfter, begun, assign};
+ghost use Rattle.unit.specs.Ready.{Own, Shaped, Ready, decidedOf};
 
 // Assign: the first value after the own one that stays below the bound is written and sent on; without one, backtrack.
-pub(crate) fn assign(own: u8, n: u8, sizes: [u8; 16], costs: &[u8], u: Unit) -> Decided
-    requires { ⌜ Shaped own n sizes × Ready own u ⌝ }
-    ensures { λ r. ⌜ ((was : Unit) → r ≡ decidedOf was (assign (lentView own n sizes (now (costs .entry))) u)) ⌝ }
+pub(crate) fn assign(seat: Seat, costs: &[u8], u: Unit) -> Decided
+    requires { ⌜ Shaped seat × Ready (seat .own) u ⌝ }
+    ensures { λ r. ⌜ ((was : Unit) → r ≡ decidedOf was (assign (viewFrom seat (now (costs .entry))) u)) ⌝ }
 {
-    let place = (own - 1) as usize;
+    let place = (seat.own - 1) as usize;
     let value = u.values[place];
-    let t = begin(own, n, sizes, costs, u);
-    try_after(own, n, sizes, costs, value, t)
+    let t = begin(seat, costs, u);
+    try_after(seat, costs, value, t)
 }
 
 // Estimates cleared, the counter as assigning begins, the own value off.
-fn begin(own: u8, n: u8, sizes: [u8; 16], costs: &[u8], u: Unit) -> Unit
-    requires { ⌜ Own own ⌝ }
-    ensures { λ r. ⌜ r ≡ begun (lentView own n sizes (now (costs .entry))) u ⌝ }
+fn begin(seat: Seat, costs: &[u8], u: Unit) -> Unit
+    requires { ⌜ Own (seat .own) ⌝ }
+    ensures { λ r. ⌜ r ≡ begun (viewFrom seat (now (costs .entry))) u ⌝ }
 {
-    let place = (own - 1) as usize;
+    let place = (seat.own - 1) as usize;
     let count = started(u.values[place], u.counter);
     let mut t = u;
     t.estimates = [0u32; 16];
     t.counter = count;
-    take_off(own, n, sizes, costs, t)
+    take_off(seat, costs, t)
 }
 
 // The counter where assigning begins: 0 with no own value.
@@ -54,24 +54,25 @@ fn started(value: u8, counter: u8) -> u8
 }
 
 // Try the values after v, ascending; the own value is off.
-fn try_after(own: u8, n: u8, sizes: [u8; 16], costs: &[u8], from: u8, u: Unit) -> Decided
-    requires { ⌜ Shaped own n sizes × (getD (u .threshold) (own - 1) 0 ≤ 17) × (u .counter ≤ from) ⌝ }
-    ensures { λ r. ⌜ ((was : Unit) → r ≡ decidedOf was (tryAfter (lentView own n sizes (now (costs .entry))) (getD sizes (own - 1) 0 - from) from false u)) ⌝ }
+fn try_after(seat: Seat, costs: &[u8], from: u8, u: Unit) -> Decided
+    requires { ⌜ Shaped seat × (getD (u .threshold) (seat .own - 1) 0 ≤ 17) × (u .counter ≤ from) ⌝ }
+    ensures { λ r. ⌜ ((was : Unit) → r ≡ decidedOf was (tryAfter (viewFrom seat (now (costs .entry))) (getD (seat .sizes) (seat .own - 1) 0 - from) from false u)) ⌝ }
 {
-    let d = sizes[(own - 1) as usize];
+    let sizes = seat.sizes;
+    let d = sizes[(seat.own - 1) as usize];
     let mut t = u;
     let mut improved = false;
     let mut records = 0;
     let mut v = from;
     while v < d {
         v += 1;
-        let cost = cost_at(own, n, sizes, costs, v, t);
-        let ahead = costs::h(Seat { own, n, sizes }, costs, v);
-        if cost + wide(ahead) < wide(t.bound) {
+        let cost = cost_at(seat, costs, v, t);
+        let ahead = costs::h(seat, costs, v);
+        if cost + base::wide_u64(ahead) < base::wide_u64(t.bound) {
             records += 1;
-            let s = put(own, v, cost as u32, t);
-            if own != n {
-                let sending = forward(own, s);
+            let s = put(seat.own, v, cost as u32, t);
+            if seat.own != seat.n {
+                let sending = forward(seat.own, s);
                 return Decided {
                     refusal: 0,
                     unit: s,
@@ -79,23 +80,23 @@ fn try_after(own: u8, n: u8, sizes: [u8; 16], costs: &[u8], from: u8, u: Unit) -
                     records,
                 };
             }
-            t = improve(own, n, sizes, costs, s);
+            t = improve(seat, costs, s);
             improved = true;
         }
     }
-    let mut back = backtrack(own, improved, t);
+    let mut back = backtrack(seat.own, improved, t);
     back.records = records;
     back
 }
 
 // The cost with own value v; wide, so that no sum wraps.
-fn cost_at(own: u8, n: u8, sizes: [u8; 16], costs: &[u8], v: u8, u: Unit) -> u64
-    requires { ⌜ Own own ⌝ }
-    ensures { λ r. ⌜ (r ≡ costAt (lentView own n sizes (now (costs .entry))) v u) × (r < 8589934592) ⌝ }
+fn cost_at(seat: Seat, costs: &[u8], v: u8, u: Unit) -> u64
+    requires { ⌜ Own (seat .own) ⌝ }
+    ensures { λ r. ⌜ (r ≡ costAt (viewFrom seat (now (costs .entry))) v u) × (r < 8589934592) ⌝ }
 {
     let values = u.values;
-    let paid = costs::cost_with(Seat { own, n, sizes }, costs, values, own - 1, v);
-    wide(u.cost) + wide(paid)
+    let paid = costs::cost_with(seat, costs, values, seat.own - 1, v);
+    base::wide_u64(u.cost) + base::wide_u64(paid)
 }
 
 // Value v at this cost is written: one record.
@@ -116,13 +117,13 @@ fn put(own: u8, v: u8, cost: u32, u: Unit) -> Unit
 }
 
 // Unit n takes its cost as bound and its values as best, and the own value off.
-fn improve(own: u8, n: u8, sizes: [u8; 16], costs: &[u8], u: Unit) -> Unit
-    requires { ⌜ Own own ⌝ }
-    ensures { λ r. ⌜ r ≡ takeOff (lentView own n sizes (now (costs .entry))) (withBest (u .cost) (u .values) u) ⌝ }
+fn improve(seat: Seat, costs: &[u8], u: Unit) -> Unit
+    requires { ⌜ Own (seat .own) ⌝ }
+    ensures { λ r. ⌜ r ≡ takeOff (viewFrom seat (now (costs .entry))) (withBest (u .cost) (u .values) u) ⌝ }
 {
     let values = u.values;
     let t = with_best(u.cost, values, u);
-    take_off(own, n, sizes, costs, t)
+    take_off(seat, costs, t)
 }
 
 // The cpa goes to the next unit, and requests to every later one.
@@ -135,10 +136,4 @@ fn forward(own: u8, u: Unit) -> Sending
         improved: false,
         message,
     }
-}
-
-pub(crate) fn wide(x: u32) -> u64
-    ensures { λ r. ⌜ (r ≡ x) × (r < 4294967296) ⌝ }
-{
-    x as u64
 }

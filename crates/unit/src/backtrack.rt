@@ -10,9 +10,9 @@ use message::Message;
 ghost use mathlib.Core.Path.{_≡_};
 ghost use Prim.Native.Nat.{suc, _-_, _≤_};
 ghost use lib.ListN.{getD};
-ghost use Rattle.costs.specs.Instance.{View, lentView};
-ghost use Rattle.unit.specs.Step.{bareCost, takeOff, carried, backedUp, backtrack, decidedOf};
-ghost use Rattle.unit.specs.Ready.{Own};
+ghost use Rattle.costs.specs.Instance.{View, viewFrom};
+ghost use Rattle.unit.specs.Step.{bareCost, takeOff, carried, backedUp, backtrack};
+ghost use Rattle.unit.specs.Ready.{Own, decidedOf};
 
 // Backtrack, the own value off already.
 pub(crate) fn backtrack(own: u8, improved: bool, u: Unit) -> Decided
@@ -52,12 +52,12 @@ fn back_up(own: u8, u: Unit) -> Unit
 }
 
 // The own value taken off.
-pub(crate) fn take_off(own: u8, n: u8, sizes: [u8; 16], costs: &[u8], u: Unit) -> Unit
-    requires { ⌜ Own own ⌝ }
-    ensures { λ r. ⌜ r ≡ takeOff (lentView own n sizes (now (costs .entry))) u ⌝ }
+pub(crate) fn take_off(seat: Seat, costs: &[u8], u: Unit) -> Unit
+    requires { ⌜ Own (seat .own) ⌝ }
+    ensures { λ r. ⌜ r ≡ takeOff (viewFrom seat (now (costs .entry))) u ⌝ }
 {
-    let place = (own - 1) as usize;
-    let cost = bare_cost(own, n, sizes, costs, u);
+    let place = (seat.own - 1) as usize;
+    let cost = bare_cost(seat, costs, u);
     let mut v = u;
     v.stamp[place] = 0;
     v.values[place] = 0;
@@ -66,14 +66,14 @@ pub(crate) fn take_off(own: u8, n: u8, sizes: [u8; 16], costs: &[u8], u: Unit) -
 }
 
 // The cost without the own value.
-pub(crate) fn bare_cost(own: u8, n: u8, sizes: [u8; 16], costs: &[u8], u: Unit) -> u32
-    requires { ⌜ Own own ⌝ }
-    ensures { λ r. ⌜ r ≡ bareCost (lentView own n sizes (now (costs .entry))) u ⌝ }
+pub(crate) fn bare_cost(seat: Seat, costs: &[u8], u: Unit) -> u32
+    requires { ⌜ Own (seat .own) ⌝ }
+    ensures { λ r. ⌜ r ≡ bareCost (viewFrom seat (now (costs .entry))) u ⌝ }
 {
-    let place = own - 1;
+    let place = seat.own - 1;
     let values = u.values;
     let value = values[place as usize];
-    let paid = costs::cost_with(Seat { own, n, sizes }, costs, values, place, value);
+    let paid = costs::cost_with(seat, costs, values, place, value);
     if paid <= u.cost {
         return u.cost - paid;
     }

@@ -9,33 +9,26 @@ use crate::estimate::on_request;
 use crate::receive::on_cpa;
 use crate::state::with_best;
 use crate::state::with_stopped;
+use costs::Seat;
 use message::Kind;
 use message::Message;
 ghost use mathlib.Core.Path.{_≡_};
-ghost use Rattle.costs.specs.Instance.{View, lentView};
-ghost use Rattle.unit.specs.Step.{silent, stale, refused, takeBound, onSolution, onStop, respond, decidedOf};
-ghost use Rattle.unit.specs.Ready.{Shaped, Ready, Heard};
+ghost use Rattle.costs.specs.Instance.{View, viewFrom};
+ghost use Rattle.unit.specs.Step.{silent, quiet, refused, takeBound, onSolution, onStop, respond};
+ghost use Rattle.unit.specs.Ready.{Shaped, Ready, Heard, decidedOf};
 
 // What a message that was read makes a unit do.
-pub(crate) fn respond(
-    own: u8,
-    n: u8,
-    sizes: [u8; 16],
-    costs: &[u8],
-    kind: Kind,
-    u: Unit,
-    m: Message,
-) -> Decided
-    requires { ⌜ Shaped own n sizes × Ready own u × Heard own m ⌝ }
-    ensures { λ r. ⌜ r ≡ decidedOf u (respond (lentView own n sizes (now (costs .entry))) kind u m) ⌝ }
+pub(crate) fn respond(seat: Seat, costs: &[u8], kind: Kind, u: Unit, m: Message) -> Decided
+    requires { ⌜ Shaped seat × Ready (seat .own) u × Heard (seat .own) m ⌝ }
+    ensures { λ r. ⌜ r ≡ decidedOf u (respond (viewFrom seat (now (costs .entry))) kind u m) ⌝ }
 {
     if u.stopped {
         return refuse(12, u);
     }
     match kind {
-        Kind::Cpa => on_cpa(own, n, sizes, costs, u, m),
-        Kind::Request => on_request(own, n, sizes, costs, u, m),
-        Kind::Estimate => on_estimate(own, n, sizes, costs, u, m),
+        Kind::Cpa => on_cpa(seat, costs, u, m),
+        Kind::Request => on_request(seat, costs, u, m),
+        Kind::Estimate => on_estimate(seat, costs, u, m),
         Kind::Solution => on_solution(u, m),
         Kind::Stop => on_stop(u, m),
     }
@@ -68,7 +61,7 @@ pub(crate) fn take_bound(m: Message, u: Unit) -> Unit
 
 // This state, and nothing is sent.
 pub(crate) fn quiet(u: Unit) -> Decided
-    ensures { λ r. ⌜ ((was : Unit) → r ≡ decidedOf was (stale u)) ⌝ }
+    ensures { λ r. ⌜ ((was : Unit) → r ≡ decidedOf was (quiet u)) ⌝ }
 {
     let sending = nothing();
     Decided {

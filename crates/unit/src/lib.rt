@@ -6,13 +6,13 @@ use message::Read;
 ghost use mathlib.Core.Path.{_≡_};
 ghost use Prim.Native.Nat.{ℕ, pred, _-_, _≤_};
 ghost use lib.ListN.{length};
-ghost use Rattle.costs.specs.Instance.{lentView};
+ghost use Rattle.costs.specs.Instance.{viewFrom};
 ghost use Rattle.unit.specs.State.{fresh, noUnit};
-ghost use Rattle.unit.specs.Step.{Out, refused, decidedOf};
+ghost use Rattle.unit.specs.Step.{Decision, refused};
 ghost use Rattle.unit.specs.Send.{packets};
 ghost use Rattle.unit.specs.Laying.{Room};
-ghost use Rattle.unit.specs.Calls.{outcomeOf, reportOf, unitOf, bytesOf, makeRefusal, start, makeOut, stepRefusal, stepOut};
-ghost use Rattle.unit.specs.Ready.{Shaped};
+ghost use Rattle.unit.specs.Calls.{outcomeOf, reportOf, unitOf, bytesOf, seatRefusal, makeRefusal, rangeRefusal, start, makeOut, stepRefusal, stepOut};
+ghost use Rattle.unit.specs.Ready.{Shaped, decidedOf};
 
 mod assign; // assigning: values tried, the first below the bound written
 mod backtrack; // backtracking: the own value off, the cpa handed back
@@ -40,10 +40,10 @@ pub struct Unit {
 }
 
 // How two stamps compare.
-pub enum Order {
-    Smaller,
+pub enum Ordering {
+    Less,
     Equal,
-    Bigger,
+    Greater,
 }
 
 // What a step sends: nothing; the cpa to the next unit with a request to every later one; the cpa to the unit before, or
@@ -91,12 +91,13 @@ pub struct Report {
 pub fn make(own: u8, n: u8, sizes: [u8; 16], costs: &[u8], out: &mut [u8]) -> Outcome
     ensures { λ r. ⌜ (r ≡ outcomeOf n (pred own) noUnit (makeOut own n sizes (now (costs .entry)) (length (now (out .entry))))) × (now (out .exit) ≡ bytesOf n (pred own) (now (out .entry)) (makeOut own n sizes (now (costs .entry)) (length (now (out .entry))))) ⌝ }
 {
-    let refusal = make_refusal(own, n, sizes, costs, out.len());
+    let seat = Seat { own, n, sizes };
+    let refusal = make_refusal(seat, costs, out.len());
     if refusal != 0 {
         return refused(refusal, no_unit());
     }
-    let d = start(own, n, sizes, costs);
-    carry_out(n, own, d, out)
+    let d = start(seat, costs);
+    carry_out(seat, d, out)
 }
 
 // A step: the packet is read, and the unit does what it says. Refusals 13, 5, 10, 6, 7, 5, then reading's 8, 10, 9, then 12, 11.
@@ -111,7 +112,8 @@ pub fn step(
 ) -> Outcome
     ensures { λ r. ⌜ (r ≡ outcomeOf n (pred own) u (stepOut u own n sizes (now (costs .entry)) (now (packet .entry)) (length (now (out .entry))))) × (now (out .exit) ≡ bytesOf n (pred own) (now (out .entry)) (stepOut u own n sizes (now (costs .entry)) (now (packet .entry)) (length (now (out .entry))))) ⌝ }
 {
-    let refusal = step_refusal(u, own, n, sizes, costs, out.len());
+    let seat = Seat { own, n, sizes };
+    let refusal = step_refusal(seat, costs, u, out.len());
     if refusal != 0 {
         return refused(refusal, u);
     }
@@ -121,8 +123,8 @@ pub fn step(
         return refused(message::refusal_of(answer), u);
     };
     let m = parsed.message;
-    let d = decide::respond(own, n, sizes, costs, kind, u, m);
-    carry_out(n, own, d, out)
+    let d = decide::respond(seat, costs, kind, u, m);
+    carry_out(seat, d, out)
 }
 
 // The step on a lent state: 01, "The box lends its state to each step, and the step writes it there".
@@ -148,68 +150,84 @@ pub fn step_in_place(
     }
 }
 
-// The first refusal of making that applies, or 0.
-fn make_refusal(own: u8, n: u8, sizes: [u8; 16], costs: &[u8], room: usize) -> u8
-    ensures { λ r. ⌜ r ≡ makeRefusal own n sizes (now (costs .entry)) room ⌝ }
+// Whether a lent state is in range, told by the refusal that a step would give: 5, 10, 6, 7, 5 in order, or 0.
+pub fn in_range(u: Unit, own: u8, n: u8, sizes: [u8; 16], costs: &[u8]) -> u8
+    ensures { λ r. ⌜ r ≡ rangeRefusal u own n sizes (now (costs .entry)) ⌝ }
 {
-    if !base::shape_good(n, sizes) {
-        return 5;
+    range_refusal(Seat { own, n, sizes }, costs, u)
+}
+
+// The first refusal of making that applies, or 0.
+fn make_refusal(seat: Seat, costs: &[u8], room: usize) -> u8
+    ensures { λ r. ⌜ r ≡ makeRefusal (seat .own) (seat .n) (seat .sizes) (now (costs .entry)) room ⌝ }
+{
+    let refusal = seat_refusal(seat, costs);
+    if refusal != 0 {
+        return refusal;
     }
-    if !message::is_unit(n, own) {
-        return 10;
-    }
-    let lent = costs::lent_refusal(Seat { own, n, sizes }, costs);
-    if lent != 0 {
-        return lent;
-    }
-    if room < 1024 {
+    if room < base::SENDING_SIZE {
         return 13;
     }
     0
 }
 
 // The first refusal of a step that applies before its packet is read, or 0.
-fn step_refusal(u: Unit, own: u8, n: u8, sizes: [u8; 16], costs: &[u8], room: usize) -> u8
-    ensures { λ r. ⌜ r ≡ stepRefusal u own n sizes (now (costs .entry)) room ⌝ }
+fn step_refusal(seat: Seat, costs: &[u8], u: Unit, room: usize) -> u8
+    ensures { λ r. ⌜ r ≡ stepRefusal u (seat .own) (seat .n) (seat .sizes) (now (costs .entry)) room ⌝ }
 {
-    if room < 1024 {
+    if room < base::SENDING_SIZE {
         return 13;
     }
-    if !base::shape_good(n, sizes) {
-        return 5;
+    range_refusal(seat, costs, u)
+}
+
+// The first refusal of a lent state, or 0.
+fn range_refusal(seat: Seat, costs: &[u8], u: Unit) -> u8
+    ensures { λ r. ⌜ r ≡ rangeRefusal u (seat .own) (seat .n) (seat .sizes) (now (costs .entry)) ⌝ }
+{
+    let refusal = seat_refusal(seat, costs);
+    if refusal != 0 {
+        return refusal;
     }
-    if !message::is_unit(n, own) {
-        return 10;
-    }
-    let lent = costs::lent_refusal(Seat { own, n, sizes }, costs);
-    if lent != 0 {
-        return lent;
-    }
-    if !state::in_range(own, n, sizes, costs, u) {
+    if !state::lent_in_range(seat, costs, u) {
         return 5;
     }
     0
 }
 
+// The first refusal of what is lent beside a state, or 0.
+fn seat_refusal(seat: Seat, costs: &[u8]) -> u8
+    ensures { λ r. ⌜ r ≡ seatRefusal (seat .own) (seat .n) (seat .sizes) (now (costs .entry)) ⌝ }
+{
+    let sizes = seat.sizes;
+    if !base::shape_good(seat.n, sizes) {
+        return 5;
+    }
+    if !message::is_unit(seat.n, seat.own) {
+        return 10;
+    }
+    costs::lent_refusal(seat, costs)
+}
+
 // What a new unit decides.
-fn start(own: u8, n: u8, sizes: [u8; 16], costs: &[u8]) -> Decided
-    requires { ⌜ Shaped own n sizes ⌝ }
-    ensures { λ r. ⌜ ((was : Unit) → r ≡ decidedOf was (start (lentView own n sizes (now (costs .entry))) (pred own))) ⌝ }
+fn start(seat: Seat, costs: &[u8]) -> Decided
+    requires { ⌜ Shaped seat ⌝ }
+    ensures { λ r. ⌜ ((was : Unit) → r ≡ decidedOf was (start (viewFrom seat (now (costs .entry))) (pred (seat .own)))) ⌝ }
 {
     let u = fresh();
-    if own == 1 {
-        return assign::assign(own, n, sizes, costs, u);
+    if seat.own == 1 {
+        return assign::assign(seat, costs, u);
     }
     decide::quiet(u)
 }
 
 // What was decided is sent and handed back.
-fn carry_out(n: u8, own: u8, d: Decided, out: &mut [u8]) -> Outcome
-    requires { ⌜ Room own n (now out) × (length (packets n (own - 1) (d .sending)) ≤ 16) ⌝ }
-    ensures { λ r. ⌜ ((was : Unit) (o : Out) → d ≡ decidedOf was o → (r ≡ outcomeOf n (pred own) was o) × (now (out .exit) ≡ bytesOf n (pred own) (now (out .entry)) o)) ⌝ }
+fn carry_out(seat: Seat, d: Decided, out: &mut [u8]) -> Outcome
+    requires { ⌜ Room seat (now out) × (length (packets (seat .n) (seat .own - 1) (d .sending)) ≤ 16) ⌝ }
+    ensures { λ r. ⌜ ((was : Unit) (o : Decision) → d ≡ decidedOf was o → (r ≡ outcomeOf (seat .n) (pred (seat .own)) was o) × (now (out .exit) ≡ bytesOf (seat .n) (pred (seat .own)) (now (out .entry)) o)) ⌝ }
 {
     let sending = d.sending;
-    let sent = send::send(n, own, sending, out);
+    let sent = send::send(seat, sending, out);
     let unit = d.unit;
     Outcome {
         refusal: d.refusal,

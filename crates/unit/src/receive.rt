@@ -1,7 +1,7 @@
 // A cpa comes in: 01, "Paper".
 
 use crate::Decided;
-use crate::Order;
+use crate::Ordering;
 use crate::Unit;
 use crate::assign::assign;
 use crate::backtrack::backtrack;
@@ -11,56 +11,49 @@ use crate::decide::quiet;
 use crate::decide::refuse;
 use crate::decide::take_bound;
 use crate::state::compare;
-use crate::state::not_smaller;
+use crate::state::not_less;
 use crate::state::same;
 use crate::state::with_cpa;
 use crate::state::with_threshold;
+use costs::Seat;
 use message::Message;
 ghost use mathlib.Core.Path.{_≡_};
 ghost use mathlib.Core.Bool.{_&&_};
 ghost use Prim.Native.Nat.{suc, _<_};
-ghost use Rattle.costs.specs.Instance.{View, lentView};
-ghost use Rattle.unit.specs.State.{withThreshold, withCpa, sameOn};
-ghost use Rattle.unit.specs.Step.{takeBound, resume, onDown, isCpaOut, onBack, onCpa, isOut, decidedOf};
-ghost use Rattle.unit.specs.Ready.{Own, Shaped, Ready, Heard};
+ghost use Rattle.costs.specs.Instance.{View, viewFrom};
+ghost use Rattle.unit.specs.State.{withThreshold, sameOn};
+ghost use Rattle.unit.specs.Step.{received, resume, onDown, isCpaOut, onBack, onCpa, isOut};
+ghost use Rattle.unit.specs.Ready.{Own, Shaped, Ready, Heard, decidedOf};
 
 // A cpa: one from a lower unit goes down.
-pub(crate) fn on_cpa(own: u8, n: u8, sizes: [u8; 16], costs: &[u8], u: Unit, m: Message) -> Decided
-    requires { ⌜ Shaped own n sizes × Ready own u × Heard own m ⌝ }
-    ensures { λ r. ⌜ r ≡ decidedOf u (onCpa (lentView own n sizes (now (costs .entry))) u m) ⌝ }
+pub(crate) fn on_cpa(seat: Seat, costs: &[u8], u: Unit, m: Message) -> Decided
+    requires { ⌜ Shaped seat × Ready (seat .own) u × Heard (seat .own) m ⌝ }
+    ensures { λ r. ⌜ r ≡ decidedOf u (onCpa (viewFrom seat (now (costs .entry))) u m) ⌝ }
 {
     let stamp = m.stamp;
     let threshold = u.threshold;
-    let order = compare(own as usize, stamp, threshold);
-    if m.sender < own {
-        return on_down(own, n, sizes, costs, order, u, m);
+    let order = compare(seat.own as usize, stamp, threshold);
+    if m.sender < seat.own {
+        return on_down(seat, costs, order, u, m);
     }
-    on_back(own, n, sizes, costs, order, u, m)
+    on_back(seat, costs, order, u, m)
 }
 
 // A cpa going down, by how its stamp compares with the threshold.
-fn on_down(
-    own: u8,
-    n: u8,
-    sizes: [u8; 16],
-    costs: &[u8],
-    order: Order,
-    u: Unit,
-    m: Message,
-) -> Decided
-    requires { ⌜ Shaped own n sizes × Ready own u × Heard own m × (m .sender < own) ⌝ }
-    ensures { λ r. ⌜ ((was : Unit) → r ≡ decidedOf was (onDown (lentView own n sizes (now (costs .entry))) order u m)) ⌝ }
+fn on_down(seat: Seat, costs: &[u8], order: Ordering, u: Unit, m: Message) -> Decided
+    requires { ⌜ Shaped seat × Ready (seat .own) u × Heard (seat .own) m × (m .sender < seat .own) ⌝ }
+    ensures { λ r. ⌜ ((was : Unit) → r ≡ decidedOf was (onDown (viewFrom seat (now (costs .entry))) order u m)) ⌝ }
 {
     match order {
-        Order::Smaller => quiet(u),
-        Order::Equal => resume(own, n, sizes, costs, receive(m, u)),
-        Order::Bigger => resume(own, n, sizes, costs, receive(m, follow(m, u))),
+        Ordering::Less => quiet(u),
+        Ordering::Equal => resume(seat, costs, receive(m, u)),
+        Ordering::Greater => resume(seat, costs, receive(m, follow(m, u))),
     }
 }
 
 // The cpa of a message is the one out, and its bound is taken if lower.
 fn receive(m: Message, u: Unit) -> Unit
-    ensures { λ r. ⌜ r ≡ takeBound m (withCpa (m .stamp) (m .values) (m .cost) u) ⌝ }
+    ensures { λ r. ⌜ r ≡ received m u ⌝ }
 {
     let stamp = m.stamp;
     let values = m.values;
@@ -77,25 +70,17 @@ pub(crate) fn follow(m: Message, u: Unit) -> Unit
 }
 
 // A cpa going back, by how its stamp compares with the threshold.
-fn on_back(
-    own: u8,
-    n: u8,
-    sizes: [u8; 16],
-    costs: &[u8],
-    order: Order,
-    u: Unit,
-    m: Message,
-) -> Decided
-    requires { ⌜ Shaped own n sizes × Ready own u ⌝ }
-    ensures { λ r. ⌜ r ≡ decidedOf u (onBack (lentView own n sizes (now (costs .entry))) order u m) ⌝ }
+fn on_back(seat: Seat, costs: &[u8], order: Ordering, u: Unit, m: Message) -> Decided
+    requires { ⌜ Shaped seat × Ready (seat .own) u ⌝ }
+    ensures { λ r. ⌜ r ≡ decidedOf u (onBack (viewFrom seat (now (costs .entry))) order u m) ⌝ }
 {
-    if !not_smaller(order) {
+    if !not_less(order) {
         return quiet(u);
     }
-    if !is_cpa_out(own, u, m) {
+    if !is_cpa_out(seat.own, u, m) {
         return refuse(11, u);
     }
-    resume(own, n, sizes, costs, take_bound(m, u))
+    resume(seat, costs, take_bound(m, u))
 }
 
 // Whether a message's cpa is the one out.
@@ -128,14 +113,14 @@ pub(crate) fn is_stamp_out(own: u8, u: Unit, m: Message) -> bool
 }
 
 // Backtrack where the cost without the own value reaches the bound, else assign.
-fn resume(own: u8, n: u8, sizes: [u8; 16], costs: &[u8], u: Unit) -> Decided
-    requires { ⌜ Shaped own n sizes × Ready own u ⌝ }
-    ensures { λ r. ⌜ ((was : Unit) → r ≡ decidedOf was (resume (lentView own n sizes (now (costs .entry))) u)) ⌝ }
+fn resume(seat: Seat, costs: &[u8], u: Unit) -> Decided
+    requires { ⌜ Shaped seat × Ready (seat .own) u ⌝ }
+    ensures { λ r. ⌜ ((was : Unit) → r ≡ decidedOf was (resume (viewFrom seat (now (costs .entry))) u)) ⌝ }
 {
-    let bare = bare_cost(own, n, sizes, costs, u);
+    let bare = bare_cost(seat, costs, u);
     if u.bound <= bare {
-        let t = take_off(own, n, sizes, costs, u);
-        return backtrack(own, false, t);
+        let t = take_off(seat, costs, u);
+        return backtrack(seat.own, false, t);
     }
-    assign(own, n, sizes, costs, u)
+    assign(seat, costs, u)
 }

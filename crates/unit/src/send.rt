@@ -2,6 +2,7 @@
 
 use crate::Plan;
 use crate::Sending;
+use costs::Seat;
 use message::Kind;
 use message::Message;
 ghost use mathlib.Core.Path.{_≡_};
@@ -10,20 +11,20 @@ ghost use Prim.Native.Nat.{_+_, _*_, _-_, _≤_};
 ghost use lib.ListN.{length};
 ghost use Rattle.message.specs.Encode.{putAt};
 ghost use Rattle.unit.specs.declared.Plan.the-variants.{Forward, Back};
-ghost use Rattle.unit.specs.Send.{each, handBack, byPlan, packets, encodeAll, laid};
-ghost use Rattle.unit.specs.Laying.{withReceiver, addressed, noBound, boundOnly, Room};
+ghost use Rattle.unit.specs.Send.{withReceiver, sentTo, noBound, boundOnly, each, handBack, byPlan, packets, encodeAll, laid};
+ghost use Rattle.unit.specs.Laying.{Room};
 
 // The messages of a plan are laid at the front; how many.
-pub(crate) fn send(n: u8, own: u8, s: Sending, out: &mut [u8]) -> u8
-    requires { ⌜ Room own n (now out) × (length (packets n (own - 1) s) ≤ 16) ⌝ }
-    ensures { λ r. ⌜ (r ≡ length (packets n (own - 1) s)) × (now (out .exit) ≡ laid (packets n (own - 1) s) (now (out .entry))) ⌝ }
+pub(crate) fn send(seat: Seat, s: Sending, out: &mut [u8]) -> u8
+    requires { ⌜ Room seat (now out) × (length (packets (seat .n) (seat .own - 1) s) ≤ 16) ⌝ }
+    ensures { λ r. ⌜ (r ≡ length (packets (seat .n) (seat .own - 1) s)) × (now (out .exit) ≡ laid (packets (seat .n) (seat .own - 1) s) (now (out .entry))) ⌝ }
 {
     let m = s.message;
     let plan = s.plan;
     match plan {
         Plan::Nothing => 0,
-        Plan::Forward => forward(n, own, m, out),
-        Plan::Back => back(n, own, s.improved, m, out),
+        Plan::Forward => forward(seat, m, out),
+        Plan::Back => back(seat, s.improved, m, out),
         Plan::Reply => {
             message::put(Kind::Estimate, m, out, 0);
             1
@@ -32,45 +33,52 @@ pub(crate) fn send(n: u8, own: u8, s: Sending, out: &mut [u8]) -> u8
 }
 
 // The cpa to the next unit, a request to every later one.
-fn forward(n: u8, own: u8, m: Message, out: &mut [u8]) -> u8
-    requires { ⌜ Room own n (now out) ⌝ }
-    ensures { λ r. ⌜ ((b : Bool) → (r ≡ length (byPlan n (own - 1) Forward b m)) × (now (out .exit) ≡ laid (byPlan n (own - 1) Forward b m) (now (out .entry)))) ⌝ }
+fn forward(seat: Seat, m: Message, out: &mut [u8]) -> u8
+    requires { ⌜ Room seat (now out) ⌝ }
+    ensures { λ r. ⌜ ((b : Bool) → (r ≡ length (byPlan (seat .n) (seat .own - 1) Forward b m)) × (now (out .exit) ≡ laid (byPlan (seat .n) (seat .own - 1) Forward b m) (now (out .entry)))) ⌝ }
 {
-    let sent = spread(Kind::Cpa, m, own, 1, out, 0);
+    let sent = spread(Kind::Cpa, m, seat.own, 1, out, 0);
     let bare = no_bound(m);
-    spread(Kind::Request, bare, own, n - own, out, sent)
+    spread(Kind::Request, bare, seat.own, seat.n - seat.own, out, sent)
 }
 
 // The cpa or the stops, and solutions behind it if unit n improved.
-fn back(n: u8, own: u8, improved: bool, m: Message, out: &mut [u8]) -> u8
-    requires { ⌜ Room own n (now out) × (length (byPlan n (own - 1) Back improved m) ≤ 16) ⌝ }
-    ensures { λ r. ⌜ (r ≡ length (byPlan n (own - 1) Back improved m)) × (now (out .exit) ≡ laid (byPlan n (own - 1) Back improved m) (now (out .entry))) ⌝ }
+fn back(seat: Seat, improved: bool, m: Message, out: &mut [u8]) -> u8
+    requires { ⌜ Room seat (now out) × (length (byPlan (seat .n) (seat .own - 1) Back improved m) ≤ 16) ⌝ }
+    ensures { λ r. ⌜ (r ≡ length (byPlan (seat .n) (seat .own - 1) Back improved m)) × (now (out .exit) ≡ laid (byPlan (seat .n) (seat .own - 1) Back improved m) (now (out .entry))) ⌝ }
 {
-    let sent = hand_back(n, own, m, out);
+    let sent = hand_back(seat, m, out);
     if !improved {
         return sent;
     }
     let solution = bound_only(m);
-    let lower = spread(Kind::Solution, solution, 0, own - 1, out, sent);
-    spread(Kind::Solution, solution, own, n - own, out, lower)
+    let lower = spread(Kind::Solution, solution, 0, seat.own - 1, out, sent);
+    spread(
+        Kind::Solution,
+        solution,
+        seat.own,
+        seat.n - seat.own,
+        out,
+        lower,
+    )
 }
 
 // The cpa to the unit before; from unit 1 a stop to all others.
-fn hand_back(n: u8, own: u8, m: Message, out: &mut [u8]) -> u8
-    requires { ⌜ Room own n (now out) ⌝ }
-    ensures { λ r. ⌜ (r ≡ length (handBack n (own - 1) m)) × (now (out .exit) ≡ laid (handBack n (own - 1) m) (now (out .entry))) ⌝ }
+fn hand_back(seat: Seat, m: Message, out: &mut [u8]) -> u8
+    requires { ⌜ Room seat (now out) ⌝ }
+    ensures { λ r. ⌜ (r ≡ length (handBack (seat .n) (seat .own - 1) m)) × (now (out .exit) ≡ laid (handBack (seat .n) (seat .own - 1) m) (now (out .entry))) ⌝ }
 {
-    if own == 1 {
+    if seat.own == 1 {
         let stop = bound_only(m);
-        return spread(Kind::Stop, stop, 1, n - 1, out, 0);
+        return spread(Kind::Stop, stop, 1, seat.n - 1, out, 0);
     }
-    spread(Kind::Cpa, m, own - 2, 1, out, 0)
+    spread(Kind::Cpa, m, seat.own - 2, 1, out, 0)
 }
 
 // One message to `count` units, those after unit `lo`, laid behind the first `sent` messages; how many there are then.
 fn spread(kind: Kind, m: Message, lo: u8, count: u8, out: &mut [u8], sent: u8) -> u8
     requires { ⌜ (lo + count ≤ 32) × (sent + count ≤ 32) × (64 * (sent + count) ≤ length (now out)) ⌝ }
-    ensures { λ r. ⌜ (r ≡ sent + count) × (now (out .exit) ≡ putAt (now (out .entry)) (64 * sent) (encodeAll (each (addressed kind m) lo count))) ⌝ }
+    ensures { λ r. ⌜ (r ≡ sent + count) × (now (out .exit) ≡ putAt (now (out .entry)) (64 * sent) (encodeAll (each (sentTo kind m) lo count))) ⌝ }
 {
     let mut i: u8 = 0;
     while i < count {

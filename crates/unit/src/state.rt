@@ -1,89 +1,84 @@
 // A unit's state: whether it is in range, the order of stamps, and its parts set one at a time.
 
-use crate::Order;
+use crate::Ordering;
 use crate::Unit;
 use costs::Seat;
 ghost use mathlib.Core.Path.{_≡_};
-ghost use Prim.Native.Nat.{_≤_, _<_};
-ghost use Rattle.costs.specs.Instance.{lentView};
+ghost use mathlib.Core.Bool.{_&&_};
+ghost use Prim.Native.Nat.{_≤_};
+ghost use Rattle.base.specs.Limits.{estimateLimit};
+ghost use Rattle.costs.specs.Instance.{viewFrom};
 ghost use Rattle.unit.specs.State.{
   withThreshold,
   withBest,
-  withEstimates,
   withCpa,
-  withCounter,
   withStopped,
   compareOn,
   sameOn,
-  notSmaller,
+  notLess,
   allAtMost,
   cpaZero,
   cpaOutInRange,
+  paidInRange,
   inRangePaid,
   inRange,
 };
 ghost use Rattle.unit.specs.Ready.{Own};
 
-// The most that an estimate may be.
-const ESTIMATE_LIMIT: u32 = 7200000;
-
 // Whether a lent state is in range.
-pub(crate) fn in_range(own: u8, n: u8, sizes: [u8; 16], costs: &[u8], u: Unit) -> bool
-    requires { ⌜ Own own ⌝ }
-    ensures { λ r. ⌜ r ≡ inRange sizes (lentView own n sizes (now (costs .entry))) u ⌝ }
+pub(crate) fn lent_in_range(seat: Seat, costs: &[u8], u: Unit) -> bool
+    requires { ⌜ Own (seat .own) ⌝ }
+    ensures { λ r. ⌜ r ≡ inRange (seat .sizes) (viewFrom seat (now (costs .entry))) u ⌝ }
 {
-    let place = own - 1;
+    let place = seat.own - 1;
     let values = u.values;
     let value = values[place as usize];
-    let paid = costs::cost_with(Seat { own, n, sizes }, costs, values, place, value);
-    in_range_paid(place, n, sizes, paid, u)
+    let paid = costs::cost_with(seat, costs, values, place, value);
+    paid_in_range(seat, paid, u)
 }
 
-// Whether the state of the unit at this place is in range, its own value's costs being `paid`.
-pub fn in_range_paid(place: u8, n: u8, sizes: [u8; 16], paid: u32, u: Unit) -> bool
-    ensures { λ r. ⌜ r ≡ inRangePaid n sizes place paid u ⌝ }
+// Whether the state of unit `own` is in range, its own value's costs being `paid`; no state is for a number that is not 1 to 16.
+pub fn in_range_paid(own: u8, n: u8, sizes: [u8; 16], paid: u32, u: Unit) -> bool
+    ensures { λ r. ⌜ r ≡ inRangePaid n sizes own paid u ⌝ }
+{
+    if !message::is_unit(16, own) {
+        return false;
+    }
+    paid_in_range(Seat { own, n, sizes }, paid, u)
+}
+
+// The same of a unit.
+fn paid_in_range(seat: Seat, paid: u32, u: Unit) -> bool
+    requires { ⌜ Own (seat .own) ⌝ }
+    ensures { λ r. ⌜ r ≡ paidInRange (seat .n) (seat .sizes) (seat .own) paid u ⌝ }
 {
     let threshold = u.threshold;
-    if !bytes_at_most(17, threshold) {
-        return false;
-    }
     let estimates = u.estimates;
-    if !words_at_most(ESTIMATE_LIMIT, estimates) {
+    if !limits_kept(threshold, estimates) {
         return false;
     }
+    let sizes = seat.sizes;
     let best = u.best;
-    if !message::none_or_bound(n, sizes, u.bound, best) {
+    if !message::none_or_bound(seat.n, sizes, u.bound, best) {
         return false;
     }
-    if 16 <= place {
+    let values = u.values;
+    if values[(seat.own - 1) as usize] == 0 {
         return cpa_zero(sizes, u);
     }
-    if u.values[place as usize] == 0 {
-        return cpa_zero(sizes, u);
-    }
-    cpa_out_in_range(place, sizes, paid, u)
+    cpa_out_in_range(seat, paid, u)
 }
 
-// Whether each of the 16 places is at most m.
-fn bytes_at_most(m: u8, l: [u8; 16]) -> bool
-    ensures { λ r. ⌜ r ≡ allAtMost m l ⌝ }
+// Whether each of the 16 places keeps its limit.
+fn limits_kept(threshold: [u8; 16], estimates: [u32; 16]) -> bool
+    ensures { λ r. ⌜ r ≡ (allAtMost 17 threshold && allAtMost estimateLimit estimates) ⌝ }
 {
     let mut i = 0;
     while i < 16 {
-        if m < l[i] {
+        if 17 < threshold[i] {
             return false;
         }
-        i += 1;
-    }
-    true
-}
-
-fn words_at_most(m: u32, l: [u32; 16]) -> bool
-    ensures { λ r. ⌜ r ≡ allAtMost m l ⌝ }
-{
-    let mut i = 0;
-    while i < 16 {
-        if m < l[i] {
+        if base::ESTIMATE_LIMIT < estimates[i] {
             return false;
         }
         i += 1;
@@ -107,11 +102,13 @@ fn cpa_zero(sizes: [u8; 16], u: Unit) -> bool
 }
 
 // Whether a cpa that is out keeps its limits.
-fn cpa_out_in_range(place: u8, sizes: [u8; 16], paid: u32, u: Unit) -> bool
-    requires { ⌜ place < 16 ⌝ }
-    ensures { λ r. ⌜ r ≡ cpaOutInRange sizes place paid u ⌝ }
+fn cpa_out_in_range(seat: Seat, paid: u32, u: Unit) -> bool
+    requires { ⌜ Own (seat .own) ⌝ }
+    ensures { λ r. ⌜ r ≡ cpaOutInRange (seat .sizes) (seat .own) paid u ⌝ }
 {
-    let own = place + 1;
+    let own = seat.own;
+    let place = own - 1;
+    let sizes = seat.sizes;
     let stamp = u.stamp;
     let values = u.values;
     if !message::filled_to(own, sizes, stamp) {
@@ -130,7 +127,7 @@ fn cpa_out_in_range(place: u8, sizes: [u8; 16], paid: u32, u: Unit) -> bool
         return false;
     }
     let threshold = u.threshold;
-    if !not_smaller(compare(own as usize, threshold, stamp)) {
+    if !not_less(compare(own as usize, threshold, stamp)) {
         return false;
     }
     if u.cost < paid {
@@ -140,21 +137,21 @@ fn cpa_out_in_range(place: u8, sizes: [u8; 16], paid: u32, u: Unit) -> bool
 }
 
 // How a compares with b on the first k units.
-pub(crate) fn compare(k: usize, a: [u8; 16], b: [u8; 16]) -> Order
+pub(crate) fn compare(k: usize, a: [u8; 16], b: [u8; 16]) -> Ordering
     requires { ⌜ k ≤ 16 ⌝ }
     ensures { λ r. ⌜ r ≡ compareOn k a b ⌝ }
 {
     let mut i = 0;
     while i < k {
         if a[i] < b[i] {
-            return Order::Smaller;
+            return Ordering::Less;
         }
         if b[i] < a[i] {
-            return Order::Bigger;
+            return Ordering::Greater;
         }
         i += 1;
     }
-    Order::Equal
+    Ordering::Equal
 }
 
 // Whether the first k places are equal.
@@ -162,24 +159,22 @@ pub(crate) fn same(k: usize, a: [u8; 16], b: [u8; 16]) -> bool
     requires { ⌜ k ≤ 16 ⌝ }
     ensures { λ r. ⌜ r ≡ sameOn k a b ⌝ }
 {
-    let mut i = 0;
-    while i < k {
-        if a[i] != b[i] {
-            return false;
-        }
-        i += 1;
+    let order = compare(k, a, b);
+    match order {
+        Ordering::Less => false,
+        Ordering::Equal => true,
+        Ordering::Greater => false,
     }
-    true
 }
 
 // Equal or bigger.
-pub(crate) fn not_smaller(o: Order) -> bool
-    ensures { λ r. ⌜ r ≡ notSmaller o ⌝ }
+pub(crate) fn not_less(o: Ordering) -> bool
+    ensures { λ r. ⌜ r ≡ notLess o ⌝ }
 {
     match o {
-        Order::Smaller => false,
-        Order::Equal => true,
-        Order::Bigger => true,
+        Ordering::Less => false,
+        Ordering::Equal => true,
+        Ordering::Greater => true,
     }
 }
 
@@ -201,14 +196,6 @@ pub(crate) fn with_best(bound: u32, best: [u8; 16], u: Unit) -> Unit
     v
 }
 
-pub(crate) fn with_estimates(e: [u32; 16], u: Unit) -> Unit
-    ensures { λ r. ⌜ r ≡ withEstimates e u ⌝ }
-{
-    let mut v = u;
-    v.estimates = e;
-    v
-}
-
 pub(crate) fn with_cpa(stamp: [u8; 16], values: [u8; 16], cost: u32, u: Unit) -> Unit
     ensures { λ r. ⌜ r ≡ withCpa stamp values cost u ⌝ }
 {
@@ -216,14 +203,6 @@ pub(crate) fn with_cpa(stamp: [u8; 16], values: [u8; 16], cost: u32, u: Unit) ->
     v.stamp = stamp;
     v.values = values;
     v.cost = cost;
-    v
-}
-
-pub(crate) fn with_counter(c: u8, u: Unit) -> Unit
-    ensures { λ r. ⌜ r ≡ withCounter c u ⌝ }
-{
-    let mut v = u;
-    v.counter = c;
     v
 }
 

@@ -16,7 +16,7 @@ use Rattle.costs.specs.Instance.{View, viewOf, instanceOf}
 use Rattle.costs.specs.Gather.{sizesIn}
 use Rattle.message.specs.Laws.{every-not}
 use Rattle.unit.specs.declared.Unit.{Unit}
-use Rattle.unit.specs.State.{emptyUnit, allAtMost, inRangePaid, inRange}
+use Rattle.unit.specs.State.{emptyUnit, allAtMost, paidInRange, inRange}
 use Rattle.network.specs.Run.{unitAt}
 use Rattle.network.specs.Calls.{networkInRange}
 use Rattle.cabi.specs.declared.LentUnit.{LentUnit}
@@ -27,7 +27,7 @@ use Rattle.cabi.specs.Lent.{flagGood, unitFrom, unitBack, emptyLent, upT
 
 -- the state is out of range, 5
 pub no-flag-out-of-range : (sizes : List ℕ) (w : View) (s : LentUnit) → flagGood s ≡ false → inRange sizes w (unitFrom s) ≡ false
-unfolding inRange inRangePaid allAtMost unitFrom
+unfolding inRange paidInRange allAtMost unitFrom
 no-flag-out-of-range sizes w s e = rw e
 
 flag-back : (b : ℕ) → leb b 1 ≡ true → cond (eqb b 1) 1 0 ≡ b

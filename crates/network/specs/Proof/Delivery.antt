@@ -24,7 +24,7 @@ use Rattle.message.specs.Encode.{encode}
 use Rattle.unit.specs.declared.Unit.{Unit as UnitState}
 use Rattle.unit.specs.declared.Sending.{Sending}
 use Rattle.unit.specs.Step as U
-use Rattle.unit.specs.Step.{Out, Written}
+use Rattle.unit.specs.Step.{Decision, Written}
 use Rattle.unit.specs.Send.{packets}
 use Rattle.unit.specs.Units.{unitAt, placeOf, stepOn}
 use Rattle.unit.specs.Laws.Packets.{Sendable}
@@ -149,7 +149,7 @@ module _ (s : List ℕ) (ok : Accepted s) (S : Shed) (H : History) (A : Network)
         ∙ ap (λ (x : List ℕ). C.onOut (S .network) (S .pool) c (unitsOf s) (receiverOf (unitsOf s) x) (stepFrom8 s (S .network .core .units) (receiverOf (unitsOf s) x) x))
         (cell-bytes (H .waiting) (S .network .used) (S .pool) (i .stored) z c p e)
         ∙ ap (λ (y : ℕ). C.onOut (S .network) (S .pool) c (unitsOf s) y (stepFrom8 s (S .network .core .units) y (encode (p .kind) (p .message)))) (receiver-is s ok p w)
-        ∙ ap (λ (o : Out). C.onOut (S .network) (S .pool) c (unitsOf s) (p .message .receiver) o) (step-is s ok p w (S .network .core .units) ∙ ap (λ us. stepOn (instanceOf s) us p) (i .core .same))
+        ∙ ap (λ (o : Decision). C.onOut (S .network) (S .pool) c (unitsOf s) (p .message .receiver) o) (step-is s ok p w (S .network .core .units) ∙ ap (λ us. stepOn (instanceOf s) us p) (i .core .same))
 
     -- the machine's pool, cut at the same cell
     at : X.CutAt (instanceOf s) b p a (A .pool)

@@ -12,7 +12,7 @@ use Rattle.costs.specs.Laws.Stream.{sound-of}
 use Rattle.costs.specs.Gather.{sizesIn}
 use Rattle.unit.specs.State.{fresh}
 use Rattle.unit.specs.Step as U
-use Rattle.unit.specs.Step.{Out, assign}
+use Rattle.unit.specs.Step.{Decision, assign}
 use Rattle.unit.specs.Send.{packets}
 use Rattle.unit.specs.Calls.{unlessRefused}
 use Rattle.unit.specs.Laws.Assign.{Whenever}
@@ -35,7 +35,7 @@ pub none-handed : (s : List ℕ) → R.begin (instanceOf s) .handed ≡ []
 unfolding R.begin
 none-handed s = go (assign (viewOf (instanceOf s) 0) fresh)
   where
-    go : (o : Out) → R.begunWith R.cells (instanceOf s) o .handed ≡ []
+    go : (o : Decision) → R.begunWith R.cells (instanceOf s) o .handed ≡ []
     go (U.refused r) = refl
     go (U.accepted u o ws) = refl
 
@@ -59,7 +59,7 @@ module _ (s pool : List ℕ) (made : Made s pool) where
       (start-in-range (instanceOf s) (sizesIn s) (sound-of s accepted-table .n16) (views s accepted-table) (sound-of s accepted-table .n1))
       (make-kept (problemOf (instanceOf s)) (laws s accepted-table) (sound-of s accepted-table .n1)))
     where
-      go : (o : Out) (res : Result) → Simulated (instanceOf s) (replicate 16 fresh) [] (λ k. M.fresh) 0 res o → Whenever (Leaves (instanceOf s) (sizesIn s) (replicate 16 fresh) 0) o
+      go : (o : Decision) (res : Result) → Simulated (instanceOf s) (replicate 16 fresh) [] (λ k. M.fresh) 0 res o → Whenever (Leaves (instanceOf s) (sizesIn s) (replicate 16 fresh) 0) o
           → Kept (problemOf (instanceOf s)) (M.made res) → Invariant s accepted-table (shedOf (C.made (unitsOf s) pool o)) (R.begunWith R.cells (instanceOf s) o) (M.made res)
       go (U.refused r) res x l k = absurd x
       go (U.accepted u o ws) res x l k =

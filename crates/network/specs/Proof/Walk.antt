@@ -11,7 +11,7 @@ use Rattle.message.specs.Message.{Packet}
 use Rattle.unit.specs.declared.Unit.{Unit as UnitState}
 use Rattle.unit.specs.declared.Sending.{Sending}
 use Rattle.unit.specs.Step as U
-use Rattle.unit.specs.Step.{Out, Written}
+use Rattle.unit.specs.Step.{Decision, Written}
 use Rattle.unit.specs.Send.{packets}
 use Rattle.network.specs.Run.{Pool, HistoryOf, DeliveryOf, refusedBy, delivered, placeOf, stepOn, stopped, after, ifFits, onOut, hand, takeCell, unlessStopped, deliverIn}
 
@@ -29,7 +29,7 @@ module _ {W : Type 0} (I : Instance) (H : HistoryOf W) (Q : DeliveryOf W → Typ
       fits u ps ws none e f = f .0 e
       fits u ps ws (some w) e f = f .1 w e
 
-      go : (o : Out) → stepOn I (H .units) p ≡ o → Q (onOut I H p put o)
+      go : (o : Decision) → stepOn I (H .units) p ≡ o → Q (onOut I H p put o)
       go (U.refused r) e = refuses r e
       go (U.accepted u s ws) e = fits u (packets (I .n) (placeOf p) s) ws (put (packets (I .n) (placeOf p) s)) refl (accepts u s ws e)
 

@@ -16,13 +16,13 @@ use Rattle.costs.specs.Instance.{Instance, View, viewOf}
 use Rattle.costs.specs.Bounds.{costWith, h}
 use Rattle.costs.specs.Laws.{against, costOf, lookaheadOf, problemOf}
 use Rattle.costs.specs.Laws.Prefix.{pre, pre-set, pre-set-next, cost-with-prefix, cost-next, lookahead-next}
-use Rattle.message.specs.declared.Kind.the-variants.{Solution, Stop}
+use Rattle.message.specs.declared.Kind.the-variants.{Cpa, Request, Solution, Stop}
 use Rattle.message.specs.Message.{Packet}
 use Rattle.unit.specs.declared.Unit.{Unit as UnitState}
 use Rattle.unit.specs.State.{zeros, withBest}
 use Rattle.unit.specs.Step as U
 use Rattle.unit.specs.Step.{takeOff, carried}
-use Rattle.unit.specs.Send.{packets, each, cpaTo, requestTo, boundTo, handBack, solutions}
+use Rattle.unit.specs.Send.{packets, each, sentTo, noBound, boundOnly, handBack, solutions}
 use Rattle.protocol.specs.Machine as M
 use Rattle.protocol.specs.Machine.{Msg, Agent}
 use Rattle.protocol.specs.Simulation.Stamps.{rank, rank-set, zero-place, digits-set, filled-next, filled-off, take-is-prefix}
@@ -50,7 +50,7 @@ module _ (I : Instance) where
       (read-each I g g′ (suc k) (I .n - suc k) (λ j lo hi. (refl, refl, b .bound-is, b .best-is)))
     where
       g : ℕ → Packet
-      g = boundTo Solution (carried (viewOf I k) s)
+      g = sentTo Solution (boundOnly (carried (viewOf I k) s))
 
       g′ : ℕ → Msg
       g′ j = M.solution j (u .bound) (u .best)
@@ -60,8 +60,8 @@ module _ (I : Instance) where
       → ReadAll I (handBack (I .n) k (carried (viewOf I k) s)) (M.giveBack (problemOf I) k u)
   hand-back-read zero v s u b =
       let e : I .n - 1 ≡ pred (I .n) = omega arith in
-      subst (λ m. ReadAll I (each (boundTo Stop (carried (viewOf I 0) s)) 1 m) (M.giveBack (problemOf I) 0 u)) (sym e)
-      (read-each I (boundTo Stop (carried (viewOf I 0) s)) (λ j. M.stop j (u .bound) (u .best)) 1 (pred (I .n)) (λ j lo hi. (refl, refl, b .common .bound-is, b .common .best-is)))
+      subst (λ m. ReadAll I (each (sentTo Stop (boundOnly (carried (viewOf I 0) s))) 1 m) (M.giveBack (problemOf I) 0 u)) (sym e)
+      (read-each I (sentTo Stop (boundOnly (carried (viewOf I 0) s))) (λ j. M.stop j (u .bound) (u .best)) 1 (pred (I .n)) (λ j lo hi. (refl, refl, b .common .bound-is, b .common .best-is)))
   hand-back-read (suc k) v s u b = ((refl, refl, omega arith, b .stamp, b .values, b .cost, b .common .bound-is, b .common .best-is), tt)
 
   stopped-after : (k : ℕ) (s : UnitState) (u : Agent) → s .stopped ≡ u .stopped → (eqb k 0 || s .stopped) ≡ M.stoppedAfter k u
@@ -170,12 +170,12 @@ module _ (I : Instance) where
         st = written-stamp v s u b hc
 
     forward-read : (v c : ℕ) (s : UnitState) (u : Agent) → OwnOff I k v s u → u .counter ≤ 30 → c ≡ costOf I (suc (u .own) ∷ u .prefix)
-        → ReadAll I (cpaTo (carried (viewOf I k) (U.write (viewOf I k) (suc v) c s)) (suc k)
-        ∷ each (requestTo (carried (viewOf I k) (U.write (viewOf I k) (suc v) c s))) (suc k) (I .n - suc k))
+        → ReadAll I (sentTo Cpa (carried (viewOf I k) (U.write (viewOf I k) (suc v) c s)) (suc k)
+        ∷ each (sentTo Request (noBound (carried (viewOf I k) (U.write (viewOf I k) (suc v) c s)))) (suc k) (I .n - suc k))
         (M.sendDown (problemOf I) k (M.write u))
     forward-read v c s u b hc ec = (
       (refl, refl, omega arith, st, vs, ec, b .common .bound-is, b .common .best-is),
-      read-each I (requestTo (carried (viewOf I k) (U.write (viewOf I k) (suc v) c s))) (λ j. M.request j k (M.stamp (M.write u)) (M.values (M.write u))) (suc k) (I .n - suc k)
+      read-each I (sentTo Request (noBound (carried (viewOf I k) (U.write (viewOf I k) (suc v) c s)))) (λ j. M.request j k (M.stamp (M.write u)) (M.values (M.write u))) (suc k) (I .n - suc k)
           (λ j lo hi. (refl, refl, refl, st, vs)),
     )
       where

@@ -21,8 +21,8 @@ use Rattle.message.specs.declared.Message.{Message}
 use Rattle.message.specs.declared.Kind.the-variants.{Estimate}
 use Rattle.message.specs.Message.{Packet}
 use Rattle.unit.specs.declared.Unit.{Unit as UnitState}
-use Rattle.unit.specs.declared.Order.{Order}
-use Rattle.unit.specs.declared.Order.the-variants.{Smaller, Equal, Bigger}
+use Rattle.unit.specs.declared.Ordering.{Ordering}
+use Rattle.unit.specs.declared.Ordering.the-variants.{Less, Equal, Greater}
 use Rattle.unit.specs.State.{withThreshold, withCpa, withEstimates, withStopped, ownValue, compareOn, sameOn}
 use Rattle.unit.specs.Step as U
 use Rattle.unit.specs.Step.{accepted, takeBound, takeLower, reply, stored, sumLater}
@@ -55,7 +55,7 @@ module _ (I : Instance) (free : FreeWhenUnassigned I) (laws : Laws (problemOf I)
 
   -- ---- the unit
 
-  unchanged : Agrees I k (u .log) (U.stale s) (M.done u [])
+  unchanged : Agrees I k (u .log) (U.quiet s) (M.done u [])
   unfolding packets
   unchanged = (r, tt, refl)
 
@@ -132,16 +132,16 @@ module _ (I : Instance) (free : FreeWhenUnassigned I) (laws : Laws (problemOf I)
       ready : ReadyToAssign I k k16 (M.received x b u)
       ready = (omega arith, omega (arith, laws .size-le-16 k))
 
-      go : (o : Order) (t : Bool) → Compared o (x * 32) (u .threshold) → ltb (x * 32) (u .threshold) ≡ t
+      go : (o : Ordering) (t : Bool) → Compared o (x * 32) (u .threshold) → ltb (x * 32) (u .threshold) ≡ t
           → Agrees I k (u .log) (U.onDown (viewOf I k) o s (p .message)) (M.onDown (problemOf I) k t u x b B l)
-      go Smaller true c e = unchanged
-      go Smaller false c e = absurd (omega (arith, c, ltb-false (x * 32) (u .threshold) e))
+      go Less true c e = unchanged
+      go Less false c e = absurd (omega (arith, c, ltb-false (x * 32) (u .threshold) e))
       go Equal true c e = absurd (omega (arith, c, ltb-true (x * 32) (u .threshold) e))
-      go Bigger true c e = absurd (omega (arith, c, ltb-true (x * 32) (u .threshold) e))
+      go Greater true c e = absurd (omega (arith, c, ltb-true (x * 32) (u .threshold) e))
       go Equal false c e =
           resume-lower I k k16 (withCpa (p .message .stamp) (p .message .values) (p .message .cost) s) (M.received x b u) (p .message) B l (h .6) (h .7)
           (received-in-hand (p .message) (s .threshold) x b (r .common .size) (r .common .digits) (r .common .threshold-is ∙ sym c) (h .3) (h .4) (h .5)) ready
-      go Bigger false c e =
+      go Greater false c e =
           resume-lower I k k16 (withCpa (p .message .stamp) (p .message .values) (p .message .cost) (withThreshold (p .message .stamp) s)) (M.received x b u) (p .message) B l (h .6) (h .7)
           (received-in-hand (p .message) (p .message .stamp) x b (h .3 .filled .size) (h .3 .digits) places (h .3) (h .4) (h .5)) ready
 
@@ -190,13 +190,13 @@ module _ (I : Instance) (free : FreeWhenUnassigned I) (laws : Laws (problemOf I)
               and-true (lt-ltb 0 (u .own) (sm .0))
               (and-true (subst (λ z. eqb x z ≡ true) (sm .1) (eqb-same x)) (subst (λ z. M.sameList b z ≡ true) (sm .2) (same-refl b)))
 
-      go : (o : Order) (t : Bool) → Compared o x (u .threshold) → ltb x (u .threshold) ≡ t → Agrees I k (u .log) (U.onBack (viewOf I k) o s (p .message)) (M.onBack (problemOf I) k t u x b B l)
-      go Smaller true c e = unchanged
-      go Smaller false c e = absurd (omega (arith, c, ltb-false x (u .threshold) e))
+      go : (o : Ordering) (t : Bool) → Compared o x (u .threshold) → ltb x (u .threshold) ≡ t → Agrees I k (u .log) (U.onBack (viewOf I k) o s (p .message)) (M.onBack (problemOf I) k t u x b B l)
+      go Less true c e = unchanged
+      go Less false c e = absurd (omega (arith, c, ltb-false x (u .threshold) e))
       go Equal true c e = absurd (omega (arith, c, ltb-true x (u .threshold) e))
-      go Bigger true c e = absurd (omega (arith, c, ltb-true x (u .threshold) e))
+      go Greater true c e = absurd (omega (arith, c, ltb-true x (u .threshold) e))
       go Equal false c e = of-cpa-out (ltb-false x (u .threshold) e)
-      go Bigger false c e = of-cpa-out (ltb-false x (u .threshold) e)
+      go Greater false c e = of-cpa-out (ltb-false x (u .threshold) e)
 
   -- ---- a request
 
@@ -250,18 +250,18 @@ module _ (I : Instance) (free : FreeWhenUnassigned I) (laws : Laws (problemOf I)
             cpa = r .cpa;
           }
 
-      go : (o : Order) (a c : Bool) → Compared o t (u .threshold / 32) → ltb t (u .threshold / 32) ≡ a → ltb (u .threshold / 32) t ≡ c
+      go : (o : Ordering) (a c : Bool) → Compared o t (u .threshold / 32) → ltb t (u .threshold / 32) ≡ a → ltb (u .threshold / 32) t ≡ c
           → Agrees I k (u .log) (U.onFresh (viewOf I k) o s (p .message)) (M.onRequest (problemOf I) k a u t j x b)
-      go Smaller true q c e f = unchanged
-      go Smaller false q c e f = absurd (omega (arith, c, ltb-false t (u .threshold / 32) e))
+      go Less true q c e f = unchanged
+      go Less false q c e f = absurd (omega (arith, c, ltb-false t (u .threshold / 32) e))
       go Equal true q c e f = absurd (omega (arith, c, ltb-true t (u .threshold / 32) e))
-      go Bigger true q c e f = absurd (omega (arith, c, ltb-true t (u .threshold / 32) e))
+      go Greater true q c e f = absurd (omega (arith, c, ltb-true t (u .threshold / 32) e))
       go Equal false true c e f = absurd (omega (arith, c, ltb-true (u .threshold / 32) t f))
       go Equal false false c e f =
           subst (λ z. Agrees I k (u .log) (accepted s (reply (viewOf I k) (p .message)) []) (M.done (M.raise z t u) (M.estimate j k x (estimateOf I k b) ∷ []))) (sym f)
           (r, (reply-reads p j x b h lt, tt), refl)
-      go Bigger false false c e f = absurd (omega (arith, c, ltb-false (u .threshold / 32) t f))
-      go Bigger false true c e f =
+      go Greater false false c e f = absurd (omega (arith, c, ltb-false (u .threshold / 32) t f))
+      go Greater false true c e f =
           subst (λ z. Agrees I k (u .log) (accepted (withThreshold (p .message .stamp) s) (reply (viewOf I k) (p .message)) []) (M.done (M.raise z t u) (M.estimate j k x (estimateOf I k b) ∷ []))) (sym f)
           (raised, (reply-reads p j x b h lt, tt), refl)
 
@@ -336,13 +336,13 @@ module _ (I : Instance) (free : FreeWhenUnassigned I) (laws : Laws (problemOf I)
               most-test (r .common .bound-is)
               (omega (arith, r .cpa .cost-is (sm .0), sum-of-places (set (s .estimates) j e) (M.store j e u .estimates) (kept .estimates) (suc k) (I .n - suc k) (omega (arith, n16, k<n))))
 
-      go : (o : Order) (t : Bool) → Compared o x (u .threshold) → ltb x (u .threshold) ≡ t → Agrees I k (u .log) (U.onTimely (viewOf I k) o s (p .message)) (M.onEstimate (problemOf I) k t u x j e)
-      go Smaller true c q = unchanged
-      go Smaller false c q = absurd (omega (arith, c, ltb-false x (u .threshold) q))
+      go : (o : Ordering) (t : Bool) → Compared o x (u .threshold) → ltb x (u .threshold) ≡ t → Agrees I k (u .log) (U.onTimely (viewOf I k) o s (p .message)) (M.onEstimate (problemOf I) k t u x j e)
+      go Less true c q = unchanged
+      go Less false c q = absurd (omega (arith, c, ltb-false x (u .threshold) q))
       go Equal true c q = absurd (omega (arith, c, ltb-true x (u .threshold) q))
-      go Bigger true c q = absurd (omega (arith, c, ltb-true x (u .threshold) q))
+      go Greater true c q = absurd (omega (arith, c, ltb-true x (u .threshold) q))
       go Equal false c q = of-cpa-out (ltb-false x (u .threshold) q)
-      go Bigger false c q =
+      go Greater false c q =
           let sm = the-cpa-out (problemOf I) laws k k<n Past X bf u x (ok .2 .0) g (own x (ok .2 .0) (ok .2 .1)) (ltb-false x (u .threshold) q) in
           absurd (omega (arith, c, sm .3))
 

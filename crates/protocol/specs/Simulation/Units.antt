@@ -17,7 +17,7 @@ use Rattle.unit.specs.declared.Unit.{Unit as UnitState}
 use Rattle.unit.specs.declared.Sending.{Sending}
 use Rattle.unit.specs.State.{fresh, emptyUnit}
 use Rattle.unit.specs.Step as U
-use Rattle.unit.specs.Step.{Out, Written}
+use Rattle.unit.specs.Step.{Decision, Written}
 use Rattle.unit.specs.Send.{packets}
 use Rattle.unit.specs.Units.{unitAt, placeOf, stepOn, Distinct}
 use Rattle.unit.specs.Laws.Units.{set-unit}
@@ -110,7 +110,7 @@ pub record StepsTo (I : Instance) (hs : List UnitState) (W : List Written) (us :
   pub matches : Matches I (set hs k u) (W ++ ws) (M.put us k agent)
 
 -- it is never refused
-abbrev pub Simulated : Instance → List UnitState → List Written → (ℕ → Agent) → ℕ → Result → Out → Type 0
+abbrev pub Simulated : Instance → List UnitState → List Written → (ℕ → Agent) → ℕ → Result → Decision → Type 0
 Simulated I hs W us k res (U.refused x) = ⊥
 Simulated I hs W us k res (U.accepted u o ws) = StepsTo I hs W us k res u o ws
 
@@ -119,7 +119,7 @@ module _ (I : Instance) (snd : Sound I) (free : FreeWhenUnassigned I) where
   laws = laws-of I snd
 
   module _ (hs : List UnitState) (W : List Written) (us : ℕ → Agent) (r : Matches I hs W us) (k : ℕ) (lt : k < I .n) where
-    simulated : (o : Out) (res : Result) → Agrees I k (us k .log) o res → StepSafe (problemOf I) us k res → Simulated I hs W us k res o
+    simulated : (o : Decision) (res : Result) → Agrees I k (us k .log) o res → StepSafe (problemOf I) us k res → Simulated I hs W us k res o
     simulated (U.refused x) M.refused h l = absurd l
     simulated (U.refused x) (M.done v ms) h l = absurd h
     simulated (U.accepted u o ws) M.refused h l = absurd h

@@ -12,7 +12,7 @@ same-length : tie.Need-same-length
 same-length c = search needs
 
 returns : tie.Need-returns
-returns c = let a = c .before .before .before .before .before .before .before .args in let s = c .before .before .before .send .ensures in λ was o e. carried-out (a .n) (a .own) was o (a .d) _ (a .out .now) _ e (s .0) (s .1)
+returns c = let a = c .before .before .before .before .before .before .before .args in let s = c .before .before .before .send .ensures in λ was o e. carried-out (a .seat .n) (a .seat .own) was o (a .d) _ (a .out .now) _ e (s .0) (s .1)
 
 pub carry-out-spec : {M : Type 1} → statement M
 carry-out-spec = tie.close (tie.spec send-requires same-length returns)

@@ -45,7 +45,7 @@ use denote.Exit.{yes}
 use Rattle.unit.specs.declared.Unit.{Unit as State}
 use Rattle.unit.specs.declared.Outcome.{Outcome}
 use Rattle.unit.specs.declared.Report.{Report}
-use Rattle.unit.specs.Step.{Out}
+use Rattle.unit.specs.Step.{Decision}
 use Rattle.unit.specs.Calls.{outcomeOf, bytesOf, stepOut}
 use Rattle.unit.proofs.Calls.{reported, left-behind}
 use Rattle.unit.proofs.Unit as T
@@ -129,7 +129,7 @@ module _ {M : Type 1} (𝓤 : URA M) (H : Heap 𝓤) (A : Atoms 𝓤) (W : Given
   asked = qed W ((‵ (flft κ₁ q₁) ⊛ ‵ (flft κ₂ q₂) ⊛ ‵ (flft κ₃ q₃) ⊛ ‵ ftrue) ∷ ‵ (owns (T.the-row ∷ u8 ∷ u8 ∷ Array u8 16 ∷ ShrSlice (named 0) κ₁ u8 ∷ ShrSlice (named 1) κ₂ u8 ∷ MutSlice (named 2) κ₃ u8 ∷ []) (h, a .1) (vals h, at .1)) ∷ []) ∵ join ! $ frame ! $ done !
 
   -- what the step gives
-  abbrev given : Out
+  abbrev given : Decision
   given = stepOut h own n sizes (m .now) (p .now) (length (x .now))
 
   abbrev Said : Outcome → List ℕ → Type 0

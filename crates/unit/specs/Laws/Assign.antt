@@ -10,17 +10,18 @@ use lib.Dec.{ltb, leb, eqb}
 use lib.ListN.{length, getD, set, length-set}
 use lib.Seq.{getD-set-same, getD-set-other}
 use borrow.Author.Tests.{eqb-true, eqb-false}
+use Rattle.base.specs.Limits.{estimateLimit, prefixLimit}
 use Rattle.base.specs.Sums.{sumTo}
 use Rattle.costs.specs.Instance.{View}
 use Rattle.costs.specs.Bounds.{costWith, h}
 use Rattle.costs.specs.Lent.Bounds.{cost-most}
-use Rattle.message.specs.Message.{totalLimit, prefixLimit, filledTo, boundGood, noneOrBound}
+use Rattle.message.specs.Message.{filledTo, boundGood, noneOrBound}
 use Rattle.message.specs.Laws.{blank-filled, bound-by}
 use Rattle.unit.specs.declared.Unit.{Unit as State}
 use Rattle.unit.specs.declared.Sending.{Sending}
 use Rattle.unit.specs.declared.Plan.the-variants.{Forward}
-use Rattle.unit.specs.State.{withBest, ownValue, notSmaller, inRange}
-use Rattle.unit.specs.Step.{Out, refused, accepted, Written, after, bareCost, takeOff, carried, backedUp, backtrack, write, recordOf, afterWrite, isLast, tryValue, tryAfter, begun, assign, reachedBound, resume}
+use Rattle.unit.specs.State.{withBest, ownValue, notLess, inRange}
+use Rattle.unit.specs.Step.{Decision, refused, accepted, Written, after, bareCost, takeOff, carried, backedUp, backtrack, write, recordOf, afterWrite, isLast, tryValue, tryAfter, begun, assign, reachedBound, resume}
 use Rattle.unit.specs.Send.{packets}
 use Rattle.unit.specs.Laws.Views.{GoodView, units-most, place-16, size-most}
 use Rattle.unit.specs.Laws.Stamps.{places-equal}
@@ -31,12 +32,12 @@ use Rattle.unit.specs.Laws.Packets.{All, Sendable, Carries, Improved, fo
 -- ---- what is kept
 
 -- of what a unit decides, if it isn't a refusal
-abbrev pub Whenever : (State → Sending → List Written → Type 0) → Out → Type 0
+abbrev pub Whenever : (State → Sending → List Written → Type 0) → Decision → Type 0
 Whenever P (refused r) = Unit {0}
 Whenever P (accepted u s ws) = P u s ws
 
 -- the state stays in range, all that is sent can be written and is at most 16 packets, at most `most` records are written
-pub record Kept (n : ℕ) (sizes : List ℕ) (w : View) (most : ℕ) (u : State) (s : Sending) (ws : List Written) : Type 0 where
+pub record GoodDecision (n : ℕ) (sizes : List ℕ) (w : View) (most : ℕ) (u : State) (s : Sending) (ws : List Written) : Type 0 where
   pub state : inRange sizes w u ≡ true
   pub arrays : SizedUnit u
   pub sent : All (Sendable n sizes) (packets n (w .place) s)
@@ -44,11 +45,11 @@ pub record Kept (n : ℕ) (sizes : List ℕ) (w : View) (most : ℕ) (u : State)
   pub records : length ws ≤ most
 
 module _ (n : ℕ) (sizes : List ℕ) (w : View) where
-  pub kept-more : (m m′ : ℕ) → m ≤ m′ → (o : Out) → Whenever (Kept n sizes w m) o → Whenever (Kept n sizes w m′) o
+  pub kept-more : (m m′ : ℕ) → m ≤ m′ → (o : Decision) → Whenever (GoodDecision n sizes w m) o → Whenever (GoodDecision n sizes w m′) o
   kept-more m m′ l (refused r) h = tt
   kept-more m m′ l (accepted u s ws) h = record { state = h .state; arrays = h .arrays; sent = h .sent; few = h .few; records = omega (arith, h .records) }
 
-  kept-after : (m : ℕ) (r : Written) (o : Out) → Whenever (Kept n sizes w m) o → Whenever (Kept n sizes w (suc m)) (after r o)
+  kept-after : (m : ℕ) (r : Written) (o : Decision) → Whenever (GoodDecision n sizes w m) o → Whenever (GoodDecision n sizes w (suc m)) (after r o)
   kept-after m r (refused x) h = tt
   kept-after m r (accepted u s ws) h = record { state = h .state; arrays = h .arrays; sent = h .sent; few = h .few; records = omega (arith, h .records) }
 
@@ -57,7 +58,7 @@ pub record InHand (n : ℕ) (sizes : List ℕ) (w : View) (u : State) : Type 0 w
   pub arrays : SizedUnit u
   pub threshold : (j : ℕ) → j < 16 → getD (u .threshold) j 0 ≤ 17
   pub own : getD (u .threshold) (w .place) 0 ≤ 16
-  pub estimates : (j : ℕ) → j < 16 → getD (u .estimates) j 0 ≤ totalLimit
+  pub estimates : (j : ℕ) → j < 16 → getD (u .estimates) j 0 ≤ estimateLimit
   pub bound : noneOrBound n sizes (u .bound) (u .best) ≡ true
   pub stamp : filledTo (w .place) sizes (u .stamp) ≡ true
   pub values : filledTo (w .place) sizes (u .values) ≡ true
@@ -83,7 +84,7 @@ module _ (n : ℕ) (sizes : List ℕ) (w : View) (g : GoodView n sizes w) where
 
   -- ---- backtrack
 
-  pub backtrack-kept : (u : State) → InHand n sizes w u → (b : Bool) → Improved n sizes (w .place) (u .bound) (u .best) b → Whenever (Kept n sizes w 0) (backtrack w b u)
+  pub backtrack-kept : (u : State) → InHand n sizes w u → (b : Bool) → Improved n sizes (w .place) (u .bound) (u .best) b → Whenever (GoodDecision n sizes w 0) (backtrack w b u)
   unfolding backtrack packets
   backtrack-kept u i b imp =
       record {
@@ -168,13 +169,13 @@ module _ (n : ℕ) (sizes : List ℕ) (w : View) (g : GoodView n sizes w) where
                 cost = cost-limit;
                 counter = sym own-stamp;
                 tried = omega (arith, own-is);
-                threshold = ap notSmaller (places-equal (suc (w .place)) (written .stamp) (written .stamp) (λ j b. refl));
+                threshold = ap notLess (places-equal (suc (w .place)) (written .stamp) (written .stamp) (λ j b. refl));
                 paid = omega (arith, paid-is);
                 bare = omega (arith, bare-is, i .cost);
               };
         }
 
-    forward-kept : suc (w .place) < n → Kept n sizes w 1 written (record { plan = Forward; improved = false; message = carried w written }) (recordOf w written ∷ [])
+    forward-kept : suc (w .place) < n → GoodDecision n sizes w 1 written (record { plan = Forward; improved = false; message = carried w written }) (recordOf w written ∷ [])
     unfolding packets
     forward-kept l =
         record {
@@ -222,10 +223,10 @@ module _ (n : ℕ) (sizes : List ℕ) (w : View) (g : GoodView n sizes w) where
       below d = omega (arith, g .place, g .units)
 
   -- one value tried, where those after it keep what is to be kept
-  module _ (m : ℕ) (again : Bool → State → Out) (x : ℕ)
-      (next : (b : Bool) (u : State) → InHand n sizes w u → u .counter ≤ x → Improved n sizes (w .place) (u .bound) (u .best) b → Whenever (Kept n sizes w m) (again b u)) where
+  module _ (m : ℕ) (again : Bool → State → Decision) (x : ℕ)
+      (next : (b : Bool) (u : State) → InHand n sizes w u → u .counter ≤ x → Improved n sizes (w .place) (u .bound) (u .best) b → Whenever (GoodDecision n sizes w m) (again b u)) where
     after-write-kept : (v : ℕ) → x ≡ suc v → (u : State) (i : InHand n sizes w u) (tried : u .counter ≤ v) (left : v < getD sizes (w .place) 0) (b : Bool) → isLast w ≡ b
-        → Whenever (Kept n sizes w (suc m)) (afterWrite w b (write w (suc v) (u .cost + costWith w (u .values) (w .place) (suc v)) u) again)
+        → Whenever (GoodDecision n sizes w (suc m)) (afterWrite w b (write w (suc v) (u .cost + costWith w (u .values) (w .place) (suc v)) u) again)
     after-write-kept v q u i tried left true e =
         let l : suc (w .place) ≡ n = last-or-not true e .0 refl in
         kept-after n sizes w m (recordOf w (written u v i tried left)) (again true (taken u v i tried left))
@@ -233,12 +234,12 @@ module _ (n : ℕ) (sizes : List ℕ) (w : View) (g : GoodView n sizes w) where
     after-write-kept v q u i tried left false e = kept-more n sizes w 1 (suc m) (omega arith) (accepted _ _ _) (forward-kept u v i tried left (last-or-not false e .1 refl))
 
     try-kept : (v : ℕ) → x ≡ suc v → (u : State) → InHand n sizes w u → u .counter ≤ v → v < getD sizes (w .place) 0 → (b : Bool) → Improved n sizes (w .place) (u .bound) (u .best) b → (t : Bool)
-        → Whenever (Kept n sizes w (suc m)) (tryValue w t (suc v) (u .cost + costWith w (u .values) (w .place) (suc v)) b u again)
+        → Whenever (GoodDecision n sizes w (suc m)) (tryValue w t (suc v) (u .cost + costWith w (u .values) (w .place) (suc v)) b u again)
     try-kept v q u i tried left b imp true = after-write-kept v q u i tried left (isLast w) refl
     try-kept v q u i tried left b imp false = kept-more n sizes w m (suc m) (omega arith) (again b u) (next b u i (omega arith) imp)
 
   pub values-kept : (m v : ℕ) → m + v ≡ getD sizes (w .place) 0 → (b : Bool) (u : State) → InHand n sizes w u → u .counter ≤ v → Improved n sizes (w .place) (u .bound) (u .best) b
-      → Whenever (Kept n sizes w m) (tryAfter w m v b u)
+      → Whenever (GoodDecision n sizes w m) (tryAfter w m v b u)
   unfolding tryAfter
   values-kept zero v e b u i tried imp = backtrack-kept u i b imp
   values-kept (suc m) v e b u i tried imp =
@@ -252,7 +253,7 @@ pub record Ready (n : ℕ) (sizes : List ℕ) (w : View) (u : State) : Type 0 wh
   pub arrays : SizedUnit u
   pub threshold : (j : ℕ) → j < 16 → getD (u .threshold) j 0 ≤ 17
   pub own : getD (u .threshold) (w .place) 0 ≤ 16
-  pub estimates : (j : ℕ) → j < 16 → getD (u .estimates) j 0 ≤ totalLimit
+  pub estimates : (j : ℕ) → j < 16 → getD (u .estimates) j 0 ≤ estimateLimit
   pub bound : noneOrBound n sizes (u .bound) (u .best) ≡ true
   pub stamp : filledTo (w .place) sizes (set (u .stamp) (w .place) 0) ≡ true
   pub values : filledTo (w .place) sizes (set (u .values) (w .place) 0) ≡ true
@@ -298,7 +299,7 @@ module _ (n : ℕ) (sizes : List ℕ) (w : View) (g : GoodView n sizes w) (u : S
           nonzero : (x : ℕ) → (x ≡ 0 → ⊥) → 1 ≤ x
           nonzero x d = omega arith
 
-  pub assign-kept : Whenever (Kept n sizes w 16) (assign w u)
+  pub assign-kept : Whenever (GoodDecision n sizes w 16) (assign w u)
   unfolding assign
   assign-kept =
       let d : w .dom (w .place) - ownValue w u + ownValue w u ≡ getD sizes (w .place) 0 = omega (arith, g .dom, r .value) in
@@ -306,10 +307,10 @@ module _ (n : ℕ) (sizes : List ℕ) (w : View) (g : GoodView n sizes w) (u : S
       (tryAfter w (w .dom (w .place) - ownValue w u) (ownValue w u) false (begun w u))
       (values-kept n sizes w g (w .dom (w .place) - ownValue w u) (ownValue w u) d false (begun w u) begun-in-hand begun-tried (λ e. absurd (false≢true e)))
 
-  pub resume-kept : Whenever (Kept n sizes w 16) (resume w u)
+  pub resume-kept : Whenever (GoodDecision n sizes w 16) (resume w u)
   unfolding resume
   resume-kept = go (leb (u .bound) (bareCost w u))
     where
-      go : (t : Bool) → Whenever (Kept n sizes w 16) (reachedBound w t u)
+      go : (t : Bool) → Whenever (GoodDecision n sizes w 16) (reachedBound w t u)
       go true = kept-more n sizes w 0 16 (omega arith) (backtrack w false (takeOff w u)) (backtrack-kept n sizes w g (takeOff w u) off-in-hand false (λ e. absurd (false≢true e)))
       go false = assign-kept

@@ -1,6 +1,6 @@
 -- What no step does: a stale message changes nothing and sends nothing; the bound never rises; unit n keeps no CPA.
 -- By the clauses of the definitions; for the values tried, by recursion over those left. Assumes nothing.
-use Prim.Native.Nat.{ℕ, zero, suc, _+_, _-_, _≤_}
+use Prim.Native.Nat.{ℕ, zero, suc, _+_, _≤_}
 use mathlib.Core.Path.{_≡_, refl, sym, ap, _∙_}
 use mathlib.Core.Bool.{Bool, true, false, _&&_, false≢true}
 use mathlib.Core.List.{List, []}
@@ -15,11 +15,11 @@ use Rattle.message.specs.declared.Message.{Message}
 use Rattle.message.specs.declared.Kind.{Kind}
 use Rattle.message.specs.declared.Kind.the-variants.{Cpa, Request, Estimate, Solution, Stop}
 use Rattle.unit.specs.declared.Unit.{Unit as State}
-use Rattle.unit.specs.declared.Order.{Order}
-use Rattle.unit.specs.declared.Order.the-variants.{Smaller, Equal, Bigger}
+use Rattle.unit.specs.declared.Ordering.{Ordering}
+use Rattle.unit.specs.declared.Ordering.the-variants.{Less, Equal, Greater}
 use Rattle.unit.specs.declared.Sending.{Sending}
 use Rattle.unit.specs.State.{withThreshold, withBest, withCpa, left, ownValue, compareOn, sameOn}
-use Rattle.unit.specs.Step.{Out, refused, accepted, Written, after, silent, stale, takeLower, takeBound, bareCost, takeOff, backtrack, write, recordOf, afterWrite, isLast, tryValue, tryAfter, begun, assign, reachedBound, resume, onDown, isOut, isCpaOut, onOwn, onBack, onEither, onCpa, onFresh, onRequest, sumLater, reachedByEstimates, stored, onOwnEstimate, onTimely, onEstimate, onSolution, onStop, byKind, unlessStopped, respond}
+use Rattle.unit.specs.Step.{Decision, refused, accepted, Written, after, silent, quiet, takeLower, takeBound, bareCost, takeOff, backtrack, write, recordOf, afterWrite, isLast, tryValue, tryAfter, begun, assign, reachedBound, resume, onDown, isOut, isCpaOut, onOwn, onBack, onEither, onCpa, onFresh, onRequest, sumLater, reachedByEstimates, stored, onOwnEstimate, onTimely, onEstimate, onSolution, onStop, byKind, unlessStopped, respond}
 use Rattle.unit.specs.Send.{packets}
 use Rattle.unit.specs.Laws.Assign.{Whenever}
 
@@ -35,30 +35,30 @@ comparedOn w Stop = 0
 
 -- 01: "Smaller: stale."
 abbrev pub Stale : View → Kind → State → Message → Type 0
-Stale w kind u m = compareOn (comparedOn w kind) (m .stamp) (u .threshold) ≡ Smaller
+Stale w kind u m = compareOn (comparedOn w kind) (m .stamp) (u .threshold) ≡ Less
 
-none-compared : (a b : List ℕ) → compareOn 0 a b ≡ Smaller → ⊥
+none-compared : (a b : List ℕ) → compareOn 0 a b ≡ Less → ⊥
 unfolding compareOn
 none-compared a b e = let z : _≡_ {A = ℕ} 0 1 = cc in omega arith
 
 module _ (w : View) (u : State) (m : Message) where
-  cpa-stale : Stale w Cpa u m → onCpa w u m ≡ stale u
+  cpa-stale : Stale w Cpa u m → onCpa w u m ≡ quiet u
   unfolding onCpa
   cpa-stale e = go (ltb (m .sender) (suc (w .place)))
     where
-      go : (t : Bool) → onEither w t u m ≡ stale u
-      go true = ap (λ (o : Order). onDown w o u m) e
-      go false = ap (λ (o : Order). onBack w o u m) e
+      go : (t : Bool) → onEither w t u m ≡ quiet u
+      go true = ap (λ (o : Ordering). onDown w o u m) e
+      go false = ap (λ (o : Ordering). onBack w o u m) e
 
-  request-stale : Stale w Request u m → onRequest w u m ≡ stale u
+  request-stale : Stale w Request u m → onRequest w u m ≡ quiet u
   unfolding onRequest
-  request-stale e = ap (λ (o : Order). onFresh w o u m) e
+  request-stale e = ap (λ (o : Ordering). onFresh w o u m) e
 
-  estimate-stale : Stale w Estimate u m → onEstimate w u m ≡ stale u
+  estimate-stale : Stale w Estimate u m → onEstimate w u m ≡ quiet u
   unfolding onEstimate
-  estimate-stale e = ap (λ (o : Order). onTimely w o u m) e
+  estimate-stale e = ap (λ (o : Ordering). onTimely w o u m) e
 
-  by-kind-stale : (kind : Kind) → Stale w kind u m → byKind w kind u m ≡ stale u
+  by-kind-stale : (kind : Kind) → Stale w kind u m → byKind w kind u m ≡ quiet u
   by-kind-stale Cpa e = cpa-stale e
   by-kind-stale Request e = request-stale e
   by-kind-stale Estimate e = estimate-stale e
@@ -66,7 +66,7 @@ module _ (w : View) (u : State) (m : Message) where
   by-kind-stale Stop e = absurd (none-compared (m .stamp) (u .threshold) e)
 
   -- 01: "A stale message changes nothing and sends nothing."
-  pub stale-changes-nothing : (kind : Kind) → u .stopped ≡ false → Stale w kind u m → respond w kind u m ≡ stale u
+  pub stale-changes-nothing : (kind : Kind) → u .stopped ≡ false → Stale w kind u m → respond w kind u m ≡ quiet u
   unfolding respond
   stale-changes-nothing kind s e = ap (λ (b : Bool). unlessStopped b w kind u m) s ∙ by-kind-stale kind e
 
@@ -79,11 +79,11 @@ silent-sends-nothing n k = refl
 abbrev pub BoundAtMost : ℕ → State → Sending → List Written → Type 0
 BoundAtMost B u s ws = u .bound ≤ B
 
-most-of : (B B′ : ℕ) → B ≤ B′ → (o : Out) → Whenever (BoundAtMost B) o → Whenever (BoundAtMost B′) o
+most-of : (B B′ : ℕ) → B ≤ B′ → (o : Decision) → Whenever (BoundAtMost B) o → Whenever (BoundAtMost B′) o
 most-of B B′ l (refused r) f = tt
 most-of B B′ l (accepted u s ws) f = omega arith
 
-most-after : (B : ℕ) (r : Written) (o : Out) → Whenever (BoundAtMost B) o → Whenever (BoundAtMost B) (after r o)
+most-after : (B : ℕ) (r : Written) (o : Decision) → Whenever (BoundAtMost B) o → Whenever (BoundAtMost B) (after r o)
 most-after B r (refused x) f = tt
 most-after B r (accepted u s ws) f = f
 
@@ -101,7 +101,7 @@ module _ (w : View) where
   backtrack-lowers b u = omega arith
 
   -- a value tried, where those after it raise no bound
-  module _ (again : Bool → State → Out) (next : (b : Bool) (u : State) → Whenever (BoundAtMost (u .bound)) (again b u)) where
+  module _ (again : Bool → State → Decision) (next : (b : Bool) (u : State) → Whenever (BoundAtMost (u .bound)) (again b u)) where
     after-write-lowers : (b : Bool) (B : ℕ) (u : State) → u .bound ≤ B → u .cost ≤ B → Whenever (BoundAtMost B) (afterWrite w b u again)
     after-write-lowers true B u l c =
         let t : State = takeOff w (withBest (u .cost) (u .values) u) in
@@ -140,19 +140,19 @@ module _ (w : View) where
     unfolding onCpa
     cpa-lowers = go (ltb (m .sender) (suc (w .place)))
       where
-        down : (o : Order) → Whenever (BoundAtMost (u .bound)) (onDown w o u m)
-        down Smaller = omega arith
+        down : (o : Ordering) → Whenever (BoundAtMost (u .bound)) (onDown w o u m)
+        down Less = omega arith
         down Equal = taken-lowers (withCpa (m .stamp) (m .values) (m .cost) u) refl
-        down Bigger = taken-lowers (withCpa (m .stamp) (m .values) (m .cost) (withThreshold (m .stamp) u)) refl
+        down Greater = taken-lowers (withCpa (m .stamp) (m .values) (m .cost) (withThreshold (m .stamp) u)) refl
 
         own : (t : Bool) → Whenever (BoundAtMost (u .bound)) (onOwn w t u m)
         own true = taken-lowers u refl
         own false = tt
 
-        back : (o : Order) → Whenever (BoundAtMost (u .bound)) (onBack w o u m)
-        back Smaller = omega arith
+        back : (o : Ordering) → Whenever (BoundAtMost (u .bound)) (onBack w o u m)
+        back Less = omega arith
         back Equal = own (isCpaOut w u m)
-        back Bigger = own (isCpaOut w u m)
+        back Greater = own (isCpaOut w u m)
 
         go : (t : Bool) → Whenever (BoundAtMost (u .bound)) (onEither w t u m)
         go true = down (compareOn (suc (w .place)) (m .stamp) (u .threshold))
@@ -162,10 +162,10 @@ module _ (w : View) where
     unfolding onRequest
     request-lowers = go (compareOn (w .place) (m .stamp) (u .threshold))
       where
-        go : (o : Order) → Whenever (BoundAtMost (u .bound)) (onFresh w o u m)
-        go Smaller = omega arith
+        go : (o : Ordering) → Whenever (BoundAtMost (u .bound)) (onFresh w o u m)
+        go Less = omega arith
         go Equal = omega arith
-        go Bigger = omega arith
+        go Greater = omega arith
 
     estimate-lowers : Whenever (BoundAtMost (u .bound)) (onEstimate w u m)
     unfolding onEstimate
@@ -179,10 +179,10 @@ module _ (w : View) where
         own true = reached (leb (u .bound) (u .cost + sumLater w (stored m u .estimates)))
         own false = tt
 
-        go : (o : Order) → Whenever (BoundAtMost (u .bound)) (onTimely w o u m)
-        go Smaller = omega arith
+        go : (o : Ordering) → Whenever (BoundAtMost (u .bound)) (onTimely w o u m)
+        go Less = omega arith
         go Equal = own (isOut w u && sameOn (suc (w .place)) (m .stamp) (u .stamp))
-        go Bigger = tt
+        go Greater = tt
 
     pub bound-never-rises : (kind : Kind) → Whenever (BoundAtMost (u .bound)) (respond w kind u m)
     unfolding respond onSolution onStop
@@ -207,7 +207,7 @@ zeros-everywhere (suc n) zero = refl
 zeros-everywhere (suc n) (suc k) = zeros-everywhere n k
 
 module _ (w : View) (last : isLast w ≡ true) where
-  none-after : (r : Written) (o : Out) → Whenever (NoneOut w) o → Whenever (NoneOut w) (after r o)
+  none-after : (r : Written) (o : Decision) → Whenever (NoneOut w) o → Whenever (NoneOut w) (after r o)
   none-after r (refused x) f = tt
   none-after r (accepted u s ws) f = f
 
@@ -215,7 +215,7 @@ module _ (w : View) (last : isLast w ≡ true) where
   unfolding backtrack
   backtrack-none b u = zeros-everywhere 16 (w .place)
 
-  module _ (again : Bool → State → Out) (next : (b : Bool) (u : State) → Whenever (NoneOut w) (again b u)) where
+  module _ (again : Bool → State → Decision) (next : (b : Bool) (u : State) → Whenever (NoneOut w) (again b u)) where
     after-write-none : (b : Bool) → isLast w ≡ b → (u : State) → Whenever (NoneOut w) (afterWrite w b u again)
     after-write-none true e u = let t : State = takeOff w (withBest (u .cost) (u .values) u) in none-after (recordOf w u) (again true t) (next true t)
     after-write-none false e u = absurd (false≢true (sym e ∙ last))
@@ -241,7 +241,7 @@ module _ (w : View) (last : isLast w ≡ true) where
 
   module _ (u : State) (m : Message) where
     -- a CPA leaves none out, unless it is stale and one was
-    cpa-none : (compareOn (suc (w .place)) (m .stamp) (u .threshold) ≡ Smaller → ownValue w u ≡ 0) → Whenever (NoneOut w) (onCpa w u m)
+    cpa-none : (compareOn (suc (w .place)) (m .stamp) (u .threshold) ≡ Less → ownValue w u ≡ 0) → Whenever (NoneOut w) (onCpa w u m)
     unfolding onCpa
     cpa-none f = go (ltb (m .sender) (suc (w .place)))
       where
@@ -249,15 +249,15 @@ module _ (w : View) (last : isLast w ≡ true) where
         own true = resume-none (takeBound m u)
         own false = tt
 
-        down : (o : Order) → (o ≡ Smaller → ownValue w u ≡ 0) → Whenever (NoneOut w) (onDown w o u m)
-        down Smaller f = f refl
+        down : (o : Ordering) → (o ≡ Less → ownValue w u ≡ 0) → Whenever (NoneOut w) (onDown w o u m)
+        down Less f = f refl
         down Equal f = resume-none (takeBound m (withCpa (m .stamp) (m .values) (m .cost) u))
-        down Bigger f = resume-none (takeBound m (withCpa (m .stamp) (m .values) (m .cost) (withThreshold (m .stamp) u)))
+        down Greater f = resume-none (takeBound m (withCpa (m .stamp) (m .values) (m .cost) (withThreshold (m .stamp) u)))
 
-        back : (o : Order) → (o ≡ Smaller → ownValue w u ≡ 0) → Whenever (NoneOut w) (onBack w o u m)
-        back Smaller f = f refl
+        back : (o : Ordering) → (o ≡ Less → ownValue w u ≡ 0) → Whenever (NoneOut w) (onBack w o u m)
+        back Less f = f refl
         back Equal f = own (isCpaOut w u m)
-        back Bigger f = own (isCpaOut w u m)
+        back Greater f = own (isCpaOut w u m)
 
         go : (t : Bool) → Whenever (NoneOut w) (onEither w t u m)
         go true = down (compareOn (suc (w .place)) (m .stamp) (u .threshold)) f
@@ -277,10 +277,10 @@ module _ (w : View) (last : isLast w ≡ true) where
       unfolding onRequest
       request-none = go (compareOn (w .place) (m .stamp) (u .threshold))
         where
-          go : (o : Order) → Whenever (NoneOut w) (onFresh w o u m)
-          go Smaller = none
+          go : (o : Ordering) → Whenever (NoneOut w) (onFresh w o u m)
+          go Less = none
           go Equal = none
-          go Bigger = none
+          go Greater = none
 
       estimate-none : Whenever (NoneOut w) (onEstimate w u m)
       unfolding onEstimate
@@ -290,10 +290,10 @@ module _ (w : View) (last : isLast w ≡ true) where
           own true e = absurd (omega (arith, ltb-true 0 (ownValue w u) (and-left _ _ e)))
           own false e = tt
 
-          go : (o : Order) → Whenever (NoneOut w) (onTimely w o u m)
-          go Smaller = none
+          go : (o : Ordering) → Whenever (NoneOut w) (onTimely w o u m)
+          go Less = none
           go Equal = own (isOut w u && sameOn (suc (w .place)) (m .stamp) (u .stamp)) refl
-          go Bigger = tt
+          go Greater = tt
 
       lower-none : (t : Bool) → ownValue w (takeLower t (m .bound) (m .best) u) ≡ 0
       lower-none true = none

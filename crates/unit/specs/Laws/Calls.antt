@@ -1,13 +1,14 @@
 -- What making and a step keep, whatever they are lent: a state in range, packets that can be written, at most 16 of them and of records.
 -- The refusals say what was checked first (`Passed`, `Makes`), the rest is Steps. Assumes nothing.
-use Prim.Native.Nat.{ℕ, zero, suc, _-_, _≤_, _<_, pred}
+use Prim.Native.Nat.{ℕ, zero, suc, _≤_, pred}
 use mathlib.Core.Path.{_≡_, refl, sym, ap, subst}
-use mathlib.Core.Bool.{Bool, true, false}
+use mathlib.Core.Bool.{Bool, true, false, cond, not}
 use mathlib.Core.List.{List}
 use native.Mathlib.Omega.{arith}
-use lib.Dec.{ltb, eqb}
+use lib.Dec.{ltb}
 use lib.ListN.{length}
-use borrow.Author.Tests.{ltb-false, le-ltb, eqb-true, eqb-false, eq-eqb, ne-eqb}
+use borrow.Author.Tests.{ltb-false, le-ltb, not-false}
+use Rattle.base.specs.Refusal.{or-left, or-right}
 use Rattle.base.specs.Shape.{shapeGood}
 use Rattle.costs.specs.Instance.{View, lentView}
 use Rattle.costs.specs.Lent.{lentRefusal}
@@ -22,12 +23,12 @@ use Rattle.message.specs.DecodeLaws.{check-length}
 use Rattle.message.specs.RoundTrip.{AllBytes, sized-in, parse-encode, parsed-good}
 use Rattle.unit.specs.declared.Unit.{Unit as State}
 use Rattle.unit.specs.State.{inRange}
-use Rattle.unit.specs.Step.{Out, refused, respond}
-use Rattle.unit.specs.Calls.{makeRefusal, start, unlessRefused, makeOut, stepRefusal, onRead, stepOut}
+use Rattle.unit.specs.Step.{Decision, refused, respond}
+use Rattle.unit.specs.Calls.{seatRefusal, makeRefusal, rangeRefusal, start, unlessRefused, makeOut, stepRefusal, onRead, stepOut}
 use Rattle.unit.specs.Laws.Views.{unit-range, lent-good}
 use Rattle.unit.specs.Laws.Range.{SizedUnit}
 use Rattle.unit.specs.Laws.Packets.{Sendable}
-use Rattle.unit.specs.Laws.Assign.{Whenever, Kept}
+use Rattle.unit.specs.Laws.Assign.{Whenever, GoodDecision}
 use Rattle.unit.specs.Laws.Steps.{respond-kept, start-kept}
 
 -- ---- what was checked
@@ -47,45 +48,54 @@ pub record Passed (u : State) (own n : ℕ) (sizes costs : List ℕ) (room : ℕ
   pub state : inRange sizes (lentView own n sizes costs) u ≡ true
   pub fits : 1024 ≤ room
 
-module _ (own n : ℕ) (sizes costs : List ℕ) (room : ℕ) where
-  pub makes : makeRefusal own n sizes costs room ≡ 0 → Makes own n sizes costs room
-  unfolding makeRefusal
-  makes e = go (shapeGood n sizes) refl (isUnit n own) refl (eqb (lentRefusal own n sizes costs) 0) refl (ltb room 1024) refl
-    where
-      never : (r : ℕ) → 0 < r → r ≡ 0 → Makes own n sizes costs room
-      never r h q = absurd (omega arith)
+-- what is lent beside a state, not refused
+pub record Seated (own n : ℕ) (sizes costs : List ℕ) : Type 0 where
+  pub shape : shapeGood n sizes ≡ true
+  pub unit : isUnit n own ≡ true
+  pub lent : lentRefusal own n sizes costs ≡ 0
 
-      go : (a : Bool) → shapeGood n sizes ≡ a → (b : Bool) → isUnit n own ≡ b → (c : Bool) → eqb (lentRefusal own n sizes costs) 0 ≡ c → (d : Bool) → ltb room 1024 ≡ d → Makes own n sizes costs room
-      go false p b q c r d s = never 5 (omega arith) (rw p at e)
-      go true p false q c r d s = never 10 (omega arith) (rw (p, q) at e)
-      go true p true q false r d s = absurd (eqb-false (lentRefusal own n sizes costs) 0 r (rw (p, q, r) at e))
-      go true p true q true r true s = never 13 (omega arith) (rw (p, q, r, s) at e)
-      go true p true q true r false s = record { shape = p; unit = q; lent = eqb-true (lentRefusal own n sizes costs) 0 r; fits = ltb-false room 1024 s }
+-- a test without its refusal
+holds : (b : Bool) (r : ℕ) → cond b 0 (suc r) ≡ 0 → b ≡ true
+holds true r e = refl
+holds false r e = absurd (omega arith)
 
-  module _ (u : State) where
-    pub passed : stepRefusal u own n sizes costs room ≡ 0 → Passed u own n sizes costs room
-    unfolding stepRefusal
-    passed e =
-        go (ltb room 1024) refl (shapeGood n sizes) refl (isUnit n own) refl (eqb (lentRefusal own n sizes costs) 0) refl (inRange sizes (lentView own n sizes costs) u) refl
-      where
-        never : (r : ℕ) → 0 < r → r ≡ 0 → Passed u own n sizes costs room
-        never r h q = absurd (omega arith)
+fails : (b : Bool) (r s : ℕ) → cond b (suc r) s ≡ 0 → (b ≡ false) × (s ≡ 0)
+fails true r s e = absurd (omega arith)
+fails false r s e = (refl, e)
 
-        go : (d : Bool) → ltb room 1024 ≡ d → (a : Bool) → shapeGood n sizes ≡ a → (b : Bool) → isUnit n own ≡ b → (c : Bool) → eqb (lentRefusal own n sizes costs) 0 ≡ c
-            → (f : Bool) → inRange sizes (lentView own n sizes costs) u ≡ f → Passed u own n sizes costs room
-        go true s a p b q c r f t = never 13 (omega arith) (rw s at e)
-        go false s false p b q c r f t = never 5 (omega arith) (rw (s, p) at e)
-        go false s true p false q c r f t = never 10 (omega arith) (rw (s, p, q) at e)
-        go false s true p true q false r f t = absurd (eqb-false (lentRefusal own n sizes costs) 0 r (rw (s, p, q, r) at e))
-        go false s true p true q true r false t = never 5 (omega arith) (rw (s, p, q, r, t) at e)
-        go false s true p true q true r true t = record { shape = p; unit = q; lent = eqb-true (lentRefusal own n sizes costs) 0 r; state = t; fits = ltb-false room 1024 s }
+module _ (own n : ℕ) (sizes costs : List ℕ) where
+  pub seated : seatRefusal own n sizes costs ≡ 0 → Seated own n sizes costs
+  unfolding seatRefusal
+  seated e =
+      let s = fails (not (shapeGood n sizes)) 4 _ e in
+      let i = fails (not (isUnit n own)) 9 _ (s .1) in
+      record { shape = not-false _ (s .0); unit = not-false _ (i .0); lent = i .1 }
 
-    pub not-refused : Passed u own n sizes costs room → stepRefusal u own n sizes costs room ≡ 0
-    unfolding stepRefusal
-    not-refused p = rw (le-ltb room 1024 (p .fits), p .shape, p .unit, eq-eqb (lentRefusal own n sizes costs) 0 (p .lent), p .state)
+  seat-good : Seated own n sizes costs → seatRefusal own n sizes costs ≡ 0
+  unfolding seatRefusal
+  seat-good s = rw (s .shape, s .unit, s .lent)
+
+  module _ (room : ℕ) where
+    pub makes : makeRefusal own n sizes costs room ≡ 0 → Makes own n sizes costs room
+    unfolding makeRefusal
+    makes e =
+        let s = seated (or-left _ _ e) in
+        record { shape = s .shape; unit = s .unit; lent = s .lent; fits = ltb-false room 1024 (fails (ltb room 1024) 12 0 (or-right (seatRefusal own n sizes costs) _ e) .0) }
+
+    module _ (u : State) where
+      pub passed : stepRefusal u own n sizes costs room ≡ 0 → Passed u own n sizes costs room
+      unfolding stepRefusal rangeRefusal
+      passed e =
+          let f = fails (ltb room 1024) 12 _ e in
+          let s = seated (or-left _ _ (f .1)) in
+          record { shape = s .shape; unit = s .unit; lent = s .lent; state = holds _ 4 (or-right (seatRefusal own n sizes costs) _ (f .1)); fits = ltb-false room 1024 (f .0) }
+
+      pub not-refused : Passed u own n sizes costs room → stepRefusal u own n sizes costs room ≡ 0
+      unfolding stepRefusal rangeRefusal
+      not-refused p = rw (le-ltb room 1024 (p .fits), seat-good (record { shape = p .shape; unit = p .unit; lent = p .lent }), p .state)
 
 -- a refusal, or what follows
-unless-refused : (P : Out → Type 0) (r : ℕ) (o : Out) → ((x : ℕ) → P (refused x)) → (r ≡ 0 → P o) → P (unlessRefused r o)
+unless-refused : (P : Decision → Type 0) (r : ℕ) (o : Decision) → ((x : ℕ) → P (refused x)) → (r ≡ 0 → P o) → P (unlessRefused r o)
 unless-refused P zero o f g = g refl
 unless-refused P (suc r) o f g = f (suc r)
 
@@ -102,10 +112,10 @@ module _ (own n : ℕ) (sizes costs : List ℕ) (room : ℕ) (long : n ≤ lengt
 
   -- ---- making
 
-  pub make-kept : Whenever (Kept n sizes (lentView own n sizes costs) 16) (makeOut own n sizes costs room)
+  pub make-kept : Whenever (GoodDecision n sizes (lentView own n sizes costs) 16) (makeOut own n sizes costs room)
   unfolding makeOut
   make-kept =
-      unless-refused (Whenever (Kept n sizes view 16)) (makeRefusal own n sizes costs room) (start view (pred own)) (λ x. tt)
+      unless-refused (Whenever (GoodDecision n sizes view 16)) (makeRefusal own n sizes costs room) (start view (pred own)) (λ x. tt)
       (λ e. let m = makes own n sizes costs room e in start-kept n sizes view (lent-good own n sizes costs (m .shape) long (m .unit) (m .lent)) (pred own) (sym place-is))
 
   -- ---- a step
@@ -114,19 +124,19 @@ module _ (own n : ℕ) (sizes costs : List ℕ) (room : ℕ) (long : n ≤ lengt
     receiver-is : isUnit n own ≡ true → (m : Message) → m .receiver ≡ own → m .receiver ≡ suc (view .place)
     receiver-is i m e = omega (arith, unit-range n own i .0, place-is)
 
-    read-kept : Passed u own n sizes costs room → (a : Read) → parseFor n sizes own bytes .answer ≡ a → Whenever (Kept n sizes view 16) (onRead view u a (parseFor n sizes own bytes .message))
+    read-kept : Passed u own n sizes costs room → (a : Read) → parseFor n sizes own bytes .answer ≡ a → Whenever (GoodDecision n sizes view 16) (onRead view u a (parseFor n sizes own bytes .message))
     read-kept p (Refused r) e = tt
     read-kept p (Good k) e =
         let a = parsed-good n sizes own bytes k e in
         let m : Message = messageIn bytes in
-        subst (λ (x : Message). Whenever (Kept n sizes view 16) (respond view k u x)) (sym (ap (λ (x : Parsed). x .message) (a .whole)))
+        subst (λ (x : Message). Whenever (GoodDecision n sizes view 16) (respond view k u x)) (sym (ap (λ (x : Parsed). x .message) (a .whole)))
         (respond-kept n sizes view (lent-good own n sizes costs (p .shape) long (p .unit) (p .lent)) k u m (p .state) arrays
         record { address = a .address; form = a .formed; arrays = sized-in bytes (check-length bytes (a .check)) all } (receiver-is (p .unit) m (a .receiver)))
 
-    pub step-kept : Whenever (Kept n sizes (lentView own n sizes costs) 16) (stepOut u own n sizes costs bytes room)
+    pub step-kept : Whenever (GoodDecision n sizes (lentView own n sizes costs) 16) (stepOut u own n sizes costs bytes room)
     unfolding stepOut
     step-kept =
-        unless-refused (Whenever (Kept n sizes view 16)) (stepRefusal u own n sizes costs room) (onRead view u (parseFor n sizes own bytes .answer) (parseFor n sizes own bytes .message)) (λ x. tt)
+        unless-refused (Whenever (GoodDecision n sizes view 16)) (stepRefusal u own n sizes costs room) (onRead view u (parseFor n sizes own bytes .answer) (parseFor n sizes own bytes .message)) (λ x. tt)
         (λ e. read-kept (passed own n sizes costs room u e) (parseFor n sizes own bytes .answer) refl)
 
   -- a packet that can be written, written and given to its receiver, is what the unit responds to

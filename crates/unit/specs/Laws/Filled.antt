@@ -11,8 +11,9 @@ use lib.Dec.{ltb, leb, eqb}
 use lib.ListN.{length, getD, set, getD-replicate}
 use lib.Seq.{getD-set-same, getD-set-other}
 use borrow.Author.Tests.{leb-true, le-leb, ltb-true, ltb-false, eqb-true, eqb-false}
+use Rattle.base.specs.Limits.{NONE, totalLimit, prefixLimit}
 use Rattle.base.specs.Shape.{and-left}
-use Rattle.message.specs.Message.{NONE, totalLimit, prefixLimit, filledTo, boundGood, noneOrBound}
+use Rattle.message.specs.Message.{filledTo, boundGood, noneOrBound}
 use Rattle.message.specs.Laws.{bound-parts, not-none-is, every-at, every-by, filled-at, filled-past, filled-by}
 use Rattle.unit.specs.State.{zeros, allAtMost}
 
@@ -104,9 +105,6 @@ limit-suc k = let e : suc k - 1 ≡ k = omega arith in rw e (omega arith)
 pub limit-next : (k : ℕ) → prefixLimit k + 60000 * k ≤ prefixLimit (suc k)
 limit-next zero = omega arith
 limit-next (suc k) = omega (arith, limit-suc k, limit-suc (suc k))
-
-pub limit-more : (k : ℕ) → prefixLimit k ≤ prefixLimit (suc k)
-limit-more k = omega (arith, limit-next k)
 
 -- of 16 units
 pub limit-total : (k : ℕ) → k ≤ 16 → prefixLimit k ≤ totalLimit

@@ -7,14 +7,15 @@ use mathlib.Core.List.{List, [], _∷_, _++_}
 use native.Mathlib.Omega.{arith}
 use lib.ListN.{length, length-append}
 use borrow.Author.Tests.{lt-ltb, le-ltb, eq-eqb, ne-eqb}
+use Rattle.base.specs.Limits.{prefixLimit}
 use Rattle.message.specs.declared.Message.{Message}
 use Rattle.message.specs.declared.Kind.{Kind}
 use Rattle.message.specs.declared.Kind.the-variants.{Cpa, Request, Estimate, Solution, Stop}
-use Rattle.message.specs.Message.{Packet, Sized, prefixLimit, filledTo, boundGood, noneOrBound, cpaCount, carriedOf, boundFits, directionGood, addressGood, wellFormed}
+use Rattle.message.specs.Message.{Packet, Sized, filledTo, boundGood, noneOrBound, cpaCount, carriedOf, boundFits, directionGood, addressGood, wellFormed}
 use Rattle.message.specs.Laws.{blank-filled, no-bound-by, address-by, formed-by}
 use Rattle.unit.specs.declared.Plan.the-variants.{Forward, Back, Reply}
 use Rattle.unit.specs.State.{zeros}
-use Rattle.unit.specs.Send.{packet, cpaTo, requestTo, boundTo, each, others, handBack, solutions, byPlan}
+use Rattle.unit.specs.Send.{packet, sentTo, noBound, boundOnly, each, others, handBack, solutions, byPlan}
 
 -- ---- every packet
 
@@ -62,23 +63,23 @@ zero-arrays = refl
 
 module _ (n : ℕ) (sizes : List ℕ) (k c : ℕ) (m : Message) (k<n : k < n) (h : Carries n sizes k c m) where
   -- a CPA to the unit at place j, the next or the one before
-  cpa-sendable : (j : ℕ) → j < n → directionGood n Cpa (suc k) (suc j) ≡ true → cpaCount (suc k) (suc j) ≡ c → Sendable n sizes (cpaTo m j)
+  cpa-sendable : (j : ℕ) → j < n → directionGood n Cpa (suc k) (suc j) ≡ true → cpaCount (suc k) (suc j) ≡ c → Sendable n sizes (sentTo Cpa m j)
   cpa-sendable j l d e =
       record {
-        address = address-by n (cpaTo m j .message) (omega (arith, h .sender)) (omega (arith, h .sender)) (omega arith) (omega arith);
+        address = address-by n (sentTo Cpa m j .message) (omega (arith, h .sender)) (omega (arith, h .sender)) (omega arith) (omega arith);
         form =
-            formed-by n sizes Cpa (cpaTo m j .message)
+            formed-by n sizes Cpa (sentTo Cpa m j .message)
             record { direction = rw (h .sender) d; stamps = rw (h .sender, e) (h .stamp); values = rw (h .sender, e) (h .values); cost = rw (h .sender, e) (h .cost); bound = h .bound };
         arrays = record { stamp = h .arrays .stamp; values = h .arrays .values; best = h .arrays .best; cost = h .arrays .cost; bound = h .arrays .bound };
       }
 
   -- a request to a later unit
-  request-sendable : c ≡ suc k → (j : ℕ) → k < j → j < n → Sendable n sizes (requestTo m j)
+  request-sendable : c ≡ suc k → (j : ℕ) → k < j → j < n → Sendable n sizes (sentTo Request (noBound m) j)
   request-sendable e j a b =
       record {
-        address = address-by n (requestTo m j .message) (omega (arith, h .sender)) (omega (arith, h .sender)) (omega arith) (omega arith);
+        address = address-by n (sentTo Request (noBound m) j .message) (omega (arith, h .sender)) (omega (arith, h .sender)) (omega arith) (omega arith);
         form =
-            formed-by n sizes Request (requestTo m j .message)
+            formed-by n sizes Request (sentTo Request (noBound m) j .message)
             record {
               direction = lt-ltb (m .sender) (suc j) (omega (arith, h .sender));
               stamps = rw (h .sender, ← e) (h .stamp);
@@ -90,12 +91,12 @@ module _ (n : ℕ) (sizes : List ℕ) (k c : ℕ) (m : Message) (k<n : k < n) (h
       }
 
   -- a stop or a solution to another unit
-  bound-sendable : (t : Kind) (j : ℕ) → j < n → directionGood n t (suc k) (suc j) ≡ true → carriedOf t (boundTo t m j .message) .stamps ≡ 0 → carriedOf t (boundTo t m j .message) .values ≡ 0
-      → boundFits n sizes t (m .bound) (m .best) ≡ true → Sendable n sizes (boundTo t m j)
+  bound-sendable : (t : Kind) (j : ℕ) → j < n → directionGood n t (suc k) (suc j) ≡ true → carriedOf t (sentTo t (boundOnly m) j .message) .stamps ≡ 0 → carriedOf t (sentTo t (boundOnly m) j .message) .values ≡ 0
+      → boundFits n sizes t (m .bound) (m .best) ≡ true → Sendable n sizes (sentTo t (boundOnly m) j)
   bound-sendable t j l d e f b =
       record {
-        address = address-by n (boundTo t m j .message) (omega (arith, h .sender)) (omega (arith, h .sender)) (omega arith) (omega arith);
-        form = formed-by n sizes t (boundTo t m j .message) record { direction = rw (h .sender) d; stamps = rw e (blank-filled sizes); values = rw f (blank-filled sizes); cost = omega arith; bound = b };
+        address = address-by n (sentTo t (boundOnly m) j .message) (omega (arith, h .sender)) (omega (arith, h .sender)) (omega arith) (omega arith);
+        form = formed-by n sizes t (sentTo t (boundOnly m) j .message) record { direction = rw (h .sender) d; stamps = rw e (blank-filled sizes); values = rw f (blank-filled sizes); cost = omega arith; bound = b };
         arrays = record { stamp = zero-arrays; values = zero-arrays; best = h .arrays .best; cost = omega arith; bound = h .arrays .bound };
       }
 
@@ -104,29 +105,29 @@ module _ (n : ℕ) (sizes : List ℕ) (k c : ℕ) (m : Message) (k<n : k < n) (h
   pub forward-sendable : c ≡ suc k → suc k < n → (b : Bool) → All (Sendable n sizes) (byPlan n k Forward b m)
   forward-sendable e l b = (
     cpa-sendable (suc k) l (simp (eq-eqb (suc (suc k)) (suc k + 1) (omega arith))) (rw (lt-ltb (suc k) (suc (suc k)) (omega arith)) (omega arith)),
-    all-each (Sendable n sizes) (requestTo m) (suc k) (n - suc k) (λ j lo hi. request-sendable e j (omega arith) (omega arith)),
+    all-each (Sendable n sizes) (sentTo Request (noBound m)) (suc k) (n - suc k) (λ j lo hi. request-sendable e j (omega arith) (omega arith)),
   )
 
   -- ---- back
 
-  back-one : c ≡ k → (j : ℕ) → suc j ≡ k → Sendable n sizes (cpaTo m j)
+  back-one : c ≡ k → (j : ℕ) → suc j ≡ k → Sendable n sizes (sentTo Cpa m j)
   back-one e j q = cpa-sendable j (omega arith) (rw (eq-eqb (suc k) (suc j + 1) (omega arith), ne-eqb (suc j) (suc k + 1) (λ z. omega arith))) (rw (le-ltb (suc k) (suc j) (omega arith)) (omega arith))
 
-  stop-one : k ≡ 0 → (j : ℕ) → 1 ≤ j → j < n → Sendable n sizes (boundTo Stop m j)
+  stop-one : k ≡ 0 → (j : ℕ) → 1 ≤ j → j < n → Sendable n sizes (sentTo Stop (boundOnly m) j)
   stop-one z j a b = bound-sendable Stop j b (rw (eq-eqb (suc k) 1 (omega arith), ne-eqb (suc j) (suc k) (λ q. omega arith))) refl refl (h .bound)
 
-  solution-one : suc k ≡ n → boundGood n sizes (m .bound) (m .best) ≡ true → (j : ℕ) → (j ≡ k → ⊥) → j < n → Sendable n sizes (boundTo Solution m j)
+  solution-one : suc k ≡ n → boundGood n sizes (m .bound) (m .best) ≡ true → (j : ℕ) → (j ≡ k → ⊥) → j < n → Sendable n sizes (sentTo Solution (boundOnly m) j)
   solution-one z g j a b = bound-sendable Solution j b (rw (eq-eqb (suc k) n z, ne-eqb (suc j) (suc k) (λ q. a (omega arith)))) refl refl g
 
   solutions-sendable : (b : Bool) → Improved n sizes k (m .bound) (m .best) b → All (Sendable n sizes) (solutions n k b m)
   solutions-sendable false i = tt
   solutions-sendable true i =
-      all-append (Sendable n sizes) (each (boundTo Solution m) 0 k) (each (boundTo Solution m) (suc k) (n - suc k))
-      (all-each (Sendable n sizes) (boundTo Solution m) 0 k (λ j lo hi. solution-one (i refl .0) (i refl .1) j (λ q. omega arith) (omega arith)))
-      (all-each (Sendable n sizes) (boundTo Solution m) (suc k) (n - suc k) (λ j lo hi. solution-one (i refl .0) (i refl .1) j (λ q. omega arith) (omega arith)))
+      all-append (Sendable n sizes) (each (sentTo Solution (boundOnly m)) 0 k) (each (sentTo Solution (boundOnly m)) (suc k) (n - suc k))
+      (all-each (Sendable n sizes) (sentTo Solution (boundOnly m)) 0 k (λ j lo hi. solution-one (i refl .0) (i refl .1) j (λ q. omega arith) (omega arith)))
+      (all-each (Sendable n sizes) (sentTo Solution (boundOnly m)) (suc k) (n - suc k) (λ j lo hi. solution-one (i refl .0) (i refl .1) j (λ q. omega arith) (omega arith)))
 
   handed-sendable : c ≡ k → (j : ℕ) → j ≡ k → All (Sendable n sizes) (handBack n j m)
-  handed-sendable e zero q = all-each (Sendable n sizes) (boundTo Stop m) 1 (n - 1) (λ j lo hi. stop-one (sym q) j lo (omega arith))
+  handed-sendable e zero q = all-each (Sendable n sizes) (sentTo Stop (boundOnly m)) 1 (n - 1) (λ j lo hi. stop-one (sym q) j lo (omega arith))
   handed-sendable e (suc j) q = (back-one e j q, tt)
 
   pub back-sendable : c ≡ k → (b : Bool) → Improved n sizes k (m .bound) (m .best) b → All (Sendable n sizes) (byPlan n k Back b m)
@@ -141,18 +142,18 @@ reply-sendable n sizes k m b w = (w, tt)
 
 module _ (n k : ℕ) (m : Message) (k<n : k < n) where
   pub forward-few : (b : Bool) → length (byPlan n k Forward b m) ≤ n
-  forward-few b = omega (arith, each-length (requestTo m) (suc k) (n - suc k))
+  forward-few b = omega (arith, each-length (sentTo Request (noBound m)) (suc k) (n - suc k))
 
   others-few : (g : ℕ → Packet) → length (others n k g) ≡ n - 1
   others-few g = rw (length-append (each g 0 k) (each g (suc k) (n - suc k)), each-length g 0 k, each-length g (suc k) (n - suc k)) (omega arith)
 
   solutions-few : (b : Bool) → length (solutions n k b m) ≤ n - 1
-  solutions-few true = omega (arith, others-few (boundTo Solution m))
+  solutions-few true = omega (arith, others-few (sentTo Solution (boundOnly m)))
   solutions-few false = omega arith
 
   handed-few : (j : ℕ) → j ≡ k → (b : Bool) → (b ≡ true → suc k ≡ n) → length (handBack n j m) + length (solutions n k b m) ≤ n
-  handed-few zero q false l = omega (arith, each-length (boundTo Stop m) 1 (n - 1))
-  handed-few zero q true l = omega (arith, l refl, each-length (boundTo Stop m) 1 (n - 1), others-few (boundTo Solution m))
+  handed-few zero q false l = omega (arith, each-length (sentTo Stop (boundOnly m)) 1 (n - 1))
+  handed-few zero q true l = omega (arith, l refl, each-length (sentTo Stop (boundOnly m)) 1 (n - 1), others-few (sentTo Solution (boundOnly m)))
   handed-few (suc j) q b l = omega (arith, solutions-few b)
 
   pub back-few : (b : Bool) → (b ≡ true → suc k ≡ n) → length (byPlan n k Back b m) ≤ n

@@ -9,7 +9,8 @@ use lib.Dec.{ltb}
 use lib.ListN.{getD, length}
 use borrow.Author.Tests.{lt-ltb}
 use Rattle.base.specs.Shape.{shapeGood, shape-n, shape-size}
-use Rattle.costs.specs.Instance.{lentView}
+use Rattle.costs.specs.declared.Seat.{Seat}
+use Rattle.costs.specs.Instance.{lentView, viewFrom}
 use Rattle.message.specs.declared.Message.{Message}
 use Rattle.message.specs.declared.Kind.{Kind}
 use Rattle.message.specs.declared.Kind.the-variants.{Cpa, Request, Estimate, Solution, Stop}
@@ -25,23 +26,23 @@ use Rattle.unit.specs.Laws.Range.{range-facts}
 pub own-of : (own n : ℕ) (sizes : List ℕ) → shapeGood n sizes ≡ true → isUnit n own ≡ true → Own own
 own-of own n sizes s e = let u = unit-range n own e in record { first = u .0; last = omega (arith, u .1, shape-n n sizes s .1) }
 
-pub shaped-of : (own n : ℕ) (sizes : List ℕ) → shapeGood n sizes ≡ true → isUnit n own ≡ true → Shaped own n sizes
-shaped-of own n sizes s e = record { number = own-of own n sizes s e; within = unit-range n own e .1; shape = s }
+pub shaped-of : (seat : Seat) → shapeGood (seat .n) (seat .sizes) ≡ true → isUnit (seat .n) (seat .own) ≡ true → Shaped seat
+shaped-of seat s e = record { number = own-of (seat .own) (seat .n) (seat .sizes) s e; within = unit-range (seat .n) (seat .own) e .1; shape = s }
 
 -- ---- the state
 
-value-at : (own n : ℕ) (sizes costs : List ℕ) (u : Unit) → ownValue (lentView own n sizes costs) u ≡ getD (u .values) (own - 1) 0
+value-at : (seat : Seat) (costs : List ℕ) (u : Unit) → ownValue (viewFrom seat costs) u ≡ getD (u .values) (seat .own - 1) 0
 unfolding lentView
-value-at own n sizes costs u = ap (λ (k : ℕ). getD (u .values) k 0) (go own) where
+value-at seat costs u = ap (λ (k : ℕ). getD (u .values) k 0) (go (seat .own)) where
   go : (k : ℕ) → pred k ≡ k - 1
   go zero = refl
   go (suc k) = omega arith
 
-pub ready-of : (own n : ℕ) (sizes costs : List ℕ) (u : Unit) → Own own → inRange sizes (lentView own n sizes costs) u ≡ true → Ready own u
-ready-of own n sizes costs u o e =
-    let f = range-facts sizes (lentView own n sizes costs) u e in
-    let v = value-at own n sizes costs u in
-    record { threshold = f .threshold (own - 1) (omega arith); counter = λ z. rw v at (f .out (rw v z) .tried) }
+pub ready-of : (seat : Seat) (costs : List ℕ) (u : Unit) → Own (seat .own) → inRange (seat .sizes) (viewFrom seat costs) u ≡ true → Ready (seat .own) u
+ready-of seat costs u o e =
+    let f = range-facts (seat .sizes) (viewFrom seat costs) u e in
+    let v = value-at seat costs u in
+    record { threshold = f .threshold (seat .own - 1) (omega arith); counter = λ z. rw v at (f .out (rw v z) .tried) }
 
 -- 01: "It starts with bound none, all else zero."
 pub ready-fresh : (own : ℕ) → Own own → Ready own fresh

@@ -18,37 +18,37 @@ use Rattle.message.specs.declared.Read.the-variants.{Good, Refused}
 use Rattle.message.specs.Message.{kindOf, wellFormed}
 use Rattle.message.specs.Decode.{messageIn, checkGood, restZero, addressedTo, parseKind, parseFor}
 use Rattle.unit.specs.declared.Unit.{Unit as State}
-use Rattle.unit.specs.declared.Order.{Order}
-use Rattle.unit.specs.declared.Order.the-variants.{Smaller, Equal, Bigger}
+use Rattle.unit.specs.declared.Ordering.{Ordering}
+use Rattle.unit.specs.declared.Ordering.the-variants.{Less, Equal, Greater}
 use Rattle.unit.specs.State.{ownValue, left, compareOn, sameOn, withBest, withCpa, withThreshold}
-use Rattle.unit.specs.Step.{Out, refused, accepted, Written, after, takeBound, takeOff, begun, isLast, recordOf, write, afterWrite, tryValue, tryAfter, assign, backtrack, bareCost, reachedBound, resume, onDown, isCpaOut, onOwn, onBack, onEither, onCpa, onFresh, onRequest, sumLater, stored, isOut, reachedByEstimates, onOwnEstimate, onTimely, onEstimate, onSolution, onStop, byKind, unlessStopped, respond}
+use Rattle.unit.specs.Step.{Decision, refused, accepted, Written, after, takeBound, takeOff, begun, isLast, recordOf, write, afterWrite, tryValue, tryAfter, assign, backtrack, bareCost, reachedBound, resume, onDown, isCpaOut, onOwn, onBack, onEither, onCpa, onFresh, onRequest, sumLater, stored, isOut, reachedByEstimates, onOwnEstimate, onTimely, onEstimate, onSolution, onStop, byKind, unlessStopped, respond}
 use Rattle.unit.specs.Calls.{onRead}
 
-abbrev pub Numbered : Out → Type 0
+abbrev pub Numbered : Decision → Type 0
 Numbered (refused r) = 1 ≤ r
 Numbered (accepted u s ws) = Unit {0}
 
-abbrev pub Accepts : Out → Type 0
+abbrev pub Accepts : Decision → Type 0
 Accepts (refused r) = ⊥
 Accepts (accepted u s ws) = Unit {0}
 
-accepts-numbered : (o : Out) → Accepts o → Numbered o
+accepts-numbered : (o : Decision) → Accepts o → Numbered o
 accepts-numbered (refused r) a = absurd a
 accepts-numbered (accepted u s ws) a = tt
 
 -- ---- assigning
 
-after-accepts : (r : Written) (o : Out) → Accepts o → Accepts (after r o)
+after-accepts : (r : Written) (o : Decision) → Accepts o → Accepts (after r o)
 after-accepts r (refused x) a = a
 after-accepts r (accepted u s ws) a = tt
 
-written-accepts : (w : View) (t : Bool) (u : State) (again : Bool → State → Out) → ((b : Bool) (u : State) → Accepts (again b u)) → Accepts (afterWrite w t u again)
+written-accepts : (w : View) (t : Bool) (u : State) (again : Bool → State → Decision) → ((b : Bool) (u : State) → Accepts (again b u)) → Accepts (afterWrite w t u again)
 written-accepts w true u again f =
     let t : State = takeOff w (withBest (u .cost) (u .values) u) in
     after-accepts (recordOf w u) (again true t) (f true t)
 written-accepts w false u again f = tt
 
-value-accepts : (w : View) (t : Bool) (v c : ℕ) (b : Bool) (u : State) (again : Bool → State → Out) → ((b : Bool) (u : State) → Accepts (again b u)) → Accepts (tryValue w t v c b u again)
+value-accepts : (w : View) (t : Bool) (v c : ℕ) (b : Bool) (u : State) (again : Bool → State → Decision) → ((b : Bool) (u : State) → Accepts (again b u)) → Accepts (tryValue w t v c b u again)
 value-accepts w true v c b u again f = written-accepts w (isLast w) (write w v c u) again f
 value-accepts w false v c b u again f = f b u
 
@@ -85,15 +85,15 @@ module _ (w : View) (u : State) (m : Message) where
   own-numbered true = resumes w (takeBound m u)
   own-numbered false = omega arith
 
-  down-numbered : (o : Order) → Numbered (onDown w o u m)
-  down-numbered Smaller = tt
+  down-numbered : (o : Ordering) → Numbered (onDown w o u m)
+  down-numbered Less = tt
   down-numbered Equal = resumes w (takeBound m (withCpa (m .stamp) (m .values) (m .cost) u))
-  down-numbered Bigger = resumes w (takeBound m (withCpa (m .stamp) (m .values) (m .cost) (withThreshold (m .stamp) u)))
+  down-numbered Greater = resumes w (takeBound m (withCpa (m .stamp) (m .values) (m .cost) (withThreshold (m .stamp) u)))
 
-  back-numbered : (o : Order) → Numbered (onBack w o u m)
-  back-numbered Smaller = tt
+  back-numbered : (o : Ordering) → Numbered (onBack w o u m)
+  back-numbered Less = tt
   back-numbered Equal = own-numbered (isCpaOut w u m)
-  back-numbered Bigger = own-numbered (isCpaOut w u m)
+  back-numbered Greater = own-numbered (isCpaOut w u m)
 
   either-numbered : (t : Bool) → Numbered (onEither w t u m)
   either-numbered true = down-numbered (compareOn (suc (w .place)) (m .stamp) (u .threshold))
@@ -103,10 +103,10 @@ module _ (w : View) (u : State) (m : Message) where
   unfolding onCpa
   cpa-numbered = either-numbered (ltb (m .sender) (suc (w .place)))
 
-  fresh-numbered : (o : Order) → Numbered (onFresh w o u m)
-  fresh-numbered Smaller = tt
+  fresh-numbered : (o : Ordering) → Numbered (onFresh w o u m)
+  fresh-numbered Less = tt
   fresh-numbered Equal = tt
-  fresh-numbered Bigger = tt
+  fresh-numbered Greater = tt
 
   request-numbered : Numbered (onRequest w u m)
   unfolding onRequest
@@ -120,10 +120,10 @@ own-estimate-numbered : (w : View) (t : Bool) (u : State) → Numbered (onOwnEst
 own-estimate-numbered w true u = reached-numbered w (leb (u .bound) (u .cost + sumLater w (u .estimates))) u
 own-estimate-numbered w false u = omega arith
 
-timely-numbered : (w : View) (o : Order) (u : State) (m : Message) → Numbered (onTimely w o u m)
-timely-numbered w Smaller u m = tt
+timely-numbered : (w : View) (o : Ordering) (u : State) (m : Message) → Numbered (onTimely w o u m)
+timely-numbered w Less u m = tt
 timely-numbered w Equal u m = own-estimate-numbered w (isOut w u && sameOn (suc (w .place)) (m .stamp) (u .stamp)) (stored m u)
-timely-numbered w Bigger u m = omega arith
+timely-numbered w Greater u m = omega arith
 
 kind-numbered : (w : View) (k : Kind) (u : State) (m : Message) → Numbered (byKind w k u m)
 unfolding onEstimate onSolution onStop

@@ -1,15 +1,16 @@
--- A message that reads well, taken by a unit in range, leaves it in range, and what it sends can be written (`respond-kept`, `packets-written`);
--- and so does making (`fresh-kept`, `start-kept`). Message by message: each leaves, before the unit assigns or backtracks, a threshold whose own
+-- A message that reads well, taken by a unit in range, leaves it in range, and what it sends can be written (`respond-kept`);
+-- and so does making (`start-kept`). Message by message: each leaves, before the unit assigns or backtracks, a threshold whose own
 -- place is the CPA's, so at most 16 (`Ready`). In order: states beside one another; CPAs; requests; estimates; solutions and stops; any message; making.
 -- Assumes nothing.
 use Prim.Native.Nat.{ℕ, zero, suc, _+_, _-_, _≤_, _<_}
-use mathlib.Core.Path.{_≡_, refl, sym, ap, subst}
+use mathlib.Core.Path.{_≡_, refl, sym, ap}
 use mathlib.Core.Bool.{Bool, true, false, _&&_}
 use mathlib.Core.List.{List, []}
 use native.Mathlib.Omega.{arith}
 use lib.Dec.{ltb, leb}
 use lib.ListN.{length, getD, set, length-set}
 use borrow.Author.Tests.{ltb-true, lt-ltb}
+use Rattle.base.specs.Limits.{estimateLimit, prefixLimit}
 use Rattle.base.specs.Shape.{and-left, and-right}
 use Rattle.costs.specs.Instance.{View}
 use Rattle.costs.specs.Bounds.{estimate}
@@ -17,14 +18,13 @@ use Rattle.costs.specs.Lent.Bounds.{estimate-most}
 use Rattle.message.specs.declared.Message.{Message}
 use Rattle.message.specs.declared.Kind.{Kind}
 use Rattle.message.specs.declared.Kind.the-variants.{Cpa, Request, Estimate, Solution, Stop}
-use Rattle.message.specs.Message.{Sized, totalLimit, prefixLimit, filledTo, noneOrBound, cpaCount}
+use Rattle.message.specs.Message.{Sized, filledTo, noneOrBound, cpaCount}
 use Rattle.message.specs.Laws.{blank-filled, no-bound-by, address-by, Addressed, addressed, Formed, formed-by, formed, filled-at, filled-past}
 use Rattle.unit.specs.declared.Unit.{Unit as State}
-use Rattle.unit.specs.declared.Order.{Order}
-use Rattle.unit.specs.declared.Order.the-variants.{Smaller, Equal, Bigger}
-use Rattle.unit.specs.declared.Sending.{Sending}
-use Rattle.unit.specs.State.{zeros, fresh, withThreshold, withCpa, ownValue, compareOn, sameOn, notSmaller, inRange}
-use Rattle.unit.specs.Step.{accepted, Written, silent, takeLower, takeBound, onDown, isOut, isCpaOut, onOwn, onBack, onEither, onCpa, reply, onFresh, onRequest, sumLater, reachedByEstimates, stored, onOwnEstimate, onTimely, onEstimate, onSolution, onStop, unlessStopped, respond}
+use Rattle.unit.specs.declared.Ordering.{Ordering}
+use Rattle.unit.specs.declared.Ordering.the-variants.{Less, Equal, Greater}
+use Rattle.unit.specs.State.{zeros, fresh, withThreshold, withCpa, ownValue, compareOn, sameOn, notLess, inRange}
+use Rattle.unit.specs.Step.{silent, takeLower, takeBound, onDown, isOut, isCpaOut, onOwn, onBack, onEither, onCpa, reply, onFresh, onRequest, sumLater, reachedByEstimates, stored, onOwnEstimate, onTimely, onEstimate, onSolution, onStop, unlessStopped, respond}
 use Rattle.unit.specs.Send.{packet, packets}
 use Rattle.unit.specs.Calls.{start}
 use Rattle.unit.specs.Laws.Views.{GoodView, units-most, place-16, size-most}
@@ -32,7 +32,7 @@ use Rattle.unit.specs.Laws.Stamps.{SamePlaces, same-places, equal-places
 use Rattle.unit.specs.Laws.Filled.{filled-off, filled-most, zeros-at, set-most, good-or-none}
 use Rattle.unit.specs.Laws.Range.{SizedUnit, InRange, range-facts, range-tests}
 use Rattle.unit.specs.Laws.Packets.{Sendable, reply-sendable}
-use Rattle.unit.specs.Laws.Assign.{Whenever, Kept, Ready, assign-kept, resume-kept}
+use Rattle.unit.specs.Laws.Assign.{Whenever, GoodDecision, Ready, assign-kept, resume-kept}
 
 -- ---- states with the same CPA out
 
@@ -56,7 +56,7 @@ module _ (n : ℕ) (sizes : List ℕ) (w : View) (g : GoodView n sizes w) where
 
   module _ (u : State) (r : InRange sizes w u) (a : SizedUnit u) where
     same-cpa-range : (t : List ℕ) (B : ℕ) (l e : List ℕ) (b : Bool) → ((j : ℕ) → j < 16 → getD t j 0 ≤ 17) → noneOrBound n sizes B l ≡ true
-        → ((j : ℕ) → j < 16 → getD e j 0 ≤ totalLimit) → (1 ≤ ownValue w u → notSmaller (compareOn (suc (w .place)) t (u .stamp)) ≡ true) → InRange sizes w (sameCpa u t B l e b)
+        → ((j : ℕ) → j < 16 → getD e j 0 ≤ estimateLimit) → (1 ≤ ownValue w u → notLess (compareOn (suc (w .place)) t (u .stamp)) ≡ true) → InRange sizes w (sameCpa u t B l e b)
     same-cpa-range t B l e b ht hb he hs =
         record {
           threshold = ht;
@@ -84,7 +84,7 @@ module _ (n : ℕ) (sizes : List ℕ) (w : View) (g : GoodView n sizes w) where
     lower-arrays B l h false = a
 
     -- a state that only listens
-    quiet-kept : Kept n sizes w 16 u silent []
+    quiet-kept : GoodDecision n sizes w 16 u silent []
     unfolding packets
     quiet-kept = record { state = range-tests sizes w u r; arrays = a; sent = tt; few = omega arith; records = omega arith }
 
@@ -152,26 +152,26 @@ module _ (n : ℕ) (sizes : List ℕ) (w : View) (g : GoodView n sizes w) where
             tried = λ l. absurd (omega arith);
           }
 
-      down-kept : ltb (m .sender) (suc (w .place)) ≡ true → (o : Order) → compareOn (suc (w .place)) (m .stamp) (u .threshold) ≡ o → Whenever (Kept n sizes w 16) (onDown w o u m)
-      down-kept e Smaller p = quiet-kept u r a
+      down-kept : ltb (m .sender) (suc (w .place)) ≡ true → (o : Ordering) → compareOn (suc (w .place)) (m .stamp) (u .threshold) ≡ o → Whenever (GoodDecision n sizes w 16) (onDown w o u m)
+      down-kept e Less p = quiet-kept u r a
       down-kept e Equal p =
           let s : filledTo (w .place) sizes (m .stamp) ≡ true = rw (down-count e) at (f .stamps) in
           let own : getD (u .threshold) (w .place) 0 ≤ 16 = omega (arith, equal-places (suc (w .place)) (m .stamp) (u .threshold) p (w .place) (omega arith), filled-past (w .place) sizes (m .stamp) s (w .place) (omega arith) k16) in
           let x : State = withCpa (m .stamp) (m .values) (m .cost) u in
           resume-kept n sizes w g (takeBound m x) (ready-lower x (down-ready e (u .threshold) (a .threshold) (r .threshold) own) (m .bound) (m .best) (q .best) (f .bound) (ltb (m .bound) (x .bound)))
-      down-kept e Bigger p =
+      down-kept e Greater p =
           let s : filledTo (w .place) sizes (m .stamp) ≡ true = rw (down-count e) at (f .stamps) in
           let most : (j : ℕ) → j < 16 → getD (m .stamp) j 0 ≤ 16 = filled-most n (w .place) sizes (m .stamp) (omega (arith, g .place)) (size-most n sizes w g) s in
           let x : State = withCpa (m .stamp) (m .values) (m .cost) (withThreshold (m .stamp) u) in
           resume-kept n sizes w g (takeBound m x) (ready-lower x (down-ready e (m .stamp) (q .stamp) (λ j l. omega (arith, most j l)) (most (w .place) k16)) (m .bound) (m .best) (q .best) (f .bound) (ltb (m .bound) (x .bound)))
 
       -- going back, it isn't smaller than the threshold, nor is the threshold smaller than it: the own places are equal
-      own-threshold : 1 ≤ ownValue w u → SamePlaces (suc (w .place)) (m .stamp) (u .stamp) → notSmaller (compareOn (suc (w .place)) (m .stamp) (u .threshold)) ≡ true → getD (u .threshold) (w .place) 0 ≤ 16
+      own-threshold : 1 ≤ ownValue w u → SamePlaces (suc (w .place)) (m .stamp) (u .stamp) → notLess (compareOn (suc (w .place)) (m .stamp) (u .threshold)) ≡ true → getD (u .threshold) (w .place) 0 ≤ 16
       own-threshold o same not-stale =
-          let back : notSmaller (compareOn (suc (w .place)) (u .stamp) (u .threshold)) ≡ true = rw (places-compare (suc (w .place)) (m .stamp) (u .stamp) (u .threshold) same) at not-stale in
+          let back : notLess (compareOn (suc (w .place)) (u .stamp) (u .threshold)) ≡ true = rw (places-compare (suc (w .place)) (m .stamp) (u .stamp) (u .threshold) same) at not-stale in
           omega (arith, both-ways (suc (w .place)) (u .threshold) (u .stamp) (r .out o .threshold) back (w .place) (omega arith), own-stamp-most u r a o)
 
-      own-kept : notSmaller (compareOn (suc (w .place)) (m .stamp) (u .threshold)) ≡ true → (t : Bool) → isCpaOut w u m ≡ t → Whenever (Kept n sizes w 16) (onOwn w t u m)
+      own-kept : notLess (compareOn (suc (w .place)) (m .stamp) (u .threshold)) ≡ true → (t : Bool) → isCpaOut w u m ≡ t → Whenever (GoodDecision n sizes w 16) (onOwn w t u m)
       own-kept not-stale false p = tt
       own-kept not-stale true p =
           let e : _ = and-left _ _ p in
@@ -180,16 +180,16 @@ module _ (n : ℕ) (sizes : List ℕ) (w : View) (g : GoodView n sizes w) where
           let same : SamePlaces (suc (w .place)) (m .stamp) (u .stamp) = same-places (suc (w .place)) (m .stamp) (u .stamp) (and-right (isOut w u) _ d) in
           resume-kept n sizes w g (takeBound m u) (ready-lower u (out-ready u r a o (own-threshold o same not-stale)) (m .bound) (m .best) (q .best) (f .bound) (ltb (m .bound) (u .bound)))
 
-      back-kept : (o : Order) → compareOn (suc (w .place)) (m .stamp) (u .threshold) ≡ o → Whenever (Kept n sizes w 16) (onBack w o u m)
-      back-kept Smaller p = quiet-kept u r a
-      back-kept Equal p = own-kept (ap notSmaller p) (isCpaOut w u m) refl
-      back-kept Bigger p = own-kept (ap notSmaller p) (isCpaOut w u m) refl
+      back-kept : (o : Ordering) → compareOn (suc (w .place)) (m .stamp) (u .threshold) ≡ o → Whenever (GoodDecision n sizes w 16) (onBack w o u m)
+      back-kept Less p = quiet-kept u r a
+      back-kept Equal p = own-kept (ap notLess p) (isCpaOut w u m) refl
+      back-kept Greater p = own-kept (ap notLess p) (isCpaOut w u m) refl
 
-      cpa-kept : Whenever (Kept n sizes w 16) (onCpa w u m)
+      cpa-kept : Whenever (GoodDecision n sizes w 16) (onCpa w u m)
       unfolding onCpa
       cpa-kept = go (ltb (m .sender) (suc (w .place))) refl
         where
-          go : (t : Bool) → ltb (m .sender) (suc (w .place)) ≡ t → Whenever (Kept n sizes w 16) (onEither w t u m)
+          go : (t : Bool) → ltb (m .sender) (suc (w .place)) ≡ t → Whenever (GoodDecision n sizes w 16) (onEither w t u m)
           go true e = down-kept e (compareOn (suc (w .place)) (m .stamp) (u .threshold)) refl
           go false e = back-kept (compareOn (suc (w .place)) (m .stamp) (u .threshold)) refl
 
@@ -201,7 +201,7 @@ module _ (n : ℕ) (sizes : List ℕ) (w : View) (g : GoodView n sizes w) where
 
       reply-good : Sendable n sizes (packet Estimate (reply w m .message))
       reply-good =
-          let cost-most : estimate w (m .values) (m .sender) ≤ totalLimit = omega (arith, estimate-most w (g .small) (m .values) (m .sender), earlier, g .units, g .place, units-most n sizes w g) in
+          let cost-most : estimate w (m .values) (m .sender) ≤ estimateLimit = omega (arith, estimate-most w (g .small) (m .values) (m .sender), earlier, g .units, g .place, units-most n sizes w g) in
           record {
             address = address-by n (reply w m .message) (omega arith) (g .place) (from .from) (from .fromMost);
             form =
@@ -210,7 +210,7 @@ module _ (n : ℕ) (sizes : List ℕ) (w : View) (g : GoodView n sizes w) where
             arrays = record { stamp = q .stamp; values = refl; best = refl; cost = omega arith; bound = omega arith };
           }
 
-      reply-kept : (x : State) → InRange sizes w x → SizedUnit x → Kept n sizes w 16 x (reply w m) []
+      reply-kept : (x : State) → InRange sizes w x → SizedUnit x → GoodDecision n sizes w 16 x (reply w m) []
       unfolding packets
       reply-kept x rx ax =
           record {
@@ -221,17 +221,17 @@ module _ (n : ℕ) (sizes : List ℕ) (w : View) (g : GoodView n sizes w) where
             records = omega arith;
           }
 
-      fresh-request-kept : (o : Order) → compareOn (w .place) (m .stamp) (u .threshold) ≡ o → Whenever (Kept n sizes w 16) (onFresh w o u m)
-      fresh-request-kept Smaller p = quiet-kept u r a
+      fresh-request-kept : (o : Ordering) → compareOn (w .place) (m .stamp) (u .threshold) ≡ o → Whenever (GoodDecision n sizes w 16) (onFresh w o u m)
+      fresh-request-kept Less p = quiet-kept u r a
       fresh-request-kept Equal p = reply-kept u r a
-      fresh-request-kept Bigger p =
+      fresh-request-kept Greater p =
           let most : (j : ℕ) → j < 16 → getD (m .stamp) j 0 ≤ 16 = filled-most n (m .sender) sizes (m .stamp) (from .fromMost) (size-most n sizes w g) (f .stamps) in
           reply-kept (withThreshold (m .stamp) u)
           (same-cpa-range u r a (m .stamp) (u .bound) (u .best) (u .estimates) (u .stopped) (λ j l. omega (arith, most j l)) (own-bound u r a) (r .estimates)
-          (λ o. ap notSmaller (bigger-more (w .place) (m .stamp) (u .stamp) (bigger-than (w .place) (m .stamp) (u .threshold) (u .stamp) p (fewer-not-smaller (w .place) (u .threshold) (u .stamp) (r .out o .threshold))))))
+          (λ o. ap notLess (bigger-more (w .place) (m .stamp) (u .stamp) (bigger-than (w .place) (m .stamp) (u .threshold) (u .stamp) p (fewer-not-smaller (w .place) (u .threshold) (u .stamp) (r .out o .threshold))))))
           (same-cpa-arrays u r a (m .stamp) (u .bound) (u .best) (u .estimates) (u .stopped) (q .stamp) (a .best) (a .estimates))
 
-      request-kept : Whenever (Kept n sizes w 16) (onRequest w u m)
+      request-kept : Whenever (GoodDecision n sizes w 16) (onRequest w u m)
       unfolding onRequest
       request-kept = fresh-request-kept (compareOn (w .place) (m .stamp) (u .threshold)) refl
 
@@ -241,17 +241,17 @@ module _ (n : ℕ) (sizes : List ℕ) (w : View) (g : GoodView n sizes w) where
       stored-range : InRange sizes w (stored m u)
       stored-range =
           same-cpa-range u r a (u .threshold) (u .bound) (u .best) (set (u .estimates) (m .sender - 1) (m .cost)) (u .stopped) (r .threshold) (own-bound u r a)
-          (set-most totalLimit (u .estimates) (m .sender - 1) (m .cost) (a .estimates) (omega (arith, from, units-most n sizes w g)) (f .cost) (r .estimates)) (λ o. r .out o .threshold)
+          (set-most estimateLimit (u .estimates) (m .sender - 1) (m .cost) (a .estimates) (omega (arith, from, units-most n sizes w g)) (f .cost) (r .estimates)) (λ o. r .out o .threshold)
 
       stored-arrays : SizedUnit (stored m u)
       stored-arrays = same-cpa-arrays u r a (u .threshold) (u .bound) (u .best) (set (u .estimates) (m .sender - 1) (m .cost)) (u .stopped) (a .threshold) (a .best) (rw length-set (a .estimates))
 
-      reached-kept : 1 ≤ ownValue w u → getD (u .threshold) (w .place) 0 ≤ 16 → (t : Bool) → Whenever (Kept n sizes w 16) (reachedByEstimates w t (stored m u))
+      reached-kept : 1 ≤ ownValue w u → getD (u .threshold) (w .place) 0 ≤ 16 → (t : Bool) → Whenever (GoodDecision n sizes w 16) (reachedByEstimates w t (stored m u))
       reached-kept o l true = assign-kept n sizes w g (stored m u) (out-ready (stored m u) stored-range stored-arrays o l)
       reached-kept o l false = quiet-kept (stored m u) stored-range stored-arrays
 
       own-estimate-kept : compareOn (suc (w .place)) (m .stamp) (u .threshold) ≡ Equal → (t : Bool) → (isOut w u && sameOn (suc (w .place)) (m .stamp) (u .stamp)) ≡ t
-          → Whenever (Kept n sizes w 16) (onOwnEstimate w t (stored m u))
+          → Whenever (GoodDecision n sizes w 16) (onOwnEstimate w t (stored m u))
       own-estimate-kept e false p = tt
       own-estimate-kept e true p =
           let o : 1 ≤ ownValue w u = ltb-true 0 (ownValue w u) (and-left _ _ p) in
@@ -259,24 +259,24 @@ module _ (n : ℕ) (sizes : List ℕ) (w : View) (g : GoodView n sizes w) where
           let also : getD (m .stamp) (w .place) 0 ≡ getD (u .threshold) (w .place) 0 = equal-places (suc (w .place)) (m .stamp) (u .threshold) e (w .place) (omega arith) in
           reached-kept o (omega (arith, own-stamp-most u r a o)) (leb (u .bound) (u .cost + sumLater w (stored m u .estimates)))
 
-      timely-kept : (o : Order) → compareOn (suc (w .place)) (m .stamp) (u .threshold) ≡ o → Whenever (Kept n sizes w 16) (onTimely w o u m)
-      timely-kept Smaller p = quiet-kept u r a
+      timely-kept : (o : Ordering) → compareOn (suc (w .place)) (m .stamp) (u .threshold) ≡ o → Whenever (GoodDecision n sizes w 16) (onTimely w o u m)
+      timely-kept Less p = quiet-kept u r a
       timely-kept Equal p = own-estimate-kept p (isOut w u && sameOn (suc (w .place)) (m .stamp) (u .stamp)) refl
-      timely-kept Bigger p = tt
+      timely-kept Greater p = tt
 
-      estimate-kept : Whenever (Kept n sizes w 16) (onEstimate w u m)
+      estimate-kept : Whenever (GoodDecision n sizes w 16) (onEstimate w u m)
       unfolding onEstimate
       estimate-kept = timely-kept (compareOn (suc (w .place)) (m .stamp) (u .threshold)) refl
 
     -- ---- solutions and stops
 
-    solution-kept : noneOrBound n sizes (m .bound) (m .best) ≡ true → Whenever (Kept n sizes w 16) (onSolution w u m)
+    solution-kept : noneOrBound n sizes (m .bound) (m .best) ≡ true → Whenever (GoodDecision n sizes w 16) (onSolution w u m)
     unfolding onSolution
     solution-kept h =
         let t : Bool = ltb (m .bound) (u .bound) in
         quiet-kept (takeBound m u) (lower-range u r a (m .bound) (m .best) h t) (lower-arrays u r a (m .bound) (m .best) (q .best) t)
 
-    stop-kept : noneOrBound n sizes (m .bound) (m .best) ≡ true → Whenever (Kept n sizes w 16) (onStop w u m)
+    stop-kept : noneOrBound n sizes (m .bound) (m .best) ≡ true → Whenever (GoodDecision n sizes w 16) (onStop w u m)
     unfolding onStop
     stop-kept h =
         let t : Bool = ltb (m .bound) (u .bound) in
@@ -290,25 +290,20 @@ module _ (n : ℕ) (sizes : List ℕ) (w : View) (g : GoodView n sizes w) where
   -- ---- any message
 
   pub respond-kept : (kind : Kind) (u : State) (m : Message) → inRange sizes w u ≡ true → SizedUnit u → Sendable n sizes (packet kind m) → m .receiver ≡ suc (w .place)
-      → Whenever (Kept n sizes w 16) (respond w kind u m)
+      → Whenever (GoodDecision n sizes w 16) (respond w kind u m)
   unfolding respond
   respond-kept kind u m e a p to = go (u .stopped) kind p
     where
       r : InRange sizes w u
       r = range-facts sizes w u e
 
-      go : (s : Bool) (t : Kind) → Sendable n sizes (packet t m) → Whenever (Kept n sizes w 16) (unlessStopped s w t u m)
+      go : (s : Bool) (t : Kind) → Sendable n sizes (packet t m) → Whenever (GoodDecision n sizes w 16) (unlessStopped s w t u m)
       go true t p = tt
       go false Cpa p = cpa-kept u r a m (p .arrays) to (formed n sizes Cpa m (p .form))
       go false Request p = request-kept u r a m (p .arrays) to (formed n sizes Request m (p .form)) (addressed n m (p .address))
       go false Estimate p = estimate-kept u r a m (p .arrays) to (formed n sizes Estimate m (p .form)) (addressed n m (p .address))
       go false Solution p = solution-kept u r a m (p .arrays) to (good-or-none n sizes (m .bound) (m .best) (formed n sizes Solution m (p .form) .bound))
       go false Stop p = stop-kept u r a m (p .arrays) to (formed n sizes Stop m (p .form) .bound)
-
-  -- the same, of a step known to be accepted
-  pub packets-written : (kind : Kind) (u : State) (m : Message) → inRange sizes w u ≡ true → SizedUnit u → Sendable n sizes (packet kind m) → m .receiver ≡ suc (w .place)
-      → (u′ : State) (s : Sending) (ws : List Written) → respond w kind u m ≡ accepted u′ s ws → Kept n sizes w 16 u′ s ws
-  packets-written kind u m e a p to u′ s ws q = subst (Whenever (Kept n sizes w 16)) q (respond-kept kind u m e a p to)
 
   -- ---- making
 
@@ -348,6 +343,6 @@ module _ (n : ℕ) (sizes : List ℕ) (w : View) (g : GoodView n sizes w) where
         tried = λ l. omega arith;
       }
 
-  pub start-kept : (k : ℕ) → k ≡ w .place → Whenever (Kept n sizes w 16) (start w k)
+  pub start-kept : (k : ℕ) → k ≡ w .place → Whenever (GoodDecision n sizes w 16) (start w k)
   start-kept zero e = assign-kept n sizes w g fresh (fresh-ready (sym e))
   start-kept (suc k) e = quiet-kept fresh fresh-range fresh-arrays

@@ -17,13 +17,13 @@ use Rattle.message.specs.Message.{Packet, isUnit, addressGood}
 use Rattle.unit.specs.declared.Unit.{Unit as State}
 use Rattle.unit.specs.declared.Sending.{Sending}
 use Rattle.unit.specs.State.{fresh, emptyUnit, inRange}
-use Rattle.unit.specs.Step.{Out, refused, accepted, Written, assign}
+use Rattle.unit.specs.Step.{Decision, refused, accepted, Written, assign}
 use Rattle.unit.specs.Send.{packets}
 use Rattle.unit.specs.Units.{unitAt, placeOf, stepOn}
 use Rattle.unit.specs.Laws.Views.{GoodView, unit-range}
 use Rattle.unit.specs.Laws.Range.{SizedUnit}
 use Rattle.unit.specs.Laws.Packets.{All, Sendable}
-use Rattle.unit.specs.Laws.Assign.{Whenever, Kept}
+use Rattle.unit.specs.Laws.Assign.{Whenever, GoodDecision}
 use Rattle.unit.specs.Laws.Steps.{respond-kept, fresh-arrays, fresh-in-range, start-kept}
 
 -- what holds of all packets holds of each
@@ -75,7 +75,7 @@ pub record Leaves (I : Instance) (sizes : List ℕ) (us : List State) (k : ℕ) 
   pub few : length (packets (I .n) k s) ≤ 16
 
 module _ (I : Instance) (sizes : List ℕ) (n16 : I .n ≤ 16) (views : (k : ℕ) → k < I .n → GoodView (I .n) sizes (viewOf I k)) where
-  leaves : (us : List State) → AllInRange I sizes us → (k : ℕ) → k < I .n → (o : Out) → Whenever (Kept (I .n) sizes (viewOf I k) 16) o → Whenever (Leaves I sizes us k) o
+  leaves : (us : List State) → AllInRange I sizes us → (k : ℕ) → k < I .n → (o : Decision) → Whenever (GoodDecision (I .n) sizes (viewOf I k) 16) o → Whenever (Leaves I sizes us k) o
   leaves us r k lt (refused x) h = tt
   leaves us r k lt (accepted u s ws) h =
       record {

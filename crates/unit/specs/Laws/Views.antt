@@ -1,6 +1,6 @@
 -- What holds of a view of n units of the sizes: the number of units, the own place, its domain, and the limit of its costs; and the sizes in range.
 -- The costs lent with a step that was not refused give such a view, and so does an accepted table, by crate costs. Assumes nothing.
-use Prim.Native.Nat.{ℕ, _-_, _≤_, _<_, pred}
+use Prim.Native.Nat.{ℕ, _≤_, _<_, pred}
 use mathlib.Core.Path.{_≡_, refl}
 use mathlib.Core.Bool.{Bool, true, false, cond}
 use mathlib.Core.List.{List}

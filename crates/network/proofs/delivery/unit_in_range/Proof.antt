@@ -2,6 +2,7 @@
 use Prim.Native.Nat.{_+_, pred}
 use mathlib.Core.Path.{_≡_, _∙_}
 use native.Mathlib.Omega.{arith}
+use Rattle.unit.specs.Laws.Range.{range-numbered}
 use borrow.Author.Needs.{needs}
 use Rattle.network.proofs.delivery.unit_in_range.Statement.{statement}
 use Rattle.network.proofs.delivery.unit_in_range.Tie as tie
@@ -10,7 +11,7 @@ returns : tie.Need-returns
 returns c =
     let a = c .before .before .before .before .args in
     let p : pred (a .k + 1) ≡ a .k = omega arith in
-    c .in-range-paid .ensures ∙ rw (c .before .stream-cost-with .ensures, p)
+    c .in-range-paid .ensures ∙ range-numbered (a .n) (a .sizes) (a .k) _ (a .u) (omega arith) ∙ rw (c .before .stream-cost-with .ensures, p)
 
 pub unit-in-range-spec : {M : Type 1} → statement M
 unit-in-range-spec =

@@ -1,9 +1,9 @@
 -- `assign` meets its contract: the values after the own one are tried, from where `begin` leaves the state.
 -- Assumes nothing.
-use Prim.Native.Nat.{_-_}
 use mathlib.Core.Path.{ap, _∙_}
-use Rattle.costs.specs.Instance.{lentView}
-use Rattle.unit.specs.Step.{Out, decidedOf}
+use Rattle.costs.specs.Instance.{viewFrom}
+use Rattle.unit.specs.Step.{Decision}
+use Rattle.unit.specs.Ready.{decidedOf}
 use Rattle.unit.proofs.Rules.{begun-low, begun-few, assign-lent}
 use borrow.Author.Needs.{needs}
 use Rattle.unit.proofs.assign.assign.Statement.{statement}
@@ -23,16 +23,16 @@ begin-requires c κs = search needs
 
 try-after-requires : tie.Need-try-after-requires
 try-after-requires c κs =
-    let s = c .before .before .before in
+    let s = c .before .before .before .before in
     let a = s .args in
-    let w = lentView (a .own) (a .n) (a .sizes) (a .costs .now) in
-    (s .pre .0, begun-low w (a .t5) (c .begin .result) (c .begin .ensures) (a .own) (s .pre .1), begun-few (a .own) (a .n) (a .sizes) (a .costs .now) (a .t5) (c .begin .result) (c .begin .ensures) (s .pre .1))
+    let w = viewFrom (a .seat) (a .costs .now) in
+    (s .pre .0, begun-low w (a .t3) (c .begin .result) (c .begin .ensures) (a .seat .own) (s .pre .1), begun-few (a .seat) (a .costs .now) (a .t3) (c .begin .result) (c .begin .ensures) (s .pre .1))
 
 returns : tie.Need-returns
 returns c =
-    λ was. let s = c .before .before .before .before in
+    λ was. let s = c .before .before .before .before .before in
     let a = s .args in
-    c .try-after .ensures was ∙ ap (λ (o : Out). decidedOf was o) (assign-lent (a .own) (a .n) (a .sizes) (a .costs .now) (s .pre .0 .number .first) (s .pre .0 .within) (a .t5) (c .before .begin .result) (c .before .begin .ensures))
+    c .try-after .ensures was ∙ ap (λ (o : Decision). decidedOf was o) (assign-lent (a .seat) (a .costs .now) (s .pre .0 .number .first) (s .pre .0 .within) (a .t3) (c .before .begin .result) (c .before .begin .ensures))
 
 pub assign-spec : {M : Type 1} → statement M
 assign-spec =

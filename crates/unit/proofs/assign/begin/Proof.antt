@@ -23,8 +23,8 @@ take-off-requires c κs = search needs
 
 returns : tie.Need-returns
 returns c =
-    let a = c .before .before .before .before .before .args in
-    c .take-off .ensures ∙ begun-lent (a .own) (a .n) (a .sizes) (a .costs .now) (a .t5) (c .before .before .started .result) (c .before .before .started .ensures)
+    let a = c .before .before .before .before .before .before .args in
+    c .take-off .ensures ∙ begun-lent (a .seat) (a .costs .now) (a .t3) (c .before .before .started .result) (c .before .before .started .ensures)
 
 pub begin-spec : {M : Type 1} → statement M
 begin-spec =

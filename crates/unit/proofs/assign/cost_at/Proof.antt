@@ -3,7 +3,7 @@
 use Prim.Native.Nat.{ℕ}
 use native.Mathlib.Omega.{arith}
 use mathlib.Core.Path.{_≡_, sym, ap, _∙_}
-use Rattle.costs.specs.Instance.{lentView}
+use Rattle.costs.specs.Instance.{viewFrom}
 use Rattle.costs.specs.Bounds.{costWith}
 use Rattle.unit.proofs.Lent.{place-lent}
 use borrow.Author.Needs.{needs}
@@ -16,24 +16,24 @@ sub-cost-with c = search needs
 cost-with-requires : tie.Need-cost-with-requires
 cost-with-requires c κs = search needs
 
-wide-requires : tie.Need-wide-requires
-wide-requires c κs = search needs
+wide-u64-requires : tie.Need-wide-u64-requires
+wide-u64-requires c κs = search needs
 
-wide-requires-2 : tie.Need-wide-requires-2
-wide-requires-2 c κs = search needs
+wide-u64-requires-2 : tie.Need-wide-u64-requires-2
+wide-u64-requires-2 c κs = search needs
 
 add-result : tie.Need-add-result
 add-result c = search needs
 
 returns : tie.Need-returns
 returns c =
-    let a = c .before .before .before .before .before .args in
-    let w = lentView (a .own) (a .n) (a .sizes) (a .costs .now) in
+    let a = c .before .before .before .before .before .before .args in
+    let w = viewFrom (a .seat) (a .costs .now) in
     let e : c .before .before .cost-with .result ≡ costWith w (a .u .values) (w .place) (a .v) =
-    c .before .before .cost-with .ensures ∙ sym (ap (λ (k : ℕ). costWith w (a .u .values) k (a .v)) (place-lent (a .own) (a .n) (a .sizes) (a .costs .now))) in
+    c .before .before .cost-with .ensures ∙ sym (ap (λ (k : ℕ). costWith w (a .u .values) k (a .v)) (place-lent (a .seat) (a .costs .now))) in
     (omega arith, omega arith)
 
 pub cost-at-spec : {M : Type 1} → statement M
 cost-at-spec =
     tie.close
-    (tie.spec sub-cost-with cost-with-requires wide-requires wide-requires-2 add-result returns)
+    (tie.spec sub-cost-with cost-with-requires wide-u64-requires wide-u64-requires-2 add-result returns)

@@ -7,7 +7,7 @@ use mathlib.Core.Path.{_≡_, sym, _∙_}
 use mathlib.Core.Bool.{false}
 use lib.ListN.{length, getD}
 use Rattle.base.specs.Shape.{shape-n, shape-size}
-use Rattle.costs.specs.Instance.{lentView}
+use Rattle.costs.specs.Instance.{viewFrom}
 use Rattle.costs.specs.Bounds.{h}
 use Rattle.unit.specs.Step.{tryAfter, write}
 use Rattle.unit.proofs.Lent.{n-lent, own-lent}
@@ -16,10 +16,10 @@ use Rattle.unit.proofs.assign.try_after.Statement.{statement}
 use Rattle.unit.proofs.assign.try_after.Tie as tie
 
 abbrev Inv-loop : tie.InvT-loop
-Inv-loop own n costs from sizes d t₀ improved₀ records₀ v₀ t improved records v = Tried (lentView own n sizes costs) own d from t₀ v records improved t
+Inv-loop seat costs from d t₀ improved₀ records₀ v₀ t improved records v = Tried (viewFrom seat costs) (seat .own) d from t₀ v records improved t
 
 abbrev μ-loop : tie.MeasureT-loop
-μ-loop own n costs from sizes d t₀ improved₀ records₀ v₀ t improved records v = d - v
+μ-loop seat costs from d t₀ improved₀ records₀ v₀ t improved records v = d - v
 
 sub-d : tie.Need-sub-d Inv-loop μ-loop
 sub-d c = search needs
@@ -32,15 +32,15 @@ array-read-d c = search needs
 
 loop-holds : tie.Need-loop-holds Inv-loop μ-loop
 loop-holds c =
-    let a = c .before .args in
-    let l : length (a .t3) ≡ 16 = search needs in
-    let s = shape-n (a .n) (a .t3) (c .before .pre .0 .shape) in
+    let a = c .before .before .before .args in
+    let l : length (a .seat .sizes) ≡ 16 = search needs in
+    let s = shape-n (a .seat .n) (a .seat .sizes) (c .before .before .before .pre .0 .shape) in
     record {
-      small = shape-size (a .n) (a .t3) (c .before .pre .0 .shape) (omega arith) (a .own - 1) (omega arith) .1;
+      small = shape-size (a .seat .n) (a .seat .sizes) (c .before .before .before .pre .0 .shape) (omega arith) (a .seat .own - 1) (omega arith) .1;
       written = omega arith;
       counter = omega arith;
       threshold = omega arith;
-      whole = λ was. counted-none was (tryAfter (lentView (a .own) (a .n) (a .t3) (a .costs .now)) (getD (a .t3) (a .own - 1) 0 - a .from) (a .from) false (a .u));
+      whole = λ was. counted-none was (tryAfter (viewFrom (a .seat) (a .costs .now)) (getD (a .seat .sizes) (a .seat .own - 1) 0 - a .from) (a .from) false (a .u));
     }
 
 add-v : tie.Need-add-v Inv-loop μ-loop
@@ -52,14 +52,14 @@ cost-at-requires c κs = search needs
 h-requires : tie.Need-h-requires Inv-loop μ-loop
 h-requires c κs = search needs
 
-wide-requires : tie.Need-wide-requires Inv-loop μ-loop
-wide-requires c κs = search needs
+wide-u64-requires : tie.Need-wide-u64-requires Inv-loop μ-loop
+wide-u64-requires c κs = search needs
 
 add-if1 : tie.Need-add-if1 Inv-loop μ-loop
 add-if1 c = search needs
 
-wide-requires-2 : tie.Need-wide-requires-2 Inv-loop μ-loop
-wide-requires-2 c κs = search needs
+wide-u64-requires-2 : tie.Need-wide-u64-requires-2 Inv-loop μ-loop
+wide-u64-requires-2 c κs = search needs
 
 add-records : tie.Need-add-records Inv-loop μ-loop
 add-records c = search needs
@@ -76,15 +76,15 @@ forward-requires c κs = search needs
 returns : tie.Need-returns Inv-loop μ-loop
 returns c =
     λ was.
-    let a = c .before .before .before .before .before .before .before .before .before .before .before .args in
-    let l = c .before .before .before .before .before .before .before .before .before .loop in
-    let w = lentView (a .own) (a .n) (a .t3) (a .costs .now) in
-    let o : suc (w .place) ≡ a .own = own-lent (a .own) (a .n) (a .t3) (a .costs .now) (c .before .before .before .before .before .before .before .before .before .before .before .pre .0 .number .first) in
-    let seen : c .before .before .before .before .before .wide .result ≡ h w (l .v + 1) = c .before .before .before .before .before .wide .ensures .0 ∙ c .before .before .before .before .before .before .h .ensures in
-    let put : c .before .before .put .result ≡ write w (l .v + 1) (c .before .before .before .before .before .before .before .cost-at .result) (l .t) = c .before .before .put .ensures .2 w o in
+    let a = c .before .before .before .before .before .before .before .before .before .before .before .before .before .before .args in
+    let l = c .before .before .before .before .before .before .before .before .before .before .loop in
+    let w = viewFrom (a .seat) (a .costs .now) in
+    let o : suc (w .place) ≡ a .seat .own = own-lent (a .seat) (a .costs .now) (c .before .before .before .before .before .before .before .before .before .before .before .before .before .before .pre .0 .number .first) in
+    let seen : c .before .before .before .before .before .before .wide-u64 .result ≡ h w (l .v + 1) = c .before .before .before .before .before .before .wide-u64 .ensures .0 ∙ c .before .before .before .before .before .before .before .h .ensures in
+    let put : c .before .before .before .put .result ≡ write w (l .v + 1) (c .before .before .before .before .before .before .before .before .cost-at .result) (l .t) = c .before .before .before .put .ensures .2 w o in
     sym (l .inv .whole was
-    ∙ written-on w (getD (a .t3) (a .own - 1) 0) (l .v) (l .records) was (l .improved) (l .t) (omega arith) (c .before .before .before .before .before .before .before .cost-at .result) (c .before .before .before .before .before .wide .result) (c .before .before .before .before .before .before .before .cost-at .ensures .0) seen
-    (omega arith) (λ z. c .before .if2 .taken (sym o ∙ z ∙ n-lent (a .own) (a .n) (a .t3) (a .costs .now))) (c .before .before .put .result) put
+    ∙ written-on w (getD (a .seat .sizes) (a .seat .own - 1) 0) (l .v) (l .records) was (l .improved) (l .t) (omega arith) (c .before .before .before .before .before .before .before .before .cost-at .result) (c .before .before .before .before .before .before .wide-u64 .result) (c .before .before .before .before .before .before .before .before .cost-at .ensures .0) seen
+    (omega arith) (λ z. c .before .if2 .taken (sym o ∙ z ∙ n-lent (a .seat) (a .costs .now))) (c .before .before .before .put .result) put
     ∙ rw (c .forward .ensures w o))
 
 improve-requires : tie.Need-improve-requires Inv-loop μ-loop
@@ -95,20 +95,20 @@ loop-less c = search needs
 
 loop-again : tie.Need-loop-again Inv-loop μ-loop
 loop-again c =
-    let a = c .before .before .before .before .before .before .before .before .before .before .before .args in
-    let l = c .before .before .before .before .before .before .before .before .before .loop in
-    let w = lentView (a .own) (a .n) (a .t3) (a .costs .now) in
-    let o : suc (w .place) ≡ a .own = own-lent (a .own) (a .n) (a .t3) (a .costs .now) (c .before .before .before .before .before .before .before .before .before .before .before .pre .0 .number .first) in
-    let seen : c .before .before .before .before .before .wide .result ≡ h w (l .v + 1) = c .before .before .before .before .before .wide .ensures .0 ∙ c .before .before .before .before .before .before .h .ensures in
-    let put : c .before .before .put .result ≡ write w (l .v + 1) (c .before .before .before .before .before .before .before .cost-at .result) (l .t) = c .before .before .put .ensures .2 w o in
+    let a = c .before .before .before .before .before .before .before .before .before .before .before .before .before .before .args in
+    let l = c .before .before .before .before .before .before .before .before .before .before .loop in
+    let w = viewFrom (a .seat) (a .costs .now) in
+    let o : suc (w .place) ≡ a .seat .own = own-lent (a .seat) (a .costs .now) (c .before .before .before .before .before .before .before .before .before .before .before .before .before .before .pre .0 .number .first) in
+    let seen : c .before .before .before .before .before .before .wide-u64 .result ≡ h w (l .v + 1) = c .before .before .before .before .before .before .wide-u64 .ensures .0 ∙ c .before .before .before .before .before .before .before .h .ensures in
+    let put : c .before .before .before .put .result ≡ write w (l .v + 1) (c .before .before .before .before .before .before .before .before .cost-at .result) (l .t) = c .before .before .before .put .ensures .2 w o in
     record {
       small = l .inv .small;
       written = omega arith;
-      counter = rw (c .improve .ensures) (omega (arith, c .before .before .put .ensures .0));
-      threshold = rw (c .improve .ensures) (omega (arith, c .before .before .put .ensures .1));
+      counter = rw (c .improve .ensures) (omega (arith, c .before .before .before .put .ensures .0));
+      threshold = rw (c .improve .ensures) (omega (arith, c .before .before .before .put .ensures .1));
       whole = λ was. l .inv .whole was
-          ∙ written-last w (getD (a .t3) (a .own - 1) 0) (l .v) (l .records) was (l .improved) (l .t) (omega arith) (c .before .before .before .before .before .before .before .cost-at .result) (c .before .before .before .before .before .wide .result) (c .before .before .before .before .before .before .before .cost-at .ensures .0) seen
-          (omega arith) (o ∙ c .before .if2 .left ∙ sym (n-lent (a .own) (a .n) (a .t3) (a .costs .now))) (c .before .before .put .result) put
+          ∙ written-last w (getD (a .seat .sizes) (a .seat .own - 1) 0) (l .v) (l .records) was (l .improved) (l .t) (omega arith) (c .before .before .before .before .before .before .before .before .cost-at .result) (c .before .before .before .before .before .before .wide-u64 .result) (c .before .before .before .before .before .before .before .before .cost-at .ensures .0) seen
+          (omega arith) (o ∙ c .before .if2 .left ∙ sym (n-lent (a .seat) (a .costs .now))) (c .before .before .before .put .result) put
           ∙ rw (c .improve .ensures);
     }
 
@@ -117,18 +117,18 @@ loop-less-2 c = search needs
 
 loop-again-2 : tie.Need-loop-again-2 Inv-loop μ-loop
 loop-again-2 c =
-    let a = c .before .before .before .before .before .before .before .before .args in
+    let a = c .before .before .before .before .before .before .before .before .before .before .args in
     let l = c .before .before .before .before .before .before .loop in
-    let w = lentView (a .own) (a .n) (a .t3) (a .costs .now) in
-    let o : suc (w .place) ≡ a .own = own-lent (a .own) (a .n) (a .t3) (a .costs .now) (c .before .before .before .before .before .before .before .before .pre .0 .number .first) in
-    let seen : c .before .before .wide .result ≡ h w (l .v + 1) = c .before .before .wide .ensures .0 ∙ c .before .before .before .h .ensures in
+    let w = viewFrom (a .seat) (a .costs .now) in
+    let o : suc (w .place) ≡ a .seat .own = own-lent (a .seat) (a .costs .now) (c .before .before .before .before .before .before .before .before .before .before .pre .0 .number .first) in
+    let seen : c .before .before .wide-u64 .result ≡ h w (l .v + 1) = c .before .before .wide-u64 .ensures .0 ∙ c .before .before .before .h .ensures in
     record {
       small = l .inv .small;
       written = omega arith;
       counter = omega arith;
       threshold = l .inv .threshold;
       whole = λ was. l .inv .whole was
-          ∙ passed-over w (getD (a .t3) (a .own - 1) 0) (l .v) (l .records) was (l .improved) (l .t) (omega arith) (c .before .before .before .before .cost-at .result) (c .before .before .wide .result) (c .before .before .before .before .cost-at .ensures .0) seen (omega arith);
+          ∙ passed-over w (getD (a .seat .sizes) (a .seat .own - 1) 0) (l .v) (l .records) was (l .improved) (l .t) (omega arith) (c .before .before .before .before .cost-at .result) (c .before .before .wide-u64 .result) (c .before .before .before .before .cost-at .ensures .0) seen (omega arith);
     }
 
 backtrack-requires : tie.Need-backtrack-requires Inv-loop μ-loop
@@ -137,11 +137,11 @@ backtrack-requires c κs = search needs
 returns-2 : tie.Need-returns-2 Inv-loop μ-loop
 returns-2 c =
     λ was.
-    let a = c .before .before .before .before .args in
+    let a = c .before .before .before .before .before .before .args in
     let l = c .before .before .loop in
-    let w = lentView (a .own) (a .n) (a .t3) (a .costs .now) in
-    let o : suc (w .place) ≡ a .own = own-lent (a .own) (a .n) (a .t3) (a .costs .now) (c .before .before .before .before .pre .0 .number .first) in
-    sym (l .inv .whole was ∙ none-left w (getD (a .t3) (a .own - 1) 0) (l .v) (l .records) was (l .improved) (l .t) (c .backtrack .result) (omega arith) (c .backtrack .ensures w was o))
+    let w = viewFrom (a .seat) (a .costs .now) in
+    let o : suc (w .place) ≡ a .seat .own = own-lent (a .seat) (a .costs .now) (c .before .before .before .before .before .before .pre .0 .number .first) in
+    sym (l .inv .whole was ∙ none-left w (getD (a .seat .sizes) (a .seat .own - 1) 0) (l .v) (l .records) was (l .improved) (l .t) (c .backtrack .result) (omega arith) (c .backtrack .ensures w was o))
 
 pub try-after-spec : {M : Type 1} → statement M
 try-after-spec =
@@ -156,9 +156,9 @@ try-after-spec =
     add-v
     cost-at-requires
     h-requires
-    wide-requires
+    wide-u64-requires
     add-if1
-    wide-requires-2
+    wide-u64-requires-2
     add-records
     cast-put
     put-requires

@@ -21,7 +21,7 @@ element-write-v-2 : tie.Need-element-write-v-2
 element-write-v-2 c = search needs
 
 returns : tie.Need-returns
-returns c = let a = c .before .before .args in cc (place-lent (a .own) (a .n) (a .sizes) (a .costs .now))
+returns c = let a = c .before .before .before .args in cc (place-lent (a .seat) (a .costs .now))
 
 pub take-off-spec : {M : Type 1} → statement M
 take-off-spec =

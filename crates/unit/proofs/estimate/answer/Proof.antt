@@ -11,7 +11,7 @@ estimate-requires c κs = search needs
 returns : tie.Need-returns
 returns c =
     λ was. let a = c .before .before .before .before .args in
-    rw (c .estimate .ensures, own-lent (a .own) (a .n) (a .sizes) (a .costs .now) (c .before .before .before .before .pre .first))
+    rw (c .estimate .ensures, own-lent (a .seat) (a .costs .now) (c .before .before .before .before .pre .first))
 
 pub answer-spec : {M : Type 1} → statement M
 answer-spec = tie.close (tie.spec estimate-requires returns)

@@ -1,14 +1,18 @@
 -- `on_estimate` meets its contract: each arm is a clause of `onTimely`.
 -- Assumes nothing.
 use mathlib.Core.Path.{sym, ap, _∙_}
-use Rattle.costs.specs.Instance.{lentView}
-use Rattle.unit.specs.declared.Order.{Order}
-use Rattle.unit.specs.Step.{Out, onTimely, decidedOf}
+use Rattle.costs.specs.Instance.{viewFrom}
+use Rattle.unit.specs.declared.Ordering.{Ordering}
+use Rattle.unit.specs.Step.{Decision, onTimely}
+use Rattle.unit.specs.Ready.{decidedOf}
 use Rattle.unit.proofs.Lent.{own-lent}
 use Rattle.unit.proofs.Rules.{estimate-timely}
 use borrow.Author.Needs.{needs}
 use Rattle.unit.proofs.estimate.on_estimate.Statement.{statement}
 use Rattle.unit.proofs.estimate.on_estimate.Tie as tie
+
+cast-compare : tie.Need-cast-compare
+cast-compare c = search needs
 
 compare-requires : tie.Need-compare-requires
 compare-requires c κs = search needs
@@ -33,32 +37,33 @@ refuse-requires c κs = search needs
 
 returns : tie.Need-returns
 returns c =
-    let a = c .before .before .before .before .before .before .before .args in
-    let w = lentView (a .own) (a .n) (a .sizes) (a .costs .now) in
-    let o = own-lent (a .own) (a .n) (a .sizes) (a .costs .now) (c .before .before .before .before .before .before .before .pre .0 .number .first) in
-    c .quiet .ensures (a .u) ∙ ap (λ (x : Order). decidedOf (a .u) (onTimely w x (a .u) (a .m))) (sym (c .before .enum-told .given .1))
-    ∙ ap (λ (x : Out). decidedOf (a .u) x) (estimate-timely w (a .own) (a .u) (a .m) (c .before .before .before .compare .result) o (c .before .before .before .compare .ensures))
+    let a = c .before .before .before .before .before .before .before .before .args in
+    let w = viewFrom (a .seat) (a .costs .now) in
+    let o = own-lent (a .seat) (a .costs .now) (c .before .before .before .before .before .before .before .before .pre .0 .number .first) in
+    c .quiet .ensures (a .u) ∙ ap (λ (x : Ordering). decidedOf (a .u) (onTimely w x (a .u) (a .m))) (sym (c .before .enum-told .given .1))
+    ∙ ap (λ (x : Decision). decidedOf (a .u) x) (estimate-timely w (a .seat .own) (a .u) (a .m) (c .before .before .before .compare .result) o (c .before .before .before .compare .ensures))
 
 returns-2 : tie.Need-returns-2
 returns-2 c =
-    let a = c .before .before .before .before .before .before .before .args in
-    let w = lentView (a .own) (a .n) (a .sizes) (a .costs .now) in
-    let o = own-lent (a .own) (a .n) (a .sizes) (a .costs .now) (c .before .before .before .before .before .before .before .pre .0 .number .first) in
-    c .on-own-estimate .ensures ∙ ap (λ (x : Order). decidedOf (a .u) (onTimely w x (a .u) (a .m))) (sym (c .before .enum-told2 .given .1))
-    ∙ ap (λ (x : Out). decidedOf (a .u) x) (estimate-timely w (a .own) (a .u) (a .m) (c .before .before .before .compare .result) o (c .before .before .before .compare .ensures))
+    let a = c .before .before .before .before .before .before .before .before .args in
+    let w = viewFrom (a .seat) (a .costs .now) in
+    let o = own-lent (a .seat) (a .costs .now) (c .before .before .before .before .before .before .before .before .pre .0 .number .first) in
+    c .on-own-estimate .ensures ∙ ap (λ (x : Ordering). decidedOf (a .u) (onTimely w x (a .u) (a .m))) (sym (c .before .enum-told2 .given .1))
+    ∙ ap (λ (x : Decision). decidedOf (a .u) x) (estimate-timely w (a .seat .own) (a .u) (a .m) (c .before .before .before .compare .result) o (c .before .before .before .compare .ensures))
 
 returns-3 : tie.Need-returns-3
 returns-3 c =
-    let a = c .before .before .before .before .before .before .before .args in
-    let w = lentView (a .own) (a .n) (a .sizes) (a .costs .now) in
-    let o = own-lent (a .own) (a .n) (a .sizes) (a .costs .now) (c .before .before .before .before .before .before .before .pre .0 .number .first) in
-    c .refuse .ensures ∙ ap (λ (x : Order). decidedOf (a .u) (onTimely w x (a .u) (a .m))) (sym (c .before .enum-told3 .given .1))
-    ∙ ap (λ (x : Out). decidedOf (a .u) x) (estimate-timely w (a .own) (a .u) (a .m) (c .before .before .before .compare .result) o (c .before .before .before .compare .ensures))
+    let a = c .before .before .before .before .before .before .before .before .args in
+    let w = viewFrom (a .seat) (a .costs .now) in
+    let o = own-lent (a .seat) (a .costs .now) (c .before .before .before .before .before .before .before .before .pre .0 .number .first) in
+    c .refuse .ensures ∙ ap (λ (x : Ordering). decidedOf (a .u) (onTimely w x (a .u) (a .m))) (sym (c .before .enum-told3 .given .1))
+    ∙ ap (λ (x : Decision). decidedOf (a .u) x) (estimate-timely w (a .seat .own) (a .u) (a .m) (c .before .before .before .compare .result) o (c .before .before .before .compare .ensures))
 
 pub on-estimate-spec : {M : Type 1} → statement M
 on-estimate-spec =
     tie.close
     (tie.spec
+    cast-compare
     compare-requires
     enum-told
     quiet-requires

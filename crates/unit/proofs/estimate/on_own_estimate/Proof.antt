@@ -5,8 +5,9 @@ use native.Mathlib.Omega.{arith}
 use mathlib.Core.Path.{sym, ap, _∙_}
 use borrow.Author.Tests.{not-true, not-false}
 use Rattle.base.specs.Shape.{shape-n}
-use Rattle.costs.specs.Instance.{lentView}
-use Rattle.unit.specs.Step.{Out, sumLater, decidedOf}
+use Rattle.costs.specs.Instance.{viewFrom}
+use Rattle.unit.specs.Step.{Decision, sumLater}
+use Rattle.unit.specs.Ready.{decidedOf}
 use Rattle.unit.proofs.Lent.{own-lent, n-lent}
 use Rattle.unit.proofs.Rules.{ready-stored, estimate-foreign, estimate-reached, estimate-short}
 use borrow.Author.Needs.{needs}
@@ -22,23 +23,23 @@ refuse-requires c κs = search needs
 returns : tie.Need-returns
 returns c =
     let a = c .before .before .before .before .args in
-    let w = lentView (a .own) (a .n) (a .sizes) (a .costs .now) in
-    let o = own-lent (a .own) (a .n) (a .sizes) (a .costs .now) (c .before .before .before .before .pre .0 .number .first) in
-    c .refuse .ensures ∙ ap (λ (x : Out). decidedOf (a .u) x) (estimate-foreign w (a .u) (a .m) (sym (c .before .before .is-stamp-out .ensures w o) ∙ not-true _ (c .before .if1 .taken)))
+    let w = viewFrom (a .seat) (a .costs .now) in
+    let o = own-lent (a .seat) (a .costs .now) (c .before .before .before .before .pre .0 .number .first) in
+    c .refuse .ensures ∙ ap (λ (x : Decision). decidedOf (a .u) x) (estimate-foreign w (a .u) (a .m) (sym (c .before .before .is-stamp-out .ensures w o) ∙ not-true _ (c .before .if1 .taken)))
 
 store-requires : tie.Need-store-requires
 store-requires c κs = search needs
 
-wide-requires : tie.Need-wide-requires
-wide-requires c κs = search needs
+wide-u64-requires : tie.Need-wide-u64-requires
+wide-u64-requires c κs = search needs
 
-wide-requires-2 : tie.Need-wide-requires-2
-wide-requires-2 c κs = search needs
+wide-u64-requires-2 : tie.Need-wide-u64-requires-2
+wide-u64-requires-2 c κs = search needs
 
 sum-later-requires : tie.Need-sum-later-requires
 sum-later-requires c κs =
     let a = c .before .before .before .before .before .before .before .args in
-    (c .before .before .before .before .before .before .before .pre .0 .within, shape-n (a .n) (a .sizes) (c .before .before .before .before .before .before .before .pre .0 .shape) .1)
+    (c .before .before .before .before .before .before .before .pre .0 .within, shape-n (a .seat .n) (a .seat .sizes) (c .before .before .before .before .before .before .before .pre .0 .shape) .1)
 
 add-if2 : tie.Need-add-if2
 add-if2 c = search needs
@@ -46,17 +47,17 @@ add-if2 c = search needs
 assign-requires : tie.Need-assign-requires
 assign-requires c κs =
     let a = c .before .before .before .before .before .before .before .before .before .args in
-    (c .before .before .before .before .before .before .before .before .before .pre .0, ready-stored (a .own) (a .m) (a .u) (c .before .before .before .before .before .store .result) (c .before .before .before .before .before .store .ensures) (c .before .before .before .before .before .before .before .before .before .pre .1))
+    (c .before .before .before .before .before .before .before .before .before .pre .0, ready-stored (a .seat .own) (a .m) (a .u) (c .before .before .before .before .before .store .result) (c .before .before .before .before .before .store .ensures) (c .before .before .before .before .before .before .before .before .before .pre .1))
 
 returns-2 : tie.Need-returns-2
 returns-2 c =
     let a = c .before .before .before .before .before .before .before .before .before .before .args in
-    let w = lentView (a .own) (a .n) (a .sizes) (a .costs .now) in
-    let o = own-lent (a .own) (a .n) (a .sizes) (a .costs .now) (c .before .before .before .before .before .before .before .before .before .before .pre .0 .number .first) in
+    let w = viewFrom (a .seat) (a .costs .now) in
+    let o = own-lent (a .seat) (a .costs .now) (c .before .before .before .before .before .before .before .before .before .before .pre .0 .number .first) in
     let t = c .before .before .before .before .before .before .store .result in
-    let f = c .before .before .sum-later .ensures .1 w o (n-lent (a .own) (a .n) (a .sizes) (a .costs .now)) in
-    let l : t .bound ≤ t .cost + sumLater w (t .estimates) = omega (arith, f, c .before .before .before .wide2 .ensures .0, c .before .before .before .before .wide .ensures .0, c .before .if2 .taken) in
-    c .assign .ensures (a .u) ∙ ap (λ (x : Out). decidedOf (a .u) x) (estimate-reached w (a .u) t (a .m) (sym (c .before .before .before .before .before .before .before .before .is-stamp-out .ensures w o) ∙ not-false _ (c .before .before .before .before .before .before .before .if1 .left)) (c .before .before .before .before .before .before .store .ensures) l)
+    let f = c .before .before .sum-later .ensures .1 w o (n-lent (a .seat) (a .costs .now)) in
+    let l : t .bound ≤ t .cost + sumLater w (t .estimates) = omega (arith, f, c .before .before .before .wide-u642 .ensures .0, c .before .before .before .before .wide-u64 .ensures .0, c .before .if2 .taken) in
+    c .assign .ensures (a .u) ∙ ap (λ (x : Decision). decidedOf (a .u) x) (estimate-reached w (a .u) t (a .m) (sym (c .before .before .before .before .before .before .before .before .is-stamp-out .ensures w o) ∙ not-false _ (c .before .before .before .before .before .before .before .if1 .left)) (c .before .before .before .before .before .before .store .ensures) l)
 
 quiet-requires : tie.Need-quiet-requires
 quiet-requires c κs = search needs
@@ -64,12 +65,12 @@ quiet-requires c κs = search needs
 returns-3 : tie.Need-returns-3
 returns-3 c =
     let a = c .before .before .before .before .before .before .before .before .before .before .args in
-    let w = lentView (a .own) (a .n) (a .sizes) (a .costs .now) in
-    let o = own-lent (a .own) (a .n) (a .sizes) (a .costs .now) (c .before .before .before .before .before .before .before .before .before .before .pre .0 .number .first) in
+    let w = viewFrom (a .seat) (a .costs .now) in
+    let o = own-lent (a .seat) (a .costs .now) (c .before .before .before .before .before .before .before .before .before .before .pre .0 .number .first) in
     let t = c .before .before .before .before .before .before .store .result in
-    let f = c .before .before .sum-later .ensures .1 w o (n-lent (a .own) (a .n) (a .sizes) (a .costs .now)) in
-    let l : t .cost + sumLater w (t .estimates) < t .bound = omega (arith, f, c .before .before .before .wide2 .ensures .0, c .before .before .before .before .wide .ensures .0, c .before .if2 .left) in
-    c .quiet .ensures (a .u) ∙ ap (λ (x : Out). decidedOf (a .u) x) (estimate-short w (a .u) t (a .m) (sym (c .before .before .before .before .before .before .before .before .is-stamp-out .ensures w o) ∙ not-false _ (c .before .before .before .before .before .before .before .if1 .left)) (c .before .before .before .before .before .before .store .ensures) l)
+    let f = c .before .before .sum-later .ensures .1 w o (n-lent (a .seat) (a .costs .now)) in
+    let l : t .cost + sumLater w (t .estimates) < t .bound = omega (arith, f, c .before .before .before .wide-u642 .ensures .0, c .before .before .before .before .wide-u64 .ensures .0, c .before .if2 .left) in
+    c .quiet .ensures (a .u) ∙ ap (λ (x : Decision). decidedOf (a .u) x) (estimate-short w (a .u) t (a .m) (sym (c .before .before .before .before .before .before .before .before .is-stamp-out .ensures w o) ∙ not-false _ (c .before .before .before .before .before .before .before .if1 .left)) (c .before .before .before .before .before .before .store .ensures) l)
 
 pub on-own-estimate-spec : {M : Type 1} → statement M
 on-own-estimate-spec =
@@ -79,8 +80,8 @@ on-own-estimate-spec =
     refuse-requires
     returns
     store-requires
-    wide-requires
-    wide-requires-2
+    wide-u64-requires
+    wide-u64-requires-2
     sum-later-requires
     add-if2
     assign-requires

@@ -2,10 +2,11 @@
 -- Assumes nothing.
 use mathlib.Core.Path.{sym, ap, _∙_}
 use mathlib.Core.List.{[]}
-use Rattle.costs.specs.Instance.{lentView}
+use Rattle.costs.specs.Instance.{viewFrom}
 use Rattle.unit.specs.declared.Unit.{Unit}
-use Rattle.unit.specs.declared.Order.{Order}
-use Rattle.unit.specs.Step.{Out, accepted, reply, onFresh, decidedOf}
+use Rattle.unit.specs.declared.Ordering.{Ordering}
+use Rattle.unit.specs.Step.{Decision, accepted, reply, onFresh}
+use Rattle.unit.specs.Ready.{decidedOf}
 use Rattle.unit.proofs.Lent.{place-lent}
 use Rattle.unit.proofs.Rules.{request-fresh}
 use borrow.Author.Needs.{needs}
@@ -44,25 +45,25 @@ answer-requires-2 c κs = search needs
 
 returns : tie.Need-returns
 returns c =
-    λ was. let a = c .before .before .before .before .before .before .before .args in
-    let w = lentView (a .own) (a .n) (a .sizes) (a .costs .now) in
-    c .quiet .ensures was ∙ ap (λ (o : Order). decidedOf was (onFresh w o (a .u) (a .m))) (sym (c .before .enum-told .given .1))
-    ∙ ap (λ (o : Out). decidedOf was o) (request-fresh w (a .u) (a .m) (c .before .before .before .compare .result) _ (place-lent (a .own) (a .n) (a .sizes) (a .costs .now)) (c .before .before .before .compare .ensures))
+    λ was. let a = c .before .before .before .before .before .before .before .before .args in
+    let w = viewFrom (a .seat) (a .costs .now) in
+    c .quiet .ensures was ∙ ap (λ (o : Ordering). decidedOf was (onFresh w o (a .u) (a .m))) (sym (c .before .enum-told .given .1))
+    ∙ ap (λ (o : Decision). decidedOf was o) (request-fresh w (a .u) (a .m) (c .before .before .before .compare .result) _ (place-lent (a .seat) (a .costs .now)) (c .before .before .before .compare .ensures))
 
 returns-2 : tie.Need-returns-2
 returns-2 c =
-    λ was. let a = c .before .before .before .before .before .before .before .args in
-    let w = lentView (a .own) (a .n) (a .sizes) (a .costs .now) in
-    c .answer .ensures was ∙ ap (λ (o : Order). decidedOf was (onFresh w o (a .u) (a .m))) (sym (c .before .enum-told2 .given .1))
-    ∙ ap (λ (o : Out). decidedOf was o) (request-fresh w (a .u) (a .m) (c .before .before .before .compare .result) _ (place-lent (a .own) (a .n) (a .sizes) (a .costs .now)) (c .before .before .before .compare .ensures))
+    λ was. let a = c .before .before .before .before .before .before .before .before .args in
+    let w = viewFrom (a .seat) (a .costs .now) in
+    c .answer .ensures was ∙ ap (λ (o : Ordering). decidedOf was (onFresh w o (a .u) (a .m))) (sym (c .before .enum-told2 .given .1))
+    ∙ ap (λ (o : Decision). decidedOf was o) (request-fresh w (a .u) (a .m) (c .before .before .before .compare .result) _ (place-lent (a .seat) (a .costs .now)) (c .before .before .before .compare .ensures))
 
 returns-3 : tie.Need-returns-3
 returns-3 c =
-    λ was. let a = c .before .before .before .before .before .before .before .before .args in
-    let w = lentView (a .own) (a .n) (a .sizes) (a .costs .now) in
+    λ was. let a = c .before .before .before .before .before .before .before .before .before .args in
+    let w = viewFrom (a .seat) (a .costs .now) in
     c .answer2 .ensures was ∙ ap (λ (t : Unit). decidedOf was (accepted t (reply w (a .m)) [])) (c .before .follow .ensures)
-    ∙ ap (λ (o : Order). decidedOf was (onFresh w o (a .u) (a .m))) (sym (c .before .before .enum-told3 .given .1))
-    ∙ ap (λ (o : Out). decidedOf was o) (request-fresh w (a .u) (a .m) (c .before .before .before .before .compare .result) _ (place-lent (a .own) (a .n) (a .sizes) (a .costs .now)) (c .before .before .before .before .compare .ensures))
+    ∙ ap (λ (o : Ordering). decidedOf was (onFresh w o (a .u) (a .m))) (sym (c .before .before .enum-told3 .given .1))
+    ∙ ap (λ (o : Decision). decidedOf was o) (request-fresh w (a .u) (a .m) (c .before .before .before .before .compare .result) _ (place-lent (a .seat) (a .costs .now)) (c .before .before .before .before .compare .ensures))
 
 pub on-request-spec : {M : Type 1} → statement M
 on-request-spec =

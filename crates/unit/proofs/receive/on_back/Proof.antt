@@ -3,18 +3,19 @@
 use mathlib.Core.Path.{_≡_, sym, ap, _∙_}
 use mathlib.Core.Bool.{Bool, true, false}
 use borrow.Author.Tests.{not-true, not-false}
-use Rattle.costs.specs.Instance.{lentView}
+use Rattle.costs.specs.Instance.{viewFrom}
 use Rattle.unit.specs.declared.Unit.{Unit}
-use Rattle.unit.specs.State.{notSmaller}
-use Rattle.unit.specs.Step.{Out, resume, isCpaOut, onOwn, decidedOf}
+use Rattle.unit.specs.State.{notLess}
+use Rattle.unit.specs.Step.{Decision, resume, isCpaOut, onOwn}
+use Rattle.unit.specs.Ready.{decidedOf}
 use Rattle.unit.proofs.Lent.{own-lent}
 use Rattle.unit.proofs.Rules.{ready-bound, back-stale, back-own}
 use borrow.Author.Needs.{needs}
 use Rattle.unit.proofs.receive.on_back.Statement.{statement}
 use Rattle.unit.proofs.receive.on_back.Tie as tie
 
-not-smaller-requires : tie.Need-not-smaller-requires
-not-smaller-requires c κs = search needs
+not-less-requires : tie.Need-not-less-requires
+not-less-requires c κs = search needs
 
 quiet-requires : tie.Need-quiet-requires
 quiet-requires c κs = search needs
@@ -22,9 +23,9 @@ quiet-requires c κs = search needs
 returns : tie.Need-returns
 returns c =
     let a = c .before .before .before .before .args in
-    let w = lentView (a .own) (a .n) (a .sizes) (a .costs .now) in
-    let x : notSmaller (a .order) ≡ false = sym (c .before .before .not-smaller .ensures) ∙ not-true _ (c .before .if1 .taken) in
-    c .quiet .ensures (a .u) ∙ ap (λ (o : Out). decidedOf (a .u) o) (back-stale w (a .order) (a .u) (a .m) x)
+    let w = viewFrom (a .seat) (a .costs .now) in
+    let x : notLess (a .order) ≡ false = sym (c .before .before .not-less .ensures) ∙ not-true _ (c .before .if1 .taken) in
+    c .quiet .ensures (a .u) ∙ ap (λ (o : Decision). decidedOf (a .u) o) (back-stale w (a .order) (a .u) (a .m) x)
 
 is-cpa-out-requires : tie.Need-is-cpa-out-requires
 is-cpa-out-requires c κs = search needs
@@ -35,10 +36,10 @@ refuse-requires c κs = search needs
 returns-2 : tie.Need-returns-2
 returns-2 c =
     let a = c .before .before .before .before .before .before .args in
-    let w = lentView (a .own) (a .n) (a .sizes) (a .costs .now) in
-    let x : notSmaller (a .order) ≡ true = sym (c .before .before .before .before .not-smaller .ensures) ∙ not-false _ (c .before .before .before .if1 .left) in
-    let y : isCpaOut w (a .u) (a .m) ≡ false = sym (c .before .before .is-cpa-out .ensures w (own-lent (a .own) (a .n) (a .sizes) (a .costs .now) (c .before .before .before .before .before .before .pre .0 .number .first))) ∙ not-true _ (c .before .if2 .taken) in
-    c .refuse .ensures ∙ ap (λ (b : Bool). decidedOf (a .u) (onOwn w b (a .u) (a .m))) (sym y) ∙ ap (λ (o : Out). decidedOf (a .u) o) (back-own w (a .order) (a .u) (a .m) x)
+    let w = viewFrom (a .seat) (a .costs .now) in
+    let x : notLess (a .order) ≡ true = sym (c .before .before .before .before .not-less .ensures) ∙ not-false _ (c .before .before .before .if1 .left) in
+    let y : isCpaOut w (a .u) (a .m) ≡ false = sym (c .before .before .is-cpa-out .ensures w (own-lent (a .seat) (a .costs .now) (c .before .before .before .before .before .before .pre .0 .number .first))) ∙ not-true _ (c .before .if2 .taken) in
+    c .refuse .ensures ∙ ap (λ (b : Bool). decidedOf (a .u) (onOwn w b (a .u) (a .m))) (sym y) ∙ ap (λ (o : Decision). decidedOf (a .u) o) (back-own w (a .order) (a .u) (a .m) x)
 
 take-bound-requires : tie.Need-take-bound-requires
 take-bound-requires c κs = search needs
@@ -46,22 +47,22 @@ take-bound-requires c κs = search needs
 resume-requires : tie.Need-resume-requires
 resume-requires c κs =
     let a = c .before .before .before .before .before .before .args in
-    (c .before .before .before .before .before .before .pre .0, ready-bound (a .own) (a .m) (a .u) (c .take-bound .result) (c .take-bound .ensures) (c .before .before .before .before .before .before .pre .1))
+    (c .before .before .before .before .before .before .pre .0, ready-bound (a .seat .own) (a .m) (a .u) (c .take-bound .result) (c .take-bound .ensures) (c .before .before .before .before .before .before .pre .1))
 
 returns-3 : tie.Need-returns-3
 returns-3 c =
     let a = c .before .before .before .before .before .before .before .args in
-    let w = lentView (a .own) (a .n) (a .sizes) (a .costs .now) in
-    let x : notSmaller (a .order) ≡ true = sym (c .before .before .before .before .before .not-smaller .ensures) ∙ not-false _ (c .before .before .before .before .if1 .left) in
-    let y : isCpaOut w (a .u) (a .m) ≡ true = sym (c .before .before .before .is-cpa-out .ensures w (own-lent (a .own) (a .n) (a .sizes) (a .costs .now) (c .before .before .before .before .before .before .before .pre .0 .number .first))) ∙ not-false _ (c .before .before .if2 .left) in
+    let w = viewFrom (a .seat) (a .costs .now) in
+    let x : notLess (a .order) ≡ true = sym (c .before .before .before .before .before .not-less .ensures) ∙ not-false _ (c .before .before .before .before .if1 .left) in
+    let y : isCpaOut w (a .u) (a .m) ≡ true = sym (c .before .before .before .is-cpa-out .ensures w (own-lent (a .seat) (a .costs .now) (c .before .before .before .before .before .before .before .pre .0 .number .first))) ∙ not-false _ (c .before .before .if2 .left) in
     c .resume .ensures (a .u) ∙ ap (λ (t : Unit). decidedOf (a .u) (resume w t)) (c .before .take-bound .ensures)
-    ∙ ap (λ (b : Bool). decidedOf (a .u) (onOwn w b (a .u) (a .m))) (sym y) ∙ ap (λ (o : Out). decidedOf (a .u) o) (back-own w (a .order) (a .u) (a .m) x)
+    ∙ ap (λ (b : Bool). decidedOf (a .u) (onOwn w b (a .u) (a .m))) (sym y) ∙ ap (λ (o : Decision). decidedOf (a .u) o) (back-own w (a .order) (a .u) (a .m) x)
 
 pub on-back-spec : {M : Type 1} → statement M
 on-back-spec =
     tie.close
     (tie.spec
-    not-smaller-requires
+    not-less-requires
     quiet-requires
     returns
     is-cpa-out-requires

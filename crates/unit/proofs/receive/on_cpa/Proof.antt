@@ -1,13 +1,17 @@
 -- `on_cpa` meets its contract: the sender decides which way the cpa goes.
 -- Assumes nothing.
 use mathlib.Core.Path.{ap, _∙_}
-use Rattle.costs.specs.Instance.{lentView}
-use Rattle.unit.specs.Step.{Out, decidedOf}
+use Rattle.costs.specs.Instance.{viewFrom}
+use Rattle.unit.specs.Step.{Decision}
+use Rattle.unit.specs.Ready.{decidedOf}
 use Rattle.unit.proofs.Lent.{own-lent}
 use Rattle.unit.proofs.Rules.{cpa-down, cpa-back}
 use borrow.Author.Needs.{needs}
 use Rattle.unit.proofs.receive.on_cpa.Statement.{statement}
 use Rattle.unit.proofs.receive.on_cpa.Tie as tie
+
+cast-compare : tie.Need-cast-compare
+cast-compare c = search needs
 
 compare-requires : tie.Need-compare-requires
 compare-requires c κs = search needs
@@ -17,19 +21,25 @@ on-down-requires c κs = search needs
 
 returns : tie.Need-returns
 returns c =
-    let a = c .before .before .before .before .before .before .before .args in
-    let w = lentView (a .own) (a .n) (a .sizes) (a .costs .now) in
-    c .on-down .ensures (a .u) ∙ ap (λ (o : Out). decidedOf (a .u) o) (cpa-down w (a .own) (a .u) (a .m) (c .before .before .before .compare .result) (own-lent (a .own) (a .n) (a .sizes) (a .costs .now) (c .before .before .before .before .before .before .before .pre .0 .number .first)) (c .before .before .before .compare .ensures) (c .before .if1 .taken))
+    let a = c .before .before .before .before .before .before .before .before .before .args in
+    let w = viewFrom (a .seat) (a .costs .now) in
+    c .on-down .ensures (a .u) ∙ ap (λ (o : Decision). decidedOf (a .u) o) (cpa-down w (a .seat .own) (a .u) (a .m) (c .before .before .before .before .compare .result) (own-lent (a .seat) (a .costs .now) (c .before .before .before .before .before .before .before .before .before .pre .0 .number .first)) (c .before .before .before .before .compare .ensures) (c .before .if1 .taken))
 
 on-back-requires : tie.Need-on-back-requires
 on-back-requires c κs = search needs
 
 returns-2 : tie.Need-returns-2
 returns-2 c =
-    let a = c .before .before .before .before .before .before .before .args in
-    let w = lentView (a .own) (a .n) (a .sizes) (a .costs .now) in
-    c .on-back .ensures ∙ ap (λ (o : Out). decidedOf (a .u) o) (cpa-back w (a .own) (a .u) (a .m) (c .before .before .before .compare .result) (own-lent (a .own) (a .n) (a .sizes) (a .costs .now) (c .before .before .before .before .before .before .before .pre .0 .number .first)) (c .before .before .before .compare .ensures) (c .before .if1 .left))
+    let a = c .before .before .before .before .before .before .before .before .before .args in
+    let w = viewFrom (a .seat) (a .costs .now) in
+    c .on-back .ensures ∙ ap (λ (o : Decision). decidedOf (a .u) o) (cpa-back w (a .seat .own) (a .u) (a .m) (c .before .before .before .before .compare .result) (own-lent (a .seat) (a .costs .now) (c .before .before .before .before .before .before .before .before .before .pre .0 .number .first)) (c .before .before .before .before .compare .ensures) (c .before .if1 .left))
 
 pub on-cpa-spec : {M : Type 1} → statement M
 on-cpa-spec =
-    tie.close (tie.spec compare-requires on-down-requires returns on-back-requires returns-2)
+    tie.close (tie.spec
+    cast-compare
+    compare-requires
+    on-down-requires
+    returns
+    on-back-requires
+    returns-2)

@@ -4,9 +4,10 @@ use Prim.Native.Nat.{_≤_, _<_}
 use native.Mathlib.Omega.{arith}
 use mathlib.Core.Path.{ap, sym, _∙_}
 use mathlib.Core.Bool.{false}
-use Rattle.costs.specs.Instance.{lentView}
+use Rattle.costs.specs.Instance.{viewFrom}
 use Rattle.unit.specs.declared.Unit.{Unit}
-use Rattle.unit.specs.Step.{Out, bareCost, backtrack, decidedOf}
+use Rattle.unit.specs.Step.{Decision, bareCost, backtrack}
+use Rattle.unit.specs.Ready.{decidedOf}
 use Rattle.unit.proofs.Lent.{own-lent}
 use Rattle.unit.proofs.Rules.{resume-back, resume-on}
 use borrow.Author.Needs.{needs}
@@ -25,10 +26,10 @@ backtrack-requires c κs = (c .before .before .before .before .before .pre .0 .n
 returns : tie.Need-returns
 returns c =
     λ was. let a = c .before .before .before .before .before .before .args in
-    let w = lentView (a .own) (a .n) (a .sizes) (a .costs .now) in
+    let w = viewFrom (a .seat) (a .costs .now) in
     let l : a .u .bound ≤ bareCost w (a .u) = rw (c .before .before .before .before .bare-cost .ensures) at (c .before .before .if1 .taken) in
-    c .backtrack .ensures w was (own-lent (a .own) (a .n) (a .sizes) (a .costs .now) (c .before .before .before .before .before .before .pre .0 .number .first))
-    ∙ ap (λ (t : Unit). decidedOf was (backtrack w false t)) (c .before .take-off .ensures) ∙ ap (λ (o : Out). decidedOf was o) (sym (resume-back w (a .u) l))
+    c .backtrack .ensures w was (own-lent (a .seat) (a .costs .now) (c .before .before .before .before .before .before .pre .0 .number .first))
+    ∙ ap (λ (t : Unit). decidedOf was (backtrack w false t)) (c .before .take-off .ensures) ∙ ap (λ (o : Decision). decidedOf was o) (sym (resume-back w (a .u) l))
 
 assign-requires : tie.Need-assign-requires
 assign-requires c κs = search needs
@@ -36,9 +37,9 @@ assign-requires c κs = search needs
 returns-2 : tie.Need-returns-2
 returns-2 c =
     λ was. let a = c .before .before .before .before .before .args in
-    let w = lentView (a .own) (a .n) (a .sizes) (a .costs .now) in
+    let w = viewFrom (a .seat) (a .costs .now) in
     let l : bareCost w (a .u) < a .u .bound = rw (c .before .before .before .bare-cost .ensures) at (c .before .if1 .left) in
-    c .assign .ensures was ∙ ap (λ (o : Out). decidedOf was o) (sym (resume-on w (a .u) l))
+    c .assign .ensures was ∙ ap (λ (o : Decision). decidedOf was o) (sym (resume-on w (a .u) l))
 
 pub resume-spec : {M : Type 1} → statement M
 resume-spec =

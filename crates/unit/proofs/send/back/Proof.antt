@@ -17,11 +17,11 @@ sized : (c : tie.Start) → Sized (c .args .m)
 sized c = record { stamp = search needs; values = search needs; best = search needs; cost = search needs; bound = search needs }
 
 -- there is room for the solutions: they are at most 16 with what is handed back
-room : (c : tie.Else1) → let a = c .before .before .before .before .before .before .args in c .before .before .before .hand-back .result + (a .own - 1) + (a .n - a .own) ≤ 16
+room : (c : tie.Else1) → let a = c .before .before .before .before .before .before .args in c .before .before .before .hand-back .result + (a .seat .own - 1) + (a .seat .n - a .seat .own) ≤ 16
 room c =
     let s = c .before .before .before .before .before .before in
     let a = s .args in
-    rw (back-count (a .n) (a .own) (a .m) (a .out .now) (omega arith) (sized s) (a .improved) _ _ (not-false _ (c .if1 .left)) (c .before .before .before .hand-back .ensures .0) refl) (s .pre .1)
+    rw (back-count (a .seat .n) (a .seat .own) (a .m) (a .out .now) (omega arith) (sized s) (a .improved) _ _ (not-false _ (c .if1 .left)) (c .before .before .before .hand-back .ensures .0) refl) (s .pre .1)
 
 hand-back-requires : tie.Need-hand-back-requires
 hand-back-requires c κs = search needs
@@ -30,7 +30,7 @@ same-length : tie.Need-same-length
 same-length c = search needs
 
 returns : tie.Need-returns
-returns c = let a = c .before .before .before .before .before .before .args in back-quiet (a .n) (a .own - 1) (a .m) (a .improved) _ (a .out .now) _ (not-true _ (c .if1 .taken)) (c .before .before .before .hand-back .ensures)
+returns c = let a = c .before .before .before .before .before .before .args in back-quiet (a .seat .n) (a .seat .own - 1) (a .m) (a .improved) _ (a .out .now) _ (not-true _ (c .if1 .taken)) (c .before .before .before .hand-back .ensures)
 
 bound-only-requires : tie.Need-bound-only-requires
 bound-only-requires c κs = search needs
@@ -40,9 +40,9 @@ sub-spread c = search needs
 
 spread-requires : tie.Need-spread-requires
 spread-requires c κs =
-    let a = c .before .before .before .before .before .before .before .before .args in
-    let few = room (c .before .before) in
-    let same : length (c .before .before .before .before .before .hand-back .last .1 .1 .1 .0) ≡ length (a .out .now) = search needs in
+    let a = c .before .before .before .before .before .before .before .before .before .args in
+    let few = room (c .before .before .before) in
+    let same : length (c .before .before .before .before .before .before .hand-back .last .1 .1 .0) ≡ length (a .out .now) = search needs in
     (omega arith, omega (arith, few), omega (arith, few, same))
 
 sub-spread-2 : tie.Need-sub-spread-2
@@ -50,10 +50,10 @@ sub-spread-2 c = search needs
 
 spread-requires-2 : tie.Need-spread-requires-2
 spread-requires-2 c κs =
-    let a = c .before .before .before .before .before .before .before .before .before .before .before .before .args in
-    let few = room (c .before .before .before .before .before .before) in
-    let lower = c .before .before .before .spread .ensures .0 in
-    let same : length (c .before .before .before .spread .last .1 .1 .1 .1 .0) ≡ length (a .out .now) = search needs in
+    let a = c .before .before .before .before .before .before .before .before .before .before .before .before .before .before .args in
+    let few = room (c .before .before .before .before .before .before .before .before) in
+    let lower = c .before .before .before .before .spread .ensures .0 in
+    let same : length (c .before .before .before .before .spread .last .1 .1 .1 .1 .0) ≡ length (a .out .now) = search needs in
     (omega arith, omega (arith, few, lower), omega (arith, few, lower, same))
 
 same-length-2 : tie.Need-same-length-2
@@ -61,15 +61,15 @@ same-length-2 c = search needs
 
 returns-2 : tie.Need-returns-2
 returns-2 c =
-    let a = c .before .before .before .before .before .before .before .before .before .before .before .before .before .before .before .args in
-    let z = sized (c .before .before .before .before .before .before .before .before .before .before .before .before .before .before .before) in
-    let few = room (c .before .before .before .before .before .before .before .before .before) in
-    let one = c .before .before .before .before .before .before .before .before .before .before .before .before .hand-back .ensures in
-    let two = c .before .before .before .before .before .before .spread .ensures in
+    let a = c .before .before .before .before .before .before .before .before .before .before .before .before .before .before .before .before .before .args in
+    let z = sized (c .before .before .before .before .before .before .before .before .before .before .before .before .before .before .before .before .before) in
+    let few = room (c .before .before .before .before .before .before .before .before .before .before .before) in
+    let one = c .before .before .before .before .before .before .before .before .before .before .before .before .before .before .hand-back .ensures in
+    let two = c .before .before .before .before .before .before .before .spread .ensures in
     let all = c .before .before .spread2 .ensures in
-    let e : a .improved ≡ true = not-false _ (c .before .before .before .before .before .before .before .before .before .if1 .left) in (
-      all .0 ∙ back-count (a .n) (a .own) (a .m) (a .out .now) (omega arith) z (a .improved) _ _ e (one .0) (two .0),
-      all .1 ∙ back-laid (a .n) (a .own) (a .m) (a .out .now) (omega arith) z (a .improved) _ _ e (one .0) (two .0) _ _ _ (c .before .before .before .before .before .before .before .before .bound-only .ensures) (one .1) (two .1) (omega (arith, few, two .0)),
+    let e : a .improved ≡ true = not-false _ (c .before .before .before .before .before .before .before .before .before .before .before .if1 .left) in (
+      all .0 ∙ back-count (a .seat .n) (a .seat .own) (a .m) (a .out .now) (omega arith) z (a .improved) _ _ e (one .0) (two .0),
+      all .1 ∙ back-laid (a .seat .n) (a .seat .own) (a .m) (a .out .now) (omega arith) z (a .improved) _ _ e (one .0) (two .0) _ _ _ (c .before .before .before .before .before .before .before .before .before .before .bound-only .ensures) (one .1) (two .1) (omega (arith, few, two .0)),
     )
 
 pub back-spec : {M : Type 1} → statement M

@@ -29,13 +29,13 @@ same-length c = search needs
 
 returns : tie.Need-returns
 returns c =
-    let a = c .before .before .before .before .before .before .before .before .before .before .args in
-    let z = sized (c .before .before .before .before .before .before .before .before .before .before) in
-    let one = c .before .before .before .before .before .before .before .spread .ensures in
+    let a = c .before .before .before .before .before .before .before .before .before .before .before .args in
+    let z = sized (c .before .before .before .before .before .before .before .before .before .before .before) in
+    let one = c .before .before .before .before .before .before .before .before .spread .ensures in
     let all = c .before .before .spread2 .ensures in
     λ b. (
-      all .0 ∙ forward-count (a .n) (a .own) (a .m) (a .out .now) (omega arith) z b _ (one .0),
-      all .1 ∙ forward-laid (a .n) (a .own) (a .m) (a .out .now) (omega arith) z b _ _ _ (one .1) (c .before .before .before .before .no-bound .ensures) (one .0) (omega arith),
+      all .0 ∙ forward-count (a .seat .n) (a .seat .own) (a .m) (a .out .now) (omega arith) z b _ (one .0),
+      all .1 ∙ forward-laid (a .seat .n) (a .seat .own) (a .m) (a .out .now) (omega arith) z b _ _ _ (one .1) (c .before .before .before .before .before .no-bound .ensures) (one .0) (omega arith),
     )
 
 pub forward-spec : {M : Type 1} → statement M

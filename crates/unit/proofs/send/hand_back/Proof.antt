@@ -8,6 +8,10 @@ use borrow.Author.Needs.{needs}
 use Rattle.unit.proofs.send.hand_back.Statement.{statement}
 use Rattle.unit.proofs.send.hand_back.Tie as tie
 
+-- what the types say of the message
+sized : (c : tie.Start) → Sized (c .args .m)
+sized c = record { stamp = search needs; values = search needs; best = search needs; cost = search needs; bound = search needs }
+
 bound-only-requires : tie.Need-bound-only-requires
 bound-only-requires c κs = search needs
 
@@ -22,11 +26,11 @@ same-length c = search needs
 
 returns : tie.Need-returns
 returns c =
-    let a = c .before .before .before .before .before .before .before .args in
-    let z : Sized (a .m) = record { stamp = search needs; values = search needs; best = search needs; cost = search needs; bound = search needs } in
-    let e = c .before .before .before .before .before .if1 .taken in
+    let a = c .before .before .before .before .before .before .before .before .before .args in
+    let z = sized (c .before .before .before .before .before .before .before .before .before) in
+    let e = c .before .before .before .before .before .before .if1 .taken in
     let all = c .before .before .spread .ensures in
-    (all .0 ∙ stops-count (a .n) (a .own) (a .m) (a .out .now) (omega arith) z e, all .1 ∙ stops-laid (a .n) (a .own) (a .m) (a .out .now) (omega arith) z e _ (c .before .before .before .before .bound-only .ensures))
+    (all .0 ∙ stops-count (a .seat .n) (a .seat .own) (a .m) (a .out .now) (omega arith) z e, all .1 ∙ stops-laid (a .seat .n) (a .seat .own) (a .m) (a .out .now) (omega arith) z e _ (c .before .before .before .before .before .bound-only .ensures))
 
 sub-spread-2 : tie.Need-sub-spread-2
 sub-spread-2 c = search needs
@@ -39,11 +43,11 @@ same-length-2 c = search needs
 
 returns-2 : tie.Need-returns-2
 returns-2 c =
-    let a = c .before .before .before .before .before .before .args in
-    let z : Sized (a .m) = record { stamp = search needs; values = search needs; best = search needs; cost = search needs; bound = search needs } in
-    let e = c .before .before .before .before .if1 .left in
+    let a = c .before .before .before .before .before .before .before .before .args in
+    let z = sized (c .before .before .before .before .before .before .before .before) in
+    let e = c .before .before .before .before .before .if1 .left in
     let all = c .before .before .spread2 .ensures in
-    (all .0 ∙ back-one-count (a .n) (a .own) (a .m) (a .out .now) (omega arith) z e, all .1 ∙ back-one-laid (a .n) (a .own) (a .m) (a .out .now) (omega arith) z e)
+    (all .0 ∙ back-one-count (a .seat .n) (a .seat .own) (a .m) (a .out .now) (omega arith) z e, all .1 ∙ back-one-laid (a .seat .n) (a .seat .own) (a .m) (a .out .now) (omega arith) z e)
 
 pub hand-back-spec : {M : Type 1} → statement M
 hand-back-spec =

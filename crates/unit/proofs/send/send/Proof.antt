@@ -23,7 +23,7 @@ enum-told-3 : tie.Need-enum-told-3
 enum-told-3 c = search needs
 
 back-requires : tie.Need-back-requires
-back-requires c κs = let s = c .before .before .before .before .before in (s .pre .0, few-by (s .args .n) (s .args .own - 1) (s .args .s) Back (c .before .enum-told3 .given .1) (s .pre .1))
+back-requires c κs = let s = c .before .before .before .before .before in (s .pre .0, few-by (s .args .seat .n) (s .args .seat .own - 1) (s .args .s) Back (c .before .enum-told3 .given .1) (s .pre .1))
 
 enum-told-4 : tie.Need-enum-told-4
 enum-told-4 c = search needs
@@ -32,19 +32,19 @@ put-requires : tie.Need-put-requires
 put-requires c κs = search needs
 
 returns : tie.Need-returns
-returns c = let a = c .before .before .before .before .args in sent-by (a .n) (a .own - 1) (a .s) Nothing _ (a .out .now) _ (c .enum-told .given .1) (refl, sym (laid-none (a .out .now)))
+returns c = let a = c .before .before .before .before .args in sent-by (a .seat .n) (a .seat .own - 1) (a .s) Nothing _ (a .out .now) _ (c .enum-told .given .1) (refl, sym (laid-none (a .out .now)))
 
 same-length : tie.Need-same-length
 same-length c = search needs
 
 returns-2 : tie.Need-returns-2
-returns-2 c = let a = c .before .before .before .before .before .before .before .before .args in sent-by (a .n) (a .own - 1) (a .s) Forward _ (a .out .now) _ (c .before .before .before .before .enum-told2 .given .1) (c .before .before .forward .ensures (a .s .improved))
+returns-2 c = let a = c .before .before .before .before .before .before .before .before .args in sent-by (a .seat .n) (a .seat .own - 1) (a .s) Forward _ (a .out .now) _ (c .before .before .before .before .enum-told2 .given .1) (c .before .before .forward .ensures (a .s .improved))
 
 same-length-2 : tie.Need-same-length-2
 same-length-2 c = search needs
 
 returns-3 : tie.Need-returns-3
-returns-3 c = let a = c .before .before .before .before .before .before .before .before .args in sent-by (a .n) (a .own - 1) (a .s) Back _ (a .out .now) _ (c .before .before .before .before .enum-told3 .given .1) (c .before .before .back .ensures)
+returns-3 c = let a = c .before .before .before .before .before .before .before .before .args in sent-by (a .seat .n) (a .seat .own - 1) (a .s) Back _ (a .out .now) _ (c .before .before .before .before .enum-told3 .given .1) (c .before .before .back .ensures)
 
 same-length-3 : tie.Need-same-length-3
 same-length-3 c = search needs
@@ -53,7 +53,7 @@ returns-4 : tie.Need-returns-4
 returns-4 c =
     let a = c .before .before .before .before .before .before .before .before .args in
     let z : Sized (a .s .message) = record { stamp = search needs; values = search needs; best = search needs; cost = search needs; bound = search needs } in
-    sent-by (a .n) (a .own - 1) (a .s) Reply _ (a .out .now) _ (c .before .before .before .before .enum-told4 .given .1) (refl, c .before .before .put .ensures .1 ∙ reply-laid (a .s .message) (a .out .now) z (omega arith))
+    sent-by (a .seat .n) (a .seat .own - 1) (a .s) Reply _ (a .out .now) _ (c .before .before .before .before .enum-told4 .given .1) (refl, c .before .before .put .ensures .1 ∙ reply-laid (a .s .message) (a .out .now) z (omega arith))
 
 pub send-spec : {M : Type 1} → statement M
 send-spec =

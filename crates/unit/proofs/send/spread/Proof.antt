@@ -7,13 +7,13 @@ use lib.ListN.{length}
 use borrow.Author.Needs.{needs}
 use Rattle.message.specs.Message.{Sized}
 use Rattle.message.specs.Encode.{putAt}
-use Rattle.unit.specs.Send.{each, encodeAll}
-use Rattle.unit.specs.Laying.{addressed, spread-none, spread-more}
+use Rattle.unit.specs.Send.{sentTo, each, encodeAll}
+use Rattle.unit.specs.Laying.{spread-none, spread-more}
 use Rattle.unit.proofs.send.spread.Statement.{statement}
 use Rattle.unit.proofs.send.spread.Tie as tie
 
 abbrev Inv-loop : tie.InvT-loop
-Inv-loop kind m lo count out₀ sent i₀ out i = (i ≤ count) × (length out ≡ length out₀) × (out ≡ putAt out₀ (64 * sent) (encodeAll (each (addressed kind m) lo i)))
+Inv-loop kind m lo count out₀ sent i₀ out i = (i ≤ count) × (length out ≡ length out₀) × (out ≡ putAt out₀ (64 * sent) (encodeAll (each (sentTo kind m) lo i)))
 
 abbrev μ-loop : tie.MeasureT-loop
 μ-loop kind m lo count out₀ sent i₀ out i = count - i

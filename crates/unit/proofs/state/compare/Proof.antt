@@ -4,7 +4,7 @@ use borrow.Author.Needs.{needs}
 use Prim.Native.Nat.{_≤_, _-_}
 use native.Mathlib.Omega.{arith}
 use mathlib.Core.Path.{_≡_, sym}
-use Rattle.unit.specs.declared.Order.the-variants.{Equal}
+use Rattle.unit.specs.declared.Ordering.the-variants.{Equal}
 use Rattle.unit.specs.State.{compareOn}
 use Rattle.unit.proofs.Orders.{less-found, more-found, equal-more, equal-none}
 use Rattle.unit.proofs.state.compare.Statement.{statement}

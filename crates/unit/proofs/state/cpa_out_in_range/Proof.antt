@@ -1,56 +1,62 @@
 -- `cpa_out_in_range` meets its contract: each way out decides a test of `cpaOutInRange`.
 -- Assumes nothing.
-use Prim.Native.Nat.{_+_, _≤_}
+use Prim.Native.Nat.{_≤_}
 use mathlib.Core.Path.{sym, _∙_}
 use borrow.Author.Tests.{not-true, not-false}
-use Rattle.message.specs.Message.{prefixLimit}
+use Rattle.base.specs.Limits.{prefixLimit}
 use Rattle.unit.proofs.Ranges.{out-stamp, out-values, out-cost, out-counter, out-tried, out-threshold, out-paid, out-bare}
 use borrow.Author.Needs.{needs}
 use Rattle.unit.proofs.state.cpa_out_in_range.Statement.{statement}
 use Rattle.unit.proofs.state.cpa_out_in_range.Tie as tie
 
-add-own : tie.Need-add-own
-add-own c = search needs
+sub-place : tie.Need-sub-place
+sub-place c = search needs
 
 filled-to-requires : tie.Need-filled-to-requires
 filled-to-requires c κs = search needs
 
 returns : tie.Need-returns
 returns c =
-    let a = c .before .before .before .before .args in
-    out-stamp (a .sizes) (a .place) (a .paid) (a .u) (sym (c .before .filled-to .ensures) ∙ not-true _ (c .if1 .taken))
+    let a = c .before .before .before .before .before .args in
+    out-stamp (a .seat .sizes) (a .seat .own) (a .paid) (a .u) (sym (c .before .filled-to .ensures) ∙ not-true _ (c .if1 .taken))
 
 filled-to-requires-2 : tie.Need-filled-to-requires-2
 filled-to-requires-2 c κs = search needs
 
 returns-2 : tie.Need-returns-2
 returns-2 c =
-    let a = c .before .before .before .before .before .before .args in
-    out-values (a .sizes) (a .place) (a .paid) (a .u) (sym (c .before .filled-to2 .ensures) ∙ not-true _ (c .if2 .taken))
+    let a = c .before .before .before .before .before .before .before .args in
+    out-values (a .seat .sizes) (a .seat .own) (a .paid) (a .u) (sym (c .before .filled-to2 .ensures) ∙ not-true _ (c .if2 .taken))
 
 prefix-limit-requires : tie.Need-prefix-limit-requires
 prefix-limit-requires c κs = search needs
 
 returns-3 : tie.Need-returns-3
 returns-3 c =
-    let a = c .before .before .before .before .before .before .before .before .before .args in
-    out-cost (a .sizes) (a .place) (a .paid) (a .u) (rw (c .before .before .prefix-limit .ensures) at (c .if3 .taken))
+    let a = c .before .before .before .before .before .before .before .before .before .before .args in
+    out-cost (a .seat .sizes) (a .seat .own) (a .paid) (a .u) (rw (c .before .before .prefix-limit .ensures) at (c .if3 .taken))
+
+cast-if4 : tie.Need-cast-if4
+cast-if4 c = search needs
 
 array-read-if4 : tie.Need-array-read-if4
 array-read-if4 c = search needs
 
 returns-4 : tie.Need-returns-4
 returns-4 c =
-    let a = c .before .before .before .before .before .before .before .before .before .before .before .args in
-    out-counter (a .sizes) (a .place) (a .paid) (a .u) (c .if4 .taken)
+    let a = c .before .before .before .before .before .before .before .before .before .before .before .before .args in
+    out-counter (a .seat .sizes) (a .seat .own) (a .paid) (a .u) (c .if4 .taken)
+
+cast-if5 : tie.Need-cast-if5
+cast-if5 c = search needs
 
 array-read-if5 : tie.Need-array-read-if5
 array-read-if5 c = search needs
 
 returns-5 : tie.Need-returns-5
 returns-5 c =
-    let a = c .before .before .before .before .before .before .before .before .before .before .before .before .before .args in
-    out-tried (a .sizes) (a .place) (a .paid) (a .u) (c .if5 .taken)
+    let a = c .before .before .before .before .before .before .before .before .before .before .before .before .before .before .args in
+    out-tried (a .seat .sizes) (a .seat .own) (a .paid) (a .u) (c .if5 .taken)
 
 cast-compare : tie.Need-cast-compare
 cast-compare c = search needs
@@ -58,54 +64,56 @@ cast-compare c = search needs
 compare-requires : tie.Need-compare-requires
 compare-requires c κs = search needs
 
-not-smaller-requires : tie.Need-not-smaller-requires
-not-smaller-requires c κs = search needs
+not-less-requires : tie.Need-not-less-requires
+not-less-requires c κs = search needs
 
 returns-6 : tie.Need-returns-6
 returns-6 c =
-    let a = c .before .before .before .before .before .before .before .before .before .before .before .before .before .before .before .before .before .args in
-    out-threshold (a .sizes) (a .place) (a .paid) (a .u) (sym (rw (c .before .before .compare .ensures) at (c .before .not-smaller .ensures)) ∙ not-true _ (c .if6 .taken))
+    let a = c .before .before .before .before .before .before .before .before .before .before .before .before .before .before .before .before .before .before .args in
+    out-threshold (a .seat .sizes) (a .seat .own) (a .paid) (a .u) (sym (rw (c .before .before .compare .ensures) at (c .before .not-less .ensures)) ∙ not-true _ (c .if6 .taken))
 
 returns-7 : tie.Need-returns-7
 returns-7 c =
-    let a = c .before .before .before .before .before .before .before .before .before .before .before .before .before .before .before .before .before .before .before .args in
-    out-paid (a .sizes) (a .place) (a .paid) (a .u) (c .if7 .taken)
+    let a = c .before .before .before .before .before .before .before .before .before .before .before .before .before .before .before .before .before .before .before .before .args in
+    out-paid (a .seat .sizes) (a .seat .own) (a .paid) (a .u) (c .if7 .taken)
 
 prefix-limit-requires-2 : tie.Need-prefix-limit-requires-2
 prefix-limit-requires-2 c κs = search needs
 
 returns-8 : tie.Need-returns-8
 returns-8 c =
-    let a = c .before .before .before .before .before .before .before .before .before .before .before .before .before .before .before .before .before .before .before .before .before .args in
-    let l : a .u .cost ≤ prefixLimit (a .place + 1) = rw (c .before .before .before .before .before .before .before .before .before .before .before .before .before .before .prefix-limit .ensures) at (c .before .before .before .before .before .before .before .before .before .before .before .before .if3 .left) in
+    let a = c .before .before .before .before .before .before .before .before .before .before .before .before .before .before .before .before .before .before .before .before .before .before .args in
+    let l : a .u .cost ≤ prefixLimit (a .seat .own) = rw (c .before .before .before .before .before .before .before .before .before .before .before .before .before .before .prefix-limit .ensures) at (c .before .before .before .before .before .before .before .before .before .before .before .before .if3 .left) in
     rw (c .prefix-limit2 .ensures)
-    (out-bare (a .sizes) (a .place) (a .paid) (a .u)
+    (out-bare (a .seat .sizes) (a .seat .own) (a .paid) (a .u)
     (sym (c .before .before .before .before .before .before .before .before .before .before .before .before .before .before .before .before .before .before .filled-to .ensures) ∙ not-false _ (c .before .before .before .before .before .before .before .before .before .before .before .before .before .before .before .before .before .if1 .left))
     (sym (c .before .before .before .before .before .before .before .before .before .before .before .before .before .before .before .before .filled-to2 .ensures) ∙ not-false _ (c .before .before .before .before .before .before .before .before .before .before .before .before .before .before .before .if2 .left))
     l
     (c .before .before .before .before .before .before .before .before .before .before .if4 .left)
     (c .before .before .before .before .before .before .before .before .if5 .left)
-    (sym (rw (c .before .before .before .before .before .before .compare .ensures) at (c .before .before .before .before .before .not-smaller .ensures)) ∙ not-false _ (c .before .before .before .before .if6 .left))
+    (sym (rw (c .before .before .before .before .before .before .compare .ensures) at (c .before .before .before .before .before .not-less .ensures)) ∙ not-false _ (c .before .before .before .before .if6 .left))
     (c .before .before .if7 .left))
 
 pub cpa-out-in-range-spec : {M : Type 1} → statement M
 cpa-out-in-range-spec =
     tie.close
     (tie.spec
-    add-own
+    sub-place
     filled-to-requires
     returns
     filled-to-requires-2
     returns-2
     prefix-limit-requires
     returns-3
+    cast-if4
     array-read-if4
     returns-4
+    cast-if5
     array-read-if5
     returns-5
     cast-compare
     compare-requires
-    not-smaller-requires
+    not-less-requires
     returns-6
     returns-7
     prefix-limit-requires-2

@@ -1,68 +1,39 @@
--- `same` meets its contract. The loop's invariant: the first i places are equal.
+-- `same` meets its contract: the places are equal where comparing finds them equal.
 -- Assumes nothing.
+use mathlib.Core.Path.{sym, ap, _∙_}
+use Rattle.unit.proofs.Orders.{isEqual, same-compared}
 use borrow.Author.Needs.{needs}
-use Prim.Native.Nat.{_≤_, _-_}
-use native.Mathlib.Omega.{arith}
-use mathlib.Core.Path.{_≡_, sym}
-use mathlib.Core.Bool.{true}
-use Rattle.unit.specs.State.{sameOn}
-use Rattle.unit.proofs.Orders.{unequal-found, same-more, same-none}
 use Rattle.unit.proofs.state.same.Statement.{statement}
 use Rattle.unit.proofs.state.same.Tie as tie
 
-abbrev Inv-loop : tie.InvT-loop
-Inv-loop k a b i₀ i = (i ≤ k) × (sameOn i a b ≡ true)
+compare-requires : tie.Need-compare-requires
+compare-requires c κs = search needs
 
-abbrev μ-loop : tie.MeasureT-loop
-μ-loop k a b i₀ i = k - i
+enum-told : tie.Need-enum-told
+enum-told c = search needs
 
-loop-holds : tie.Need-loop-holds Inv-loop μ-loop
-loop-holds c =
-    let s = c .args in
-    (omega arith, same-none (s .t2) (s .t3))
+enum-told-2 : tie.Need-enum-told-2
+enum-told-2 c = search needs
 
-array-read-if1 : tie.Need-array-read-if1 Inv-loop μ-loop
-array-read-if1 c = search needs
+enum-told-3 : tie.Need-enum-told-3
+enum-told-3 c = search needs
 
-array-read-if1-2 : tie.Need-array-read-if1-2 Inv-loop μ-loop
-array-read-if1-2 c = search needs
-
-returns : tie.Need-returns Inv-loop μ-loop
+returns : tie.Need-returns
 returns c =
-    let s = c .before .before .before .args in
-    let l = c .before .before .loop in
-    sym (unequal-found (s .t2) (s .t3) (l .i) (s .k) (omega arith) (l .inv .1) (c .if1 .taken))
+    let a = c .before .before .before .args in
+    sym (same-compared (a .a) (a .b) (a .k) ∙ ap isEqual (sym (c .before .before .compare .ensures) ∙ c .enum-told .given .1))
 
-add-i : tie.Need-add-i Inv-loop μ-loop
-add-i c = search needs
-
-loop-less : tie.Need-loop-less Inv-loop μ-loop
-loop-less c = search needs
-
-loop-again : tie.Need-loop-again Inv-loop μ-loop
-loop-again c =
-    let s = c .before .before .before .args in
-    let l = c .before .before .loop in
-    (omega arith, same-more (s .t2) (s .t3) (l .i) (l .inv .1) (c .if1 .left))
-
-returns-2 : tie.Need-returns-2 Inv-loop μ-loop
+returns-2 : tie.Need-returns-2
 returns-2 c =
-    let s = c .before .before .args in
-    let l = c .before .loop in
-    let e : l .i ≡ s .k = omega arith in
-    sym (rw e at (l .inv .1))
+    let a = c .before .before .before .args in
+    sym (same-compared (a .a) (a .b) (a .k) ∙ ap isEqual (sym (c .before .before .compare .ensures) ∙ c .enum-told2 .given .1))
+
+returns-3 : tie.Need-returns-3
+returns-3 c =
+    let a = c .before .before .before .args in
+    sym (same-compared (a .a) (a .b) (a .k) ∙ ap isEqual (sym (c .before .before .compare .ensures) ∙ c .enum-told3 .given .1))
 
 pub same-spec : {M : Type 1} → statement M
 same-spec =
     tie.close
-    (tie.spec
-    Inv-loop
-    μ-loop
-    loop-holds
-    array-read-if1
-    array-read-if1-2
-    returns
-    add-i
-    loop-less
-    loop-again
-    returns-2)
+    (tie.spec compare-requires enum-told enum-told-2 enum-told-3 returns returns-2 returns-3)
