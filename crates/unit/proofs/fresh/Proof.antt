@@ -4,11 +4,8 @@ use borrow.Author.Needs.{needs}
 use Rattle.unit.proofs.fresh.Statement.{statement}
 use Rattle.unit.proofs.fresh.Tie as tie
 
-no-unit-requires : tie.Need-no-unit-requires
-no-unit-requires c κs = search needs
-
 returns : tie.Need-returns
 returns c = rw (c .no-unit .ensures)
 
 pub fresh-spec : {M : Type 1} → statement M
-fresh-spec = tie.close (tie.spec no-unit-requires returns)
+fresh-spec = tie.close (tie.spec (λ c κs. search needs) returns)

@@ -18,15 +18,6 @@ use Rattle.unit.proofs.make.Tie as tie
 made : (c : tie.Else1) → let a = c .before .before .before .before .args in Makes (a .own) (a .n) (a .sizes) (a .costs .now) (length (a .out .now))
 made c = let a = c .before .before .before .before .args in makes (a .own) (a .n) (a .sizes) (a .costs .now) (length (a .out .now)) (sym (c .before .make-refusal .ensures) ∙ c .if1 .left)
 
-make-refusal-requires : tie.Need-make-refusal-requires
-make-refusal-requires c κs = search needs
-
-no-unit-requires : tie.Need-no-unit-requires
-no-unit-requires c κs = search needs
-
-refused-requires : tie.Need-refused-requires
-refused-requires c κs = search needs
-
 returns : tie.Need-returns
 returns c =
     let a = c .before .before .before .before .before .before .args in
@@ -45,9 +36,6 @@ carry-out-requires c κs =
       make-few (a .own) (a .n) (a .sizes) (a .costs .now) (a .out .now) m (omega (arith, sixteen, shape-n (a .n) (a .sizes) (m .shape) .1)) noUnit _ (c .before .start .ensures noUnit),
     )
 
-same-length : tie.Need-same-length
-same-length c = search needs
-
 returns-2 : tie.Need-returns-2
 returns-2 c =
     let a = c .before .before .before .before .before .before .before .before .before .args in
@@ -55,4 +43,4 @@ returns-2 c =
     (c .before .before .carry-out .ensures noUnit (start (lentView (a .own) (a .n) (a .sizes) (a .costs .now)) (pred (a .own))) (c .before .before .before .before .start .ensures noUnit))
 
 pub make-spec : {M : Type 1} → statement M
-make-spec = tie.close (tie.spec make-refusal-requires no-unit-requires refused-requires returns start-requires carry-out-requires same-length returns-2)
+make-spec = tie.close (tie.spec (λ c κs. search needs) (λ c κs. search needs) (λ c κs. search needs) returns start-requires carry-out-requires (λ c. search needs) returns-2)

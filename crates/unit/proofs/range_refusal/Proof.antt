@@ -9,9 +9,6 @@ use borrow.Author.Needs.{needs}
 use Rattle.unit.proofs.range_refusal.Statement.{statement}
 use Rattle.unit.proofs.range_refusal.Tie as tie
 
-seat-refusal-requires : tie.Need-seat-refusal-requires
-seat-refusal-requires c κs = search needs
-
 returns : tie.Need-returns
 returns c = let a = c .before .before .before .args in range-seat (a .seat) (a .costs .now) _ (c .before .seat-refusal .ensures) (a .u) (c .if1 .taken)
 
@@ -32,4 +29,4 @@ returns-3 c =
     range-0 (a .seat) (a .costs .now) _ (c .before .before .before .seat-refusal .ensures) (a .u) (c .before .before .if1 .left) (sym (c .before .lent-in-range .ensures) ∙ not-false _ (c .if2 .left))
 
 pub range-refusal-spec : {M : Type 1} → statement M
-range-refusal-spec = tie.close (tie.spec seat-refusal-requires returns lent-in-range-requires returns-2 returns-3)
+range-refusal-spec = tie.close (tie.spec (λ c κs. search needs) returns lent-in-range-requires returns-2 returns-3)

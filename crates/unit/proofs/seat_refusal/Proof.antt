@@ -13,20 +13,11 @@ use Rattle.unit.proofs.seat_refusal.Tie as tie
 shaped : (c : tie.Else1) → let a = c .before .before .before .before .args in shapeGood (a .seat .n) (a .seat .sizes) ≡ true
 shaped c = sym (c .before .shape-good .ensures) ∙ not-false _ (c .if1 .left)
 
-shape-good-requires : tie.Need-shape-good-requires
-shape-good-requires c κs = search needs
-
 returns : tie.Need-returns
 returns c = let a = c .before .before .before .before .args in seat-5 (a .seat) (a .costs .now) (sym (c .before .shape-good .ensures) ∙ not-true _ (c .if1 .taken))
 
-is-unit-requires : tie.Need-is-unit-requires
-is-unit-requires c κs = search needs
-
 returns-2 : tie.Need-returns-2
 returns-2 c = let a = c .before .before .before .before .before .before .args in seat-10 (a .seat) (a .costs .now) (shaped (c .before .before)) (sym (c .before .is-unit .ensures) ∙ not-true _ (c .if2 .taken))
-
-lent-refusal-requires : tie.Need-lent-refusal-requires
-lent-refusal-requires c κs = search needs
 
 returns-3 : tie.Need-returns-3
 returns-3 c =
@@ -34,4 +25,4 @@ returns-3 c =
     c .lent-refusal .ensures ∙ seat-lent (a .seat) (a .costs .now) (shaped (c .before .before .before)) (sym (c .before .before .is-unit .ensures) ∙ not-false _ (c .before .if2 .left))
 
 pub seat-refusal-spec : {M : Type 1} → statement M
-seat-refusal-spec = tie.close (tie.spec shape-good-requires returns is-unit-requires returns-2 lent-refusal-requires returns-3)
+seat-refusal-spec = tie.close (tie.spec (λ c κs. search needs) returns (λ c κs. search needs) returns-2 (λ c κs. search needs) returns-3)

@@ -35,32 +35,11 @@ long c =
     let sixteen : length (a .sizes) ≡ 16 = search needs in
     omega (arith, sixteen, shape-n (a .n) (a .sizes) (through c .shape) .1)
 
-step-refusal-requires : tie.Need-step-refusal-requires
-step-refusal-requires c κs = search needs
-
-refused-requires : tie.Need-refused-requires
-refused-requires c κs = search needs
-
 returns : tie.Need-returns
 returns c =
     let a = c .before .before .before .before .before .before .args in
     told-refused (a .n) (pred (a .own)) (a .u) (a .out .now) _ _ _
     (step-stops (a .u) (a .own) (a .n) (a .sizes) (a .costs .now) (length (a .out .now)) (a .packet .now) _ (c .before .before .step-refusal .ensures) (c .before .if1 .taken)) (c .refused .ensures (a .n) (pred (a .own)))
-
-parse-for-requires : tie.Need-parse-for-requires
-parse-for-requires c κs = search needs
-
-enum-known-answer : tie.Need-enum-known-answer
-enum-known-answer c = search needs
-
-enum-told : tie.Need-enum-told
-enum-told c = search needs
-
-refusal-of-requires : tie.Need-refusal-of-requires
-refusal-of-requires c κs = search needs
-
-refused-requires-2 : tie.Need-refused-requires-2
-refused-requires-2 c κs = search needs
 
 returns-2 : tie.Need-returns-2
 returns-2 c =
@@ -83,9 +62,6 @@ carry-out-requires c κs =
           (arrays (c .before .before .before .before .before .before .before .before .before .before .before .before)) (sized (c .before .before .before .before .before .before .parse-for .lifetimes) (c .before .before .before .before .before .before .parse-for .result) (c .before .before .before .before .before .before .parse-for .ok)) (a .u) _ (c .before .respond .ensures),
     )
 
-same-length : tie.Need-same-length
-same-length c = search needs
-
 returns-3 : tie.Need-returns-3
 returns-3 c =
     let a = c .before .before .before .before .before .before .before .before .before .before .before .before .before .before .before .args in
@@ -98,16 +74,16 @@ pub step-spec : {M : Type 1} → statement M
 step-spec =
     tie.close
     (tie.spec
-    step-refusal-requires
-    refused-requires
+    (λ c κs. search needs)
+    (λ c κs. search needs)
     returns
-    parse-for-requires
-    enum-known-answer
-    enum-told
-    refusal-of-requires
-    refused-requires-2
+    (λ c κs. search needs)
+    (λ c. search needs)
+    (λ c. search needs)
+    (λ c κs. search needs)
+    (λ c κs. search needs)
     returns-2
     respond-requires
     carry-out-requires
-    same-length
+    (λ c. search needs)
     returns-3)

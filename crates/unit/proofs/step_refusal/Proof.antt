@@ -9,11 +9,8 @@ use Rattle.unit.proofs.step_refusal.Tie as tie
 returns : tie.Need-returns
 returns c = let a = c .before .before .args in step-13 (a .seat) (a .costs .now) (a .u) (a .room) (c .if1 .taken)
 
-range-refusal-requires : tie.Need-range-refusal-requires
-range-refusal-requires c κs = search needs
-
 returns-2 : tie.Need-returns-2
 returns-2 c = let a = c .before .before .before .args in c .range-refusal .ensures ∙ step-range (a .seat) (a .costs .now) (a .u) (a .room) (c .before .if1 .left)
 
 pub step-refusal-spec : {M : Type 1} → statement M
-step-refusal-spec = tie.close (tie.spec returns range-refusal-requires returns-2)
+step-refusal-spec = tie.close (tie.spec returns (λ c κs. search needs) returns-2)

@@ -9,18 +9,6 @@ use borrow.Author.Needs.{needs}
 use Rattle.unit.proofs.assign.assign.Statement.{statement}
 use Rattle.unit.proofs.assign.assign.Tie as tie
 
-sub-place : tie.Need-sub-place
-sub-place c = search needs
-
-cast-place : tie.Need-cast-place
-cast-place c = search needs
-
-element-copy-out-value : tie.Need-element-copy-out-value
-element-copy-out-value c = search needs
-
-begin-requires : tie.Need-begin-requires
-begin-requires c κs = search needs
-
 try-after-requires : tie.Need-try-after-requires
 try-after-requires c κs =
     let s = c .before .before .before .before in
@@ -38,9 +26,9 @@ pub assign-spec : {M : Type 1} → statement M
 assign-spec =
     tie.close
     (tie.spec
-    sub-place
-    cast-place
-    element-copy-out-value
-    begin-requires
+    (λ c. search needs)
+    (λ c. search needs)
+    (λ c. search needs)
+    (λ c κs. search needs)
     try-after-requires
     returns)

@@ -6,21 +6,6 @@ use borrow.Author.Needs.{needs}
 use Rattle.unit.proofs.assign.begin.Statement.{statement}
 use Rattle.unit.proofs.assign.begin.Tie as tie
 
-sub-place : tie.Need-sub-place
-sub-place c = search needs
-
-cast-place : tie.Need-cast-place
-cast-place c = search needs
-
-element-copy-out-started : tie.Need-element-copy-out-started
-element-copy-out-started c = search needs
-
-started-requires : tie.Need-started-requires
-started-requires c κs = search needs
-
-take-off-requires : tie.Need-take-off-requires
-take-off-requires c κs = search needs
-
 returns : tie.Need-returns
 returns c =
     let a = c .before .before .before .before .before .before .args in
@@ -30,9 +15,9 @@ pub begin-spec : {M : Type 1} → statement M
 begin-spec =
     tie.close
     (tie.spec
-    sub-place
-    cast-place
-    element-copy-out-started
-    started-requires
-    take-off-requires
+    (λ c. search needs)
+    (λ c. search needs)
+    (λ c. search needs)
+    (λ c κs. search needs)
+    (λ c κs. search needs)
     returns)

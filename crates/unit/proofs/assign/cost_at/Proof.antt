@@ -10,21 +10,6 @@ use borrow.Author.Needs.{needs}
 use Rattle.unit.proofs.assign.cost_at.Statement.{statement}
 use Rattle.unit.proofs.assign.cost_at.Tie as tie
 
-sub-cost-with : tie.Need-sub-cost-with
-sub-cost-with c = search needs
-
-cost-with-requires : tie.Need-cost-with-requires
-cost-with-requires c κs = search needs
-
-wide-u64-requires : tie.Need-wide-u64-requires
-wide-u64-requires c κs = search needs
-
-wide-u64-requires-2 : tie.Need-wide-u64-requires-2
-wide-u64-requires-2 c κs = search needs
-
-add-result : tie.Need-add-result
-add-result c = search needs
-
 returns : tie.Need-returns
 returns c =
     let a = c .before .before .before .before .before .before .args in
@@ -36,4 +21,4 @@ returns c =
 pub cost-at-spec : {M : Type 1} → statement M
 cost-at-spec =
     tie.close
-    (tie.spec sub-cost-with cost-with-requires wide-u64-requires wide-u64-requires-2 add-result returns)
+    (tie.spec (λ c. search needs) (λ c κs. search needs) (λ c κs. search needs) (λ c κs. search needs) (λ c. search needs) returns)

@@ -4,11 +4,8 @@ use borrow.Author.Needs.{needs}
 use Rattle.unit.proofs.assign.forward.Statement.{statement}
 use Rattle.unit.proofs.assign.forward.Tie as tie
 
-carry-requires : tie.Need-carry-requires
-carry-requires c κs = search needs
-
 returns : tie.Need-returns
 returns c = λ w e. rw (c .carry .ensures w e)
 
 pub forward-spec : {M : Type 1} → statement M
-forward-spec = tie.close (tie.spec carry-requires returns)
+forward-spec = tie.close (tie.spec (λ c κs. search needs) returns)

@@ -4,14 +4,8 @@ use borrow.Author.Needs.{needs}
 use Rattle.unit.proofs.assign.improve.Statement.{statement}
 use Rattle.unit.proofs.assign.improve.Tie as tie
 
-with-best-requires : tie.Need-with-best-requires
-with-best-requires c κs = search needs
-
-take-off-requires : tie.Need-take-off-requires
-take-off-requires c κs = search needs
-
 returns : tie.Need-returns
 returns c = rw (c .take-off .ensures, c .before .with-best .ensures)
 
 pub improve-spec : {M : Type 1} → statement M
-improve-spec = tie.close (tie.spec with-best-requires take-off-requires returns)
+improve-spec = tie.close (tie.spec (λ c κs. search needs) (λ c κs. search needs) returns)

@@ -10,21 +10,6 @@ use borrow.Author.Needs.{needs}
 use Rattle.unit.proofs.assign.put.Statement.{statement}
 use Rattle.unit.proofs.assign.put.Tie as tie
 
-sub-place : tie.Need-sub-place
-sub-place c = search needs
-
-cast-place : tie.Need-cast-place
-cast-place c = search needs
-
-add-count : tie.Need-add-count
-add-count c = search needs
-
-element-write-t : tie.Need-element-write-t
-element-write-t c = search needs
-
-element-write-t-2 : tie.Need-element-write-t-2
-element-write-t-2 c = search needs
-
 returns : tie.Need-returns
 returns c =
     let a = c .before .before .args in
@@ -34,4 +19,4 @@ returns c =
 
 pub put-spec : {M : Type 1} → statement M
 put-spec =
-    tie.close (tie.spec sub-place cast-place add-count element-write-t element-write-t-2 returns)
+    tie.close (tie.spec (λ c. search needs) (λ c. search needs) (λ c. search needs) (λ c. search needs) (λ c. search needs) returns)

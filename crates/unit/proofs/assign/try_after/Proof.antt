@@ -21,15 +21,6 @@ Inv-loop seat costs from d t₀ improved₀ records₀ v₀ t improved records v
 abbrev μ-loop : tie.MeasureT-loop
 μ-loop seat costs from d t₀ improved₀ records₀ v₀ t improved records v = d - v
 
-sub-d : tie.Need-sub-d Inv-loop μ-loop
-sub-d c = search needs
-
-cast-d : tie.Need-cast-d Inv-loop μ-loop
-cast-d c = search needs
-
-array-read-d : tie.Need-array-read-d Inv-loop μ-loop
-array-read-d c = search needs
-
 loop-holds : tie.Need-loop-holds Inv-loop μ-loop
 loop-holds c =
     let a = c .before .before .before .args in
@@ -43,35 +34,8 @@ loop-holds c =
       whole = λ was. counted-none was (tryAfter (viewFrom (a .seat) (a .costs .now)) (getD (a .seat .sizes) (a .seat .own - 1) 0 - a .from) (a .from) false (a .u));
     }
 
-add-v : tie.Need-add-v Inv-loop μ-loop
-add-v c = search needs
-
-cost-at-requires : tie.Need-cost-at-requires Inv-loop μ-loop
-cost-at-requires c κs = search needs
-
-h-requires : tie.Need-h-requires Inv-loop μ-loop
-h-requires c κs = search needs
-
-wide-u64-requires : tie.Need-wide-u64-requires Inv-loop μ-loop
-wide-u64-requires c κs = search needs
-
-add-if1 : tie.Need-add-if1 Inv-loop μ-loop
-add-if1 c = search needs
-
-wide-u64-requires-2 : tie.Need-wide-u64-requires-2 Inv-loop μ-loop
-wide-u64-requires-2 c κs = search needs
-
-add-records : tie.Need-add-records Inv-loop μ-loop
-add-records c = search needs
-
 cast-put : tie.Need-cast-put Inv-loop μ-loop
 cast-put c = record { fits = omega arith }
-
-put-requires : tie.Need-put-requires Inv-loop μ-loop
-put-requires c κs = search needs
-
-forward-requires : tie.Need-forward-requires Inv-loop μ-loop
-forward-requires c κs = search needs
 
 returns : tie.Need-returns Inv-loop μ-loop
 returns c =
@@ -86,12 +50,6 @@ returns c =
     ∙ written-on w (getD (a .seat .sizes) (a .seat .own - 1) 0) (l .v) (l .records) was (l .improved) (l .t) (omega arith) (c .before .before .before .before .before .before .before .before .cost-at .result) (c .before .before .before .before .before .before .wide-u64 .result) (c .before .before .before .before .before .before .before .before .cost-at .ensures .0) seen
     (omega arith) (λ z. c .before .if2 .taken (sym o ∙ z ∙ n-lent (a .seat) (a .costs .now))) (c .before .before .before .put .result) put
     ∙ rw (c .forward .ensures w o))
-
-improve-requires : tie.Need-improve-requires Inv-loop μ-loop
-improve-requires c κs = search needs
-
-loop-less : tie.Need-loop-less Inv-loop μ-loop
-loop-less c = search needs
 
 loop-again : tie.Need-loop-again Inv-loop μ-loop
 loop-again c =
@@ -112,9 +70,6 @@ loop-again c =
           ∙ rw (c .improve .ensures);
     }
 
-loop-less-2 : tie.Need-loop-less-2 Inv-loop μ-loop
-loop-less-2 c = search needs
-
 loop-again-2 : tie.Need-loop-again-2 Inv-loop μ-loop
 loop-again-2 c =
     let a = c .before .before .before .before .before .before .before .before .before .before .args in
@@ -131,9 +86,6 @@ loop-again-2 c =
           ∙ passed-over w (getD (a .seat .sizes) (a .seat .own - 1) 0) (l .v) (l .records) was (l .improved) (l .t) (omega arith) (c .before .before .before .before .cost-at .result) (c .before .before .wide-u64 .result) (c .before .before .before .before .cost-at .ensures .0) seen (omega arith);
     }
 
-backtrack-requires : tie.Need-backtrack-requires Inv-loop μ-loop
-backtrack-requires c κs = search needs
-
 returns-2 : tie.Need-returns-2 Inv-loop μ-loop
 returns-2 c =
     λ was.
@@ -149,25 +101,25 @@ try-after-spec =
     (tie.spec
     Inv-loop
     μ-loop
-    sub-d
-    cast-d
-    array-read-d
+    (λ c. search needs)
+    (λ c. search needs)
+    (λ c. search needs)
     loop-holds
-    add-v
-    cost-at-requires
-    h-requires
-    wide-u64-requires
-    add-if1
-    wide-u64-requires-2
-    add-records
+    (λ c. search needs)
+    (λ c κs. search needs)
+    (λ c κs. search needs)
+    (λ c κs. search needs)
+    (λ c. search needs)
+    (λ c κs. search needs)
+    (λ c. search needs)
     cast-put
-    put-requires
-    forward-requires
+    (λ c κs. search needs)
+    (λ c κs. search needs)
     returns
-    improve-requires
-    loop-less
+    (λ c κs. search needs)
+    (λ c. search needs)
     loop-again
-    loop-less-2
+    (λ c. search needs)
     loop-again-2
-    backtrack-requires
+    (λ c κs. search needs)
     returns-2)

@@ -9,23 +9,8 @@ use borrow.Author.Needs.{needs}
 use Rattle.unit.proofs.backtrack.back_up.Statement.{statement}
 use Rattle.unit.proofs.backtrack.back_up.Tie as tie
 
-sub-place : tie.Need-sub-place
-sub-place c = search needs
-
-cast-place : tie.Need-cast-place
-cast-place c = search needs
-
-element-copy-out-v : tie.Need-element-copy-out-v
-element-copy-out-v c = search needs
-
 add-v : tie.Need-add-v
 add-v c = record { fits = omega arith }
-
-element-write-v : tie.Need-element-write-v
-element-write-v c = search needs
-
-with-stopped-requires : tie.Need-with-stopped-requires
-with-stopped-requires c κs = search needs
 
 returns : tie.Need-returns
 returns c =
@@ -43,11 +28,11 @@ pub back-up-spec : {M : Type 1} → statement M
 back-up-spec =
     tie.close
     (tie.spec
-    sub-place
-    cast-place
-    element-copy-out-v
+    (λ c. search needs)
+    (λ c. search needs)
+    (λ c. search needs)
     add-v
-    element-write-v
-    with-stopped-requires
+    (λ c. search needs)
+    (λ c κs. search needs)
     returns
     returns-2)

@@ -5,15 +5,9 @@ use borrow.Author.Needs.{needs}
 use Rattle.unit.proofs.backtrack.backtrack.Statement.{statement}
 use Rattle.unit.proofs.backtrack.backtrack.Tie as tie
 
-back-up-requires : tie.Need-back-up-requires
-back-up-requires c κs = search needs
-
-carry-requires : tie.Need-carry-requires
-carry-requires c κs = search needs
-
 returns : tie.Need-returns
 unfolding backtrack
 returns c = λ w was e. rw (c .before .back-up .ensures w e, c .carry .ensures w e)
 
 pub backtrack-spec : {M : Type 1} → statement M
-backtrack-spec = tie.close (tie.spec back-up-requires carry-requires returns)
+backtrack-spec = tie.close (tie.spec (λ c κs. search needs) (λ c κs. search needs) returns)

@@ -10,18 +10,6 @@ use borrow.Author.Needs.{needs}
 use Rattle.unit.proofs.backtrack.bare_cost.Statement.{statement}
 use Rattle.unit.proofs.backtrack.bare_cost.Tie as tie
 
-sub-place : tie.Need-sub-place
-sub-place c = search needs
-
-cast-value : tie.Need-cast-value
-cast-value c = search needs
-
-array-read-value : tie.Need-array-read-value
-array-read-value c = search needs
-
-cost-with-requires : tie.Need-cost-with-requires
-cost-with-requires c κs = search needs
-
 returns : tie.Need-returns
 returns c =
     let a = c .before .before .before .before .before .before .before .args in
@@ -38,4 +26,4 @@ returns-2 c =
 
 pub bare-cost-spec : {M : Type 1} → statement M
 bare-cost-spec =
-    tie.close (tie.spec sub-place cast-value array-read-value cost-with-requires returns returns-2)
+    tie.close (tie.spec (λ c. search needs) (λ c. search needs) (λ c. search needs) (λ c κs. search needs) returns returns-2)

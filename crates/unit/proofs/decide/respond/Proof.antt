@@ -10,43 +10,10 @@ use borrow.Author.Needs.{needs}
 use Rattle.unit.proofs.decide.respond.Statement.{statement}
 use Rattle.unit.proofs.decide.respond.Tie as tie
 
-refuse-requires : tie.Need-refuse-requires
-refuse-requires c κs = search needs
-
 returns : tie.Need-returns
 returns c =
     let a = c .before .before .before .args in
     c .refuse .ensures ∙ ap (λ (x : Decision). decidedOf (a .u) x) (respond-stopped (viewFrom (a .seat) (a .costs .now)) (a .kind) (a .u) (a .m) (c .before .if1 .taken))
-
-enum-told : tie.Need-enum-told
-enum-told c = search needs
-
-on-cpa-requires : tie.Need-on-cpa-requires
-on-cpa-requires c κs = search needs
-
-enum-told-2 : tie.Need-enum-told-2
-enum-told-2 c = search needs
-
-on-request-requires : tie.Need-on-request-requires
-on-request-requires c κs = search needs
-
-enum-told-3 : tie.Need-enum-told-3
-enum-told-3 c = search needs
-
-on-estimate-requires : tie.Need-on-estimate-requires
-on-estimate-requires c κs = search needs
-
-enum-told-4 : tie.Need-enum-told-4
-enum-told-4 c = search needs
-
-on-solution-requires : tie.Need-on-solution-requires
-on-solution-requires c κs = search needs
-
-enum-told-5 : tie.Need-enum-told-5
-enum-told-5 c = search needs
-
-on-stop-requires : tie.Need-on-stop-requires
-on-stop-requires c κs = search needs
 
 returns-2 : tie.Need-returns-2
 returns-2 c =
@@ -82,18 +49,18 @@ pub respond-spec : {M : Type 1} → statement M
 respond-spec =
     tie.close
     (tie.spec
-    refuse-requires
+    (λ c κs. search needs)
     returns
-    enum-told
-    on-cpa-requires
-    enum-told-2
-    on-request-requires
-    enum-told-3
-    on-estimate-requires
-    enum-told-4
-    on-solution-requires
-    enum-told-5
-    on-stop-requires
+    (λ c. search needs)
+    (λ c κs. search needs)
+    (λ c. search needs)
+    (λ c κs. search needs)
+    (λ c. search needs)
+    (λ c κs. search needs)
+    (λ c. search needs)
+    (λ c κs. search needs)
+    (λ c. search needs)
+    (λ c κs. search needs)
     returns-2
     returns-3
     returns-4

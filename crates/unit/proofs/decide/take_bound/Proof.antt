@@ -5,9 +5,6 @@ use borrow.Author.Needs.{needs}
 use Rattle.unit.proofs.decide.take_bound.Statement.{statement}
 use Rattle.unit.proofs.decide.take_bound.Tie as tie
 
-with-best-requires : tie.Need-with-best-requires
-with-best-requires c κs = search needs
-
 returns : tie.Need-returns
 returns c = simp (lt-ltb _ _ (c .before .before .if1 .taken)) (c .with-best .ensures)
 
@@ -15,4 +12,4 @@ returns-2 : tie.Need-returns-2
 returns-2 c = simp (le-ltb _ _ (c .if1 .left))
 
 pub take-bound-spec : {M : Type 1} → statement M
-take-bound-spec = tie.close (tie.spec with-best-requires returns returns-2)
+take-bound-spec = tie.close (tie.spec (λ c κs. search needs) returns returns-2)

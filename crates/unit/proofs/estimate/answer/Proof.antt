@@ -5,13 +5,10 @@ use borrow.Author.Needs.{needs}
 use Rattle.unit.proofs.estimate.answer.Statement.{statement}
 use Rattle.unit.proofs.estimate.answer.Tie as tie
 
-estimate-requires : tie.Need-estimate-requires
-estimate-requires c κs = search needs
-
 returns : tie.Need-returns
 returns c =
     λ was. let a = c .before .before .before .before .args in
     rw (c .estimate .ensures, own-lent (a .seat) (a .costs .now) (c .before .before .before .before .pre .first))
 
 pub answer-spec : {M : Type 1} → statement M
-answer-spec = tie.close (tie.spec estimate-requires returns)
+answer-spec = tie.close (tie.spec (λ c κs. search needs) returns)

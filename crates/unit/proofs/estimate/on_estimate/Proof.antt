@@ -11,30 +11,6 @@ use borrow.Author.Needs.{needs}
 use Rattle.unit.proofs.estimate.on_estimate.Statement.{statement}
 use Rattle.unit.proofs.estimate.on_estimate.Tie as tie
 
-cast-compare : tie.Need-cast-compare
-cast-compare c = search needs
-
-compare-requires : tie.Need-compare-requires
-compare-requires c κs = search needs
-
-enum-told : tie.Need-enum-told
-enum-told c = search needs
-
-quiet-requires : tie.Need-quiet-requires
-quiet-requires c κs = search needs
-
-enum-told-2 : tie.Need-enum-told-2
-enum-told-2 c = search needs
-
-on-own-estimate-requires : tie.Need-on-own-estimate-requires
-on-own-estimate-requires c κs = search needs
-
-enum-told-3 : tie.Need-enum-told-3
-enum-told-3 c = search needs
-
-refuse-requires : tie.Need-refuse-requires
-refuse-requires c κs = search needs
-
 returns : tie.Need-returns
 returns c =
     let a = c .before .before .before .before .before .before .before .before .args in
@@ -63,14 +39,14 @@ pub on-estimate-spec : {M : Type 1} → statement M
 on-estimate-spec =
     tie.close
     (tie.spec
-    cast-compare
-    compare-requires
-    enum-told
-    quiet-requires
-    enum-told-2
-    on-own-estimate-requires
-    enum-told-3
-    refuse-requires
+    (λ c. search needs)
+    (λ c κs. search needs)
+    (λ c. search needs)
+    (λ c κs. search needs)
+    (λ c. search needs)
+    (λ c κs. search needs)
+    (λ c. search needs)
+    (λ c κs. search needs)
     returns
     returns-2
     returns-3)

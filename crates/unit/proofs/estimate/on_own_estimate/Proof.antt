@@ -14,12 +14,6 @@ use borrow.Author.Needs.{needs}
 use Rattle.unit.proofs.estimate.on_own_estimate.Statement.{statement}
 use Rattle.unit.proofs.estimate.on_own_estimate.Tie as tie
 
-is-stamp-out-requires : tie.Need-is-stamp-out-requires
-is-stamp-out-requires c κs = search needs
-
-refuse-requires : tie.Need-refuse-requires
-refuse-requires c κs = search needs
-
 returns : tie.Need-returns
 returns c =
     let a = c .before .before .before .before .args in
@@ -27,22 +21,10 @@ returns c =
     let o = own-lent (a .seat) (a .costs .now) (c .before .before .before .before .pre .0 .number .first) in
     c .refuse .ensures ∙ ap (λ (x : Decision). decidedOf (a .u) x) (estimate-foreign w (a .u) (a .m) (sym (c .before .before .is-stamp-out .ensures w o) ∙ not-true _ (c .before .if1 .taken)))
 
-store-requires : tie.Need-store-requires
-store-requires c κs = search needs
-
-wide-u64-requires : tie.Need-wide-u64-requires
-wide-u64-requires c κs = search needs
-
-wide-u64-requires-2 : tie.Need-wide-u64-requires-2
-wide-u64-requires-2 c κs = search needs
-
 sum-later-requires : tie.Need-sum-later-requires
 sum-later-requires c κs =
     let a = c .before .before .before .before .before .before .before .args in
     (c .before .before .before .before .before .before .before .pre .0 .within, shape-n (a .seat .n) (a .seat .sizes) (c .before .before .before .before .before .before .before .pre .0 .shape) .1)
-
-add-if2 : tie.Need-add-if2
-add-if2 c = search needs
 
 assign-requires : tie.Need-assign-requires
 assign-requires c κs =
@@ -59,9 +41,6 @@ returns-2 c =
     let l : t .bound ≤ t .cost + sumLater w (t .estimates) = omega (arith, f, c .before .before .before .wide-u642 .ensures .0, c .before .before .before .before .wide-u64 .ensures .0, c .before .if2 .taken) in
     c .assign .ensures (a .u) ∙ ap (λ (x : Decision). decidedOf (a .u) x) (estimate-reached w (a .u) t (a .m) (sym (c .before .before .before .before .before .before .before .before .is-stamp-out .ensures w o) ∙ not-false _ (c .before .before .before .before .before .before .before .if1 .left)) (c .before .before .before .before .before .before .store .ensures) l)
 
-quiet-requires : tie.Need-quiet-requires
-quiet-requires c κs = search needs
-
 returns-3 : tie.Need-returns-3
 returns-3 c =
     let a = c .before .before .before .before .before .before .before .before .before .before .args in
@@ -76,15 +55,15 @@ pub on-own-estimate-spec : {M : Type 1} → statement M
 on-own-estimate-spec =
     tie.close
     (tie.spec
-    is-stamp-out-requires
-    refuse-requires
+    (λ c κs. search needs)
+    (λ c κs. search needs)
     returns
-    store-requires
-    wide-u64-requires
-    wide-u64-requires-2
+    (λ c κs. search needs)
+    (λ c κs. search needs)
+    (λ c κs. search needs)
     sum-later-requires
-    add-if2
+    (λ c. search needs)
     assign-requires
     returns-2
-    quiet-requires
+    (λ c κs. search needs)
     returns-3)

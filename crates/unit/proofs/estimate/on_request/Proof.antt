@@ -13,36 +13,6 @@ use borrow.Author.Needs.{needs}
 use Rattle.unit.proofs.estimate.on_request.Statement.{statement}
 use Rattle.unit.proofs.estimate.on_request.Tie as tie
 
-sub-compare : tie.Need-sub-compare
-sub-compare c = search needs
-
-cast-compare : tie.Need-cast-compare
-cast-compare c = search needs
-
-compare-requires : tie.Need-compare-requires
-compare-requires c κs = search needs
-
-enum-told : tie.Need-enum-told
-enum-told c = search needs
-
-quiet-requires : tie.Need-quiet-requires
-quiet-requires c κs = search needs
-
-enum-told-2 : tie.Need-enum-told-2
-enum-told-2 c = search needs
-
-answer-requires : tie.Need-answer-requires
-answer-requires c κs = search needs
-
-enum-told-3 : tie.Need-enum-told-3
-enum-told-3 c = search needs
-
-follow-requires : tie.Need-follow-requires
-follow-requires c κs = search needs
-
-answer-requires-2 : tie.Need-answer-requires-2
-answer-requires-2 c κs = search needs
-
 returns : tie.Need-returns
 returns c =
     λ was. let a = c .before .before .before .before .before .before .before .before .args in
@@ -69,16 +39,16 @@ pub on-request-spec : {M : Type 1} → statement M
 on-request-spec =
     tie.close
     (tie.spec
-    sub-compare
-    cast-compare
-    compare-requires
-    enum-told
-    quiet-requires
-    enum-told-2
-    answer-requires
-    enum-told-3
-    follow-requires
-    answer-requires-2
+    (λ c. search needs)
+    (λ c. search needs)
+    (λ c κs. search needs)
+    (λ c. search needs)
+    (λ c κs. search needs)
+    (λ c. search needs)
+    (λ c κs. search needs)
+    (λ c. search needs)
+    (λ c κs. search needs)
+    (λ c κs. search needs)
     returns
     returns-2
     returns-3)

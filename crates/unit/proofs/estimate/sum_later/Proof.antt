@@ -16,32 +16,8 @@ Inv-loop estimates count sum₀ j₀ sum j = (j₀ ≤ j) × (j ≤ count) × (c
 abbrev μ-loop : tie.MeasureT-loop
 μ-loop estimates count sum₀ j₀ sum j = count - j
 
-cast-count : tie.Need-cast-count Inv-loop μ-loop
-cast-count c = search needs
-
-cast-j : tie.Need-cast-j Inv-loop μ-loop
-cast-j c = search needs
-
 loop-holds : tie.Need-loop-holds Inv-loop μ-loop
 loop-holds c = (omega arith, omega arith, omega arith, omega arith, omega arith)
-
-mul-wide-u64 : tie.Need-mul-wide-u64 Inv-loop μ-loop
-mul-wide-u64 c = search needs
-
-array-read-wide-u64 : tie.Need-array-read-wide-u64 Inv-loop μ-loop
-array-read-wide-u64 c = search needs
-
-wide-u64-requires : tie.Need-wide-u64-requires Inv-loop μ-loop
-wide-u64-requires c κs = search needs
-
-add-sum : tie.Need-add-sum Inv-loop μ-loop
-add-sum c = search needs
-
-add-j : tie.Need-add-j Inv-loop μ-loop
-add-j c = search needs
-
-loop-less : tie.Need-loop-less Inv-loop μ-loop
-loop-less c = search needs
 
 loop-again : tie.Need-loop-again Inv-loop μ-loop
 loop-again c =
@@ -62,14 +38,14 @@ sum-later-spec =
     (tie.spec
     Inv-loop
     μ-loop
-    cast-count
-    cast-j
+    (λ c. search needs)
+    (λ c. search needs)
     loop-holds
-    mul-wide-u64
-    array-read-wide-u64
-    wide-u64-requires
-    add-sum
-    add-j
-    loop-less
+    (λ c. search needs)
+    (λ c. search needs)
+    (λ c κs. search needs)
+    (λ c. search needs)
+    (λ c. search needs)
+    (λ c. search needs)
     loop-again
     returns)

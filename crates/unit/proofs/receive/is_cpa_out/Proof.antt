@@ -9,17 +9,11 @@ use borrow.Author.Needs.{needs}
 use Rattle.unit.proofs.receive.is_cpa_out.Statement.{statement}
 use Rattle.unit.proofs.receive.is_cpa_out.Tie as tie
 
-is-stamp-out-requires : tie.Need-is-stamp-out-requires
-is-stamp-out-requires c κs = search needs
-
 returns : tie.Need-returns
 returns c =
     λ w o. let a = c .before .before .args in
     let x : c .before .is-stamp-out .result ≡ false = not-true _ (c .if1 .taken) in
     rw (← cpa-out w (a .u) (a .m) (a .own) (c .before .is-stamp-out .result) (sameOn (a .own) (a .m .values) (a .u .values)) o (c .before .is-stamp-out .ensures w o) refl, x)
-
-same-requires : tie.Need-same-requires
-same-requires c κs = search needs
 
 returns-2 : tie.Need-returns-2
 returns-2 c =
@@ -37,4 +31,4 @@ returns-3 c =
 
 pub is-cpa-out-spec : {M : Type 1} → statement M
 is-cpa-out-spec =
-    tie.close (tie.spec is-stamp-out-requires returns same-requires returns-2 returns-3)
+    tie.close (tie.spec (λ c κs. search needs) returns (λ c κs. search needs) returns-2 returns-3)

@@ -8,22 +8,10 @@ use borrow.Author.Needs.{needs}
 use Rattle.unit.proofs.receive.is_stamp_out.Statement.{statement}
 use Rattle.unit.proofs.receive.is_stamp_out.Tie as tie
 
-sub-if1 : tie.Need-sub-if1
-sub-if1 c = search needs
-
-cast-if1 : tie.Need-cast-if1
-cast-if1 c = search needs
-
-element-copy-out-if1 : tie.Need-element-copy-out-if1
-element-copy-out-if1 c = search needs
-
 returns : tie.Need-returns
 returns c =
     λ w o. let a = c .before .before .args in
     rw (is-out-not w (a .t2) (a .own - 1) (omega arith) (c .if1 .taken))
-
-same-requires : tie.Need-same-requires
-same-requires c κs = search needs
 
 returns-2 : tie.Need-returns-2
 returns-2 c =
@@ -32,4 +20,4 @@ returns-2 c =
 
 pub is-stamp-out-spec : {M : Type 1} → statement M
 is-stamp-out-spec =
-    tie.close (tie.spec sub-if1 cast-if1 element-copy-out-if1 returns same-requires returns-2)
+    tie.close (tie.spec (λ c. search needs) (λ c. search needs) (λ c. search needs) returns (λ c κs. search needs) returns-2)

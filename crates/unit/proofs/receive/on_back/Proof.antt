@@ -14,24 +14,12 @@ use borrow.Author.Needs.{needs}
 use Rattle.unit.proofs.receive.on_back.Statement.{statement}
 use Rattle.unit.proofs.receive.on_back.Tie as tie
 
-not-less-requires : tie.Need-not-less-requires
-not-less-requires c κs = search needs
-
-quiet-requires : tie.Need-quiet-requires
-quiet-requires c κs = search needs
-
 returns : tie.Need-returns
 returns c =
     let a = c .before .before .before .before .args in
     let w = viewFrom (a .seat) (a .costs .now) in
     let x : notLess (a .order) ≡ false = sym (c .before .before .not-less .ensures) ∙ not-true _ (c .before .if1 .taken) in
     c .quiet .ensures (a .u) ∙ ap (λ (o : Decision). decidedOf (a .u) o) (back-stale w (a .order) (a .u) (a .m) x)
-
-is-cpa-out-requires : tie.Need-is-cpa-out-requires
-is-cpa-out-requires c κs = search needs
-
-refuse-requires : tie.Need-refuse-requires
-refuse-requires c κs = search needs
 
 returns-2 : tie.Need-returns-2
 returns-2 c =
@@ -40,9 +28,6 @@ returns-2 c =
     let x : notLess (a .order) ≡ true = sym (c .before .before .before .before .not-less .ensures) ∙ not-false _ (c .before .before .before .if1 .left) in
     let y : isCpaOut w (a .u) (a .m) ≡ false = sym (c .before .before .is-cpa-out .ensures w (own-lent (a .seat) (a .costs .now) (c .before .before .before .before .before .before .pre .0 .number .first))) ∙ not-true _ (c .before .if2 .taken) in
     c .refuse .ensures ∙ ap (λ (b : Bool). decidedOf (a .u) (onOwn w b (a .u) (a .m))) (sym y) ∙ ap (λ (o : Decision). decidedOf (a .u) o) (back-own w (a .order) (a .u) (a .m) x)
-
-take-bound-requires : tie.Need-take-bound-requires
-take-bound-requires c κs = search needs
 
 resume-requires : tie.Need-resume-requires
 resume-requires c κs =
@@ -62,12 +47,12 @@ pub on-back-spec : {M : Type 1} → statement M
 on-back-spec =
     tie.close
     (tie.spec
-    not-less-requires
-    quiet-requires
+    (λ c κs. search needs)
+    (λ c κs. search needs)
     returns
-    is-cpa-out-requires
-    refuse-requires
+    (λ c κs. search needs)
+    (λ c κs. search needs)
     returns-2
-    take-bound-requires
+    (λ c κs. search needs)
     resume-requires
     returns-3)

@@ -10,23 +10,11 @@ use borrow.Author.Needs.{needs}
 use Rattle.unit.proofs.receive.on_cpa.Statement.{statement}
 use Rattle.unit.proofs.receive.on_cpa.Tie as tie
 
-cast-compare : tie.Need-cast-compare
-cast-compare c = search needs
-
-compare-requires : tie.Need-compare-requires
-compare-requires c κs = search needs
-
-on-down-requires : tie.Need-on-down-requires
-on-down-requires c κs = search needs
-
 returns : tie.Need-returns
 returns c =
     let a = c .before .before .before .before .before .before .before .before .before .args in
     let w = viewFrom (a .seat) (a .costs .now) in
     c .on-down .ensures (a .u) ∙ ap (λ (o : Decision). decidedOf (a .u) o) (cpa-down w (a .seat .own) (a .u) (a .m) (c .before .before .before .before .compare .result) (own-lent (a .seat) (a .costs .now) (c .before .before .before .before .before .before .before .before .before .pre .0 .number .first)) (c .before .before .before .before .compare .ensures) (c .before .if1 .taken))
-
-on-back-requires : tie.Need-on-back-requires
-on-back-requires c κs = search needs
 
 returns-2 : tie.Need-returns-2
 returns-2 c =
@@ -37,9 +25,9 @@ returns-2 c =
 pub on-cpa-spec : {M : Type 1} → statement M
 on-cpa-spec =
     tie.close (tie.spec
-    cast-compare
-    compare-requires
-    on-down-requires
+    (λ c. search needs)
+    (λ c κs. search needs)
+    (λ c κs. search needs)
     returns
-    on-back-requires
+    (λ c κs. search needs)
     returns-2)

@@ -12,18 +12,6 @@ use borrow.Author.Needs.{needs}
 use Rattle.unit.proofs.receive.on_down.Statement.{statement}
 use Rattle.unit.proofs.receive.on_down.Tie as tie
 
-enum-told : tie.Need-enum-told
-enum-told c = search needs
-
-quiet-requires : tie.Need-quiet-requires
-quiet-requires c κs = search needs
-
-enum-told-2 : tie.Need-enum-told-2
-enum-told-2 c = search needs
-
-receive-requires : tie.Need-receive-requires
-receive-requires c κs = search needs
-
 resume-requires : tie.Need-resume-requires
 resume-requires c κs =
     let s = c .before .before .before .before in
@@ -32,15 +20,6 @@ resume-requires c κs =
       ready-bound (a .seat .own) (a .m) (withCpa (a .m .stamp) (a .m .values) (a .m .cost) (a .u)) (c .receive .result) (c .receive .ensures)
           (ready-down (a .seat .own) (a .m) (a .u) (s .pre .2) (s .pre .3) (s .pre .1)),
     )
-
-enum-told-3 : tie.Need-enum-told-3
-enum-told-3 c = search needs
-
-follow-requires : tie.Need-follow-requires
-follow-requires c κs = search needs
-
-receive-requires-2 : tie.Need-receive-requires-2
-receive-requires-2 c κs = search needs
 
 resume-requires-2 : tie.Need-resume-requires-2
 resume-requires-2 c κs =
@@ -77,14 +56,14 @@ pub on-down-spec : {M : Type 1} → statement M
 on-down-spec =
     tie.close
     (tie.spec
-    enum-told
-    quiet-requires
-    enum-told-2
-    receive-requires
+    (λ c. search needs)
+    (λ c κs. search needs)
+    (λ c. search needs)
+    (λ c κs. search needs)
     resume-requires
-    enum-told-3
-    follow-requires
-    receive-requires-2
+    (λ c. search needs)
+    (λ c κs. search needs)
+    (λ c κs. search needs)
     resume-requires-2
     returns
     returns-2

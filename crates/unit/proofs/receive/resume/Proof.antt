@@ -14,12 +14,6 @@ use borrow.Author.Needs.{needs}
 use Rattle.unit.proofs.receive.resume.Statement.{statement}
 use Rattle.unit.proofs.receive.resume.Tie as tie
 
-bare-cost-requires : tie.Need-bare-cost-requires
-bare-cost-requires c κs = search needs
-
-take-off-requires : tie.Need-take-off-requires
-take-off-requires c κs = search needs
-
 backtrack-requires : tie.Need-backtrack-requires
 backtrack-requires c κs = (c .before .before .before .before .before .pre .0 .number, rw (c .take-off .ensures) (omega (arith, c .before .before .before .before .before .pre .1 .threshold)))
 
@@ -30,9 +24,6 @@ returns c =
     let l : a .u .bound ≤ bareCost w (a .u) = rw (c .before .before .before .before .bare-cost .ensures) at (c .before .before .if1 .taken) in
     c .backtrack .ensures w was (own-lent (a .seat) (a .costs .now) (c .before .before .before .before .before .before .pre .0 .number .first))
     ∙ ap (λ (t : Unit). decidedOf was (backtrack w false t)) (c .before .take-off .ensures) ∙ ap (λ (o : Decision). decidedOf was o) (sym (resume-back w (a .u) l))
-
-assign-requires : tie.Need-assign-requires
-assign-requires c κs = search needs
 
 returns-2 : tie.Need-returns-2
 returns-2 c =
@@ -45,9 +36,9 @@ pub resume-spec : {M : Type 1} → statement M
 resume-spec =
     tie.close
     (tie.spec
-    bare-cost-requires
-    take-off-requires
+    (λ c κs. search needs)
+    (λ c κs. search needs)
     backtrack-requires
     returns
-    assign-requires
+    (λ c κs. search needs)
     returns-2)

@@ -23,20 +23,8 @@ room c =
     let a = s .args in
     rw (back-count (a .seat .n) (a .seat .own) (a .m) (a .out .now) (omega arith) (sized s) (a .improved) _ _ (not-false _ (c .if1 .left)) (c .before .before .before .hand-back .ensures .0) refl) (s .pre .1)
 
-hand-back-requires : tie.Need-hand-back-requires
-hand-back-requires c κs = search needs
-
-same-length : tie.Need-same-length
-same-length c = search needs
-
 returns : tie.Need-returns
 returns c = let a = c .before .before .before .before .before .before .args in back-quiet (a .seat .n) (a .seat .own - 1) (a .m) (a .improved) _ (a .out .now) _ (not-true _ (c .if1 .taken)) (c .before .before .before .hand-back .ensures)
-
-bound-only-requires : tie.Need-bound-only-requires
-bound-only-requires c κs = search needs
-
-sub-spread : tie.Need-sub-spread
-sub-spread c = search needs
 
 spread-requires : tie.Need-spread-requires
 spread-requires c κs =
@@ -45,9 +33,6 @@ spread-requires c κs =
     let same : length (c .before .before .before .before .before .before .hand-back .last .1 .1 .0) ≡ length (a .out .now) = search needs in
     (omega arith, omega (arith, few), omega (arith, few, same))
 
-sub-spread-2 : tie.Need-sub-spread-2
-sub-spread-2 c = search needs
-
 spread-requires-2 : tie.Need-spread-requires-2
 spread-requires-2 c κs =
     let a = c .before .before .before .before .before .before .before .before .before .before .before .before .before .before .args in
@@ -55,9 +40,6 @@ spread-requires-2 c κs =
     let lower = c .before .before .before .before .spread .ensures .0 in
     let same : length (c .before .before .before .before .spread .last .1 .1 .1 .1 .0) ≡ length (a .out .now) = search needs in
     (omega arith, omega (arith, few, lower), omega (arith, few, lower, same))
-
-same-length-2 : tie.Need-same-length-2
-same-length-2 c = search needs
 
 returns-2 : tie.Need-returns-2
 returns-2 c =
@@ -76,13 +58,13 @@ pub back-spec : {M : Type 1} → statement M
 back-spec =
     tie.close
     (tie.spec
-    hand-back-requires
-    same-length
+    (λ c κs. search needs)
+    (λ c. search needs)
     returns
-    bound-only-requires
-    sub-spread
+    (λ c κs. search needs)
+    (λ c. search needs)
     spread-requires
-    sub-spread-2
+    (λ c. search needs)
     spread-requires-2
-    same-length-2
+    (λ c. search needs)
     returns-2)

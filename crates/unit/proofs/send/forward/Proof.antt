@@ -12,21 +12,6 @@ use Rattle.unit.proofs.send.forward.Tie as tie
 sized : (c : tie.Start) → Sized (c .args .m)
 sized c = record { stamp = search needs; values = search needs; best = search needs; cost = search needs; bound = search needs }
 
-spread-requires : tie.Need-spread-requires
-spread-requires c κs = search needs
-
-no-bound-requires : tie.Need-no-bound-requires
-no-bound-requires c κs = search needs
-
-sub-spread : tie.Need-sub-spread
-sub-spread c = search needs
-
-spread-requires-2 : tie.Need-spread-requires-2
-spread-requires-2 c κs = search needs
-
-same-length : tie.Need-same-length
-same-length c = search needs
-
 returns : tie.Need-returns
 returns c =
     let a = c .before .before .before .before .before .before .before .before .before .before .before .args in
@@ -41,4 +26,4 @@ returns c =
 pub forward-spec : {M : Type 1} → statement M
 forward-spec =
     tie.close
-    (tie.spec spread-requires no-bound-requires sub-spread spread-requires-2 same-length returns)
+    (tie.spec (λ c κs. search needs) (λ c κs. search needs) (λ c. search needs) (λ c κs. search needs) (λ c. search needs) returns)

@@ -12,18 +12,6 @@ use Rattle.unit.proofs.send.hand_back.Tie as tie
 sized : (c : tie.Start) → Sized (c .args .m)
 sized c = record { stamp = search needs; values = search needs; best = search needs; cost = search needs; bound = search needs }
 
-bound-only-requires : tie.Need-bound-only-requires
-bound-only-requires c κs = search needs
-
-sub-spread : tie.Need-sub-spread
-sub-spread c = search needs
-
-spread-requires : tie.Need-spread-requires
-spread-requires c κs = search needs
-
-same-length : tie.Need-same-length
-same-length c = search needs
-
 returns : tie.Need-returns
 returns c =
     let a = c .before .before .before .before .before .before .before .before .before .args in
@@ -31,15 +19,6 @@ returns c =
     let e = c .before .before .before .before .before .before .if1 .taken in
     let all = c .before .before .spread .ensures in
     (all .0 ∙ stops-count (a .seat .n) (a .seat .own) (a .m) (a .out .now) (omega arith) z e, all .1 ∙ stops-laid (a .seat .n) (a .seat .own) (a .m) (a .out .now) (omega arith) z e _ (c .before .before .before .before .before .bound-only .ensures))
-
-sub-spread-2 : tie.Need-sub-spread-2
-sub-spread-2 c = search needs
-
-spread-requires-2 : tie.Need-spread-requires-2
-spread-requires-2 c κs = search needs
-
-same-length-2 : tie.Need-same-length-2
-same-length-2 c = search needs
 
 returns-2 : tie.Need-returns-2
 returns-2 c =
@@ -53,12 +32,12 @@ pub hand-back-spec : {M : Type 1} → statement M
 hand-back-spec =
     tie.close
     (tie.spec
-    bound-only-requires
-    sub-spread
-    spread-requires
-    same-length
+    (λ c κs. search needs)
+    (λ c. search needs)
+    (λ c κs. search needs)
+    (λ c. search needs)
     returns
-    sub-spread-2
-    spread-requires-2
-    same-length-2
+    (λ c. search needs)
+    (λ c κs. search needs)
+    (λ c. search needs)
     returns-2)

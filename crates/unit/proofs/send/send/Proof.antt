@@ -10,44 +10,17 @@ use borrow.Author.Needs.{needs}
 use Rattle.unit.proofs.send.send.Statement.{statement}
 use Rattle.unit.proofs.send.send.Tie as tie
 
-enum-told : tie.Need-enum-told
-enum-told c = search needs
-
-enum-told-2 : tie.Need-enum-told-2
-enum-told-2 c = search needs
-
-forward-requires : tie.Need-forward-requires
-forward-requires c κs = search needs
-
-enum-told-3 : tie.Need-enum-told-3
-enum-told-3 c = search needs
-
 back-requires : tie.Need-back-requires
 back-requires c κs = let s = c .before .before .before .before .before in (s .pre .0, few-by (s .args .seat .n) (s .args .seat .own - 1) (s .args .s) Back (c .before .enum-told3 .given .1) (s .pre .1))
-
-enum-told-4 : tie.Need-enum-told-4
-enum-told-4 c = search needs
-
-put-requires : tie.Need-put-requires
-put-requires c κs = search needs
 
 returns : tie.Need-returns
 returns c = let a = c .before .before .before .before .args in sent-by (a .seat .n) (a .seat .own - 1) (a .s) Nothing _ (a .out .now) _ (c .enum-told .given .1) (refl, sym (laid-none (a .out .now)))
 
-same-length : tie.Need-same-length
-same-length c = search needs
-
 returns-2 : tie.Need-returns-2
 returns-2 c = let a = c .before .before .before .before .before .before .before .before .args in sent-by (a .seat .n) (a .seat .own - 1) (a .s) Forward _ (a .out .now) _ (c .before .before .before .before .enum-told2 .given .1) (c .before .before .forward .ensures (a .s .improved))
 
-same-length-2 : tie.Need-same-length-2
-same-length-2 c = search needs
-
 returns-3 : tie.Need-returns-3
 returns-3 c = let a = c .before .before .before .before .before .before .before .before .args in sent-by (a .seat .n) (a .seat .own - 1) (a .s) Back _ (a .out .now) _ (c .before .before .before .before .enum-told3 .given .1) (c .before .before .back .ensures)
-
-same-length-3 : tie.Need-same-length-3
-same-length-3 c = search needs
 
 returns-4 : tie.Need-returns-4
 returns-4 c =
@@ -59,17 +32,17 @@ pub send-spec : {M : Type 1} → statement M
 send-spec =
     tie.close
     (tie.spec
-    enum-told
-    enum-told-2
-    forward-requires
-    enum-told-3
+    (λ c. search needs)
+    (λ c. search needs)
+    (λ c κs. search needs)
+    (λ c. search needs)
     back-requires
-    enum-told-4
-    put-requires
+    (λ c. search needs)
+    (λ c κs. search needs)
     returns
-    same-length
+    (λ c. search needs)
     returns-2
-    same-length-2
+    (λ c. search needs)
     returns-3
-    same-length-3
+    (λ c. search needs)
     returns-4)

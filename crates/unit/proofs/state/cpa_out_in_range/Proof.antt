@@ -9,63 +9,30 @@ use borrow.Author.Needs.{needs}
 use Rattle.unit.proofs.state.cpa_out_in_range.Statement.{statement}
 use Rattle.unit.proofs.state.cpa_out_in_range.Tie as tie
 
-sub-place : tie.Need-sub-place
-sub-place c = search needs
-
-filled-to-requires : tie.Need-filled-to-requires
-filled-to-requires c κs = search needs
-
 returns : tie.Need-returns
 returns c =
     let a = c .before .before .before .before .before .args in
     out-stamp (a .seat .sizes) (a .seat .own) (a .paid) (a .u) (sym (c .before .filled-to .ensures) ∙ not-true _ (c .if1 .taken))
-
-filled-to-requires-2 : tie.Need-filled-to-requires-2
-filled-to-requires-2 c κs = search needs
 
 returns-2 : tie.Need-returns-2
 returns-2 c =
     let a = c .before .before .before .before .before .before .before .args in
     out-values (a .seat .sizes) (a .seat .own) (a .paid) (a .u) (sym (c .before .filled-to2 .ensures) ∙ not-true _ (c .if2 .taken))
 
-prefix-limit-requires : tie.Need-prefix-limit-requires
-prefix-limit-requires c κs = search needs
-
 returns-3 : tie.Need-returns-3
 returns-3 c =
     let a = c .before .before .before .before .before .before .before .before .before .before .args in
     out-cost (a .seat .sizes) (a .seat .own) (a .paid) (a .u) (rw (c .before .before .prefix-limit .ensures) at (c .if3 .taken))
-
-cast-if4 : tie.Need-cast-if4
-cast-if4 c = search needs
-
-array-read-if4 : tie.Need-array-read-if4
-array-read-if4 c = search needs
 
 returns-4 : tie.Need-returns-4
 returns-4 c =
     let a = c .before .before .before .before .before .before .before .before .before .before .before .before .args in
     out-counter (a .seat .sizes) (a .seat .own) (a .paid) (a .u) (c .if4 .taken)
 
-cast-if5 : tie.Need-cast-if5
-cast-if5 c = search needs
-
-array-read-if5 : tie.Need-array-read-if5
-array-read-if5 c = search needs
-
 returns-5 : tie.Need-returns-5
 returns-5 c =
     let a = c .before .before .before .before .before .before .before .before .before .before .before .before .before .before .args in
     out-tried (a .seat .sizes) (a .seat .own) (a .paid) (a .u) (c .if5 .taken)
-
-cast-compare : tie.Need-cast-compare
-cast-compare c = search needs
-
-compare-requires : tie.Need-compare-requires
-compare-requires c κs = search needs
-
-not-less-requires : tie.Need-not-less-requires
-not-less-requires c κs = search needs
 
 returns-6 : tie.Need-returns-6
 returns-6 c =
@@ -76,9 +43,6 @@ returns-7 : tie.Need-returns-7
 returns-7 c =
     let a = c .before .before .before .before .before .before .before .before .before .before .before .before .before .before .before .before .before .before .before .before .args in
     out-paid (a .seat .sizes) (a .seat .own) (a .paid) (a .u) (c .if7 .taken)
-
-prefix-limit-requires-2 : tie.Need-prefix-limit-requires-2
-prefix-limit-requires-2 c κs = search needs
 
 returns-8 : tie.Need-returns-8
 returns-8 c =
@@ -98,23 +62,23 @@ pub cpa-out-in-range-spec : {M : Type 1} → statement M
 cpa-out-in-range-spec =
     tie.close
     (tie.spec
-    sub-place
-    filled-to-requires
+    (λ c. search needs)
+    (λ c κs. search needs)
     returns
-    filled-to-requires-2
+    (λ c κs. search needs)
     returns-2
-    prefix-limit-requires
+    (λ c κs. search needs)
     returns-3
-    cast-if4
-    array-read-if4
+    (λ c. search needs)
+    (λ c. search needs)
     returns-4
-    cast-if5
-    array-read-if5
+    (λ c. search needs)
+    (λ c. search needs)
     returns-5
-    cast-compare
-    compare-requires
-    not-less-requires
+    (λ c. search needs)
+    (λ c κs. search needs)
+    (λ c κs. search needs)
     returns-6
     returns-7
-    prefix-limit-requires-2
+    (λ c κs. search needs)
     returns-8)

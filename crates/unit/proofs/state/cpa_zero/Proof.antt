@@ -7,16 +7,10 @@ use borrow.Author.Needs.{needs}
 use Rattle.unit.proofs.state.cpa_zero.Statement.{statement}
 use Rattle.unit.proofs.state.cpa_zero.Tie as tie
 
-filled-to-requires : tie.Need-filled-to-requires
-filled-to-requires c κs = search needs
-
 returns : tie.Need-returns
 returns c =
     let a = c .before .before .before .args in
     zero-stamp (a .sizes) (a .u) (sym (c .before .filled-to .ensures) ∙ not-true _ (c .if1 .taken))
-
-filled-to-requires-2 : tie.Need-filled-to-requires-2
-filled-to-requires-2 c κs = search needs
 
 returns-2 : tie.Need-returns-2
 returns-2 c =
@@ -30,4 +24,4 @@ returns-3 c =
 
 pub cpa-zero-spec : {M : Type 1} → statement M
 cpa-zero-spec =
-    tie.close (tie.spec filled-to-requires returns filled-to-requires-2 returns-2 returns-3)
+    tie.close (tie.spec (λ c κs. search needs) returns (λ c κs. search needs) returns-2 returns-3)

@@ -8,9 +8,6 @@ use borrow.Author.Needs.{needs}
 use Rattle.unit.proofs.state.in_range_paid.Statement.{statement}
 use Rattle.unit.proofs.state.in_range_paid.Tie as tie
 
-is-unit-requires : tie.Need-is-unit-requires
-is-unit-requires c κs = search needs
-
 returns : tie.Need-returns
 returns c = let a = c .before .before .args in range-no-unit (a .n) (a .sizes) (a .own) (a .paid) (a .u) (sym (c .before .is-unit .ensures) ∙ not-true _ (c .if1 .taken))
 
@@ -25,4 +22,4 @@ returns-2 c =
     c .paid-in-range .ensures ∙ range-unit (a .n) (a .sizes) (a .own) (a .paid) (a .u) (sym (c .before .before .is-unit .ensures) ∙ not-false _ (c .before .if1 .left))
 
 pub in-range-paid-spec : {M : Type 1} → statement M
-in-range-paid-spec = tie.close (tie.spec is-unit-requires returns paid-in-range-requires returns-2)
+in-range-paid-spec = tie.close (tie.spec (λ c κs. search needs) returns paid-in-range-requires returns-2)

@@ -6,21 +6,6 @@ use borrow.Author.Needs.{needs}
 use Rattle.unit.proofs.state.lent_in_range.Statement.{statement}
 use Rattle.unit.proofs.state.lent_in_range.Tie as tie
 
-sub-place : tie.Need-sub-place
-sub-place c = search needs
-
-cast-value : tie.Need-cast-value
-cast-value c = search needs
-
-array-read-value : tie.Need-array-read-value
-array-read-value c = search needs
-
-cost-with-requires : tie.Need-cost-with-requires
-cost-with-requires c κs = search needs
-
-paid-in-range-requires : tie.Need-paid-in-range-requires
-paid-in-range-requires c κs = search needs
-
 returns : tie.Need-returns
 returns c =
     let a = c .before .before .before .before .before .args in
@@ -30,9 +15,9 @@ pub lent-in-range-spec : {M : Type 1} → statement M
 lent-in-range-spec =
     tie.close
     (tie.spec
-    sub-place
-    cast-value
-    array-read-value
-    cost-with-requires
-    paid-in-range-requires
+    (λ c. search needs)
+    (λ c. search needs)
+    (λ c. search needs)
+    (λ c κs. search needs)
+    (λ c κs. search needs)
     returns)

@@ -18,41 +18,20 @@ limited c = sym (c .before .limits-kept .ensures) ∙ not-false _ (c .if1 .left)
 bounded : (c : tie.Else2) → let a = c .before .before .before .before .before .before .before .before .args in noneOrBound (a .seat .n) (a .seat .sizes) (a .u .bound) (a .u .best) ≡ true
 bounded c = sym (c .before .none-or-bound .ensures) ∙ not-false _ (c .if2 .left)
 
-limits-kept-requires : tie.Need-limits-kept-requires
-limits-kept-requires c κs = search needs
-
 returns : tie.Need-returns
 returns c =
     let a = c .before .before .before .before .args in
     range-limits (a .seat .n) (a .seat .sizes) (a .seat .own) (a .paid) (a .u) (sym (c .before .limits-kept .ensures) ∙ not-true _ (c .if1 .taken))
-
-none-or-bound-requires : tie.Need-none-or-bound-requires
-none-or-bound-requires c κs = search needs
 
 returns-2 : tie.Need-returns-2
 returns-2 c =
     let a = c .before .before .before .before .before .before .before .before .args in
     range-bound (a .seat .n) (a .seat .sizes) (a .seat .own) (a .paid) (a .u) (sym (c .before .none-or-bound .ensures) ∙ not-true _ (c .if2 .taken))
 
-sub-if3 : tie.Need-sub-if3
-sub-if3 c = search needs
-
-cast-if3 : tie.Need-cast-if3
-cast-if3 c = search needs
-
-array-read-if3 : tie.Need-array-read-if3
-array-read-if3 c = search needs
-
-cpa-zero-requires : tie.Need-cpa-zero-requires
-cpa-zero-requires c κs = search needs
-
 returns-3 : tie.Need-returns-3
 returns-3 c =
     let a = c .before .before .before .before .before .before .before .before .before .before .before .before .args in
     c .cpa-zero .ensures ∙ range-none (a .seat .n) (a .seat .sizes) (a .seat .own) (a .paid) (a .u) (limited (c .before .before .before .before .before .before .before .before)) (bounded (c .before .before .before .before)) (c .before .if3 .taken)
-
-cpa-out-in-range-requires : tie.Need-cpa-out-in-range-requires
-cpa-out-in-range-requires c κs = search needs
 
 returns-4 : tie.Need-returns-4
 returns-4 c =
@@ -63,14 +42,14 @@ pub paid-in-range-spec : {M : Type 1} → statement M
 paid-in-range-spec =
     tie.close
     (tie.spec
-    limits-kept-requires
+    (λ c κs. search needs)
     returns
-    none-or-bound-requires
+    (λ c κs. search needs)
     returns-2
-    sub-if3
-    cast-if3
-    array-read-if3
-    cpa-zero-requires
+    (λ c. search needs)
+    (λ c. search needs)
+    (λ c. search needs)
+    (λ c κs. search needs)
     returns-3
-    cpa-out-in-range-requires
+    (λ c κs. search needs)
     returns-4)
