@@ -41,7 +41,7 @@
  *   riksamoe_unit_step             4,864
  *   riksamoe_unit_step_in_place    4,864
  *   riksamoe_network_make         13,056
- *   riksamoe_network_deliver      31,488
+ *   riksamoe_network_deliver      31,744
  *   riksamoe_network_settle       31,744
  *   riksamoe_search                6,656
  */

@@ -1,8 +1,7 @@
 -- The costs that touch one unit, gathered out of a stream: what is lent with a unit's step. 01: "the pair costs that touch the unit, by the
 -- other unit ascending, each pair in the stream's order". That a unit sees in them what the stream says is in Gather/Laws.
 -- Assumes nothing.
-use Prim.Native.Nat.{ℕ, zero, suc, _+_, _*_, _≤_, pred}
-use mathlib.Core.Path.{_≡_}
+use Prim.Native.Nat.{ℕ, zero, suc, _+_, _*_, pred}
 use mathlib.Core.Bool.{cond}
 use mathlib.Core.List.{List, [], _++_}
 use lib.Dec.{ltb, eqb}
@@ -10,8 +9,7 @@ use lib.ListN.{length, take, drop, replicate}
 use Rattle.base.specs.declared.Length.{Length}
 use Rattle.base.specs.Limits.{places}
 use Rattle.base.specs.Refusal.{orElse}
-use Rattle.table.specs.Stream.{unitsOf, sizesOf, needed, streamRefusal}
-use Rattle.costs.specs.declared.Seat.{Seat}
+use Rattle.table.specs.Stream.{unitsOf, sizesOf, streamRefusal}
 use Rattle.base.specs.Shape.{isValue}
 use Rattle.costs.specs.Instance.{domOf, pairStart}
 pub mod Sizes
@@ -58,12 +56,3 @@ gatherOf s own room = cond (eqb (gatherRefusal s own room) 0) (record { refusal 
 -- what the lent bytes then are: those gathered in front, the rest as it was
 abbrev pub gatherInto : List ℕ → ℕ → List ℕ → List ℕ
 gatherInto s own l = cond (eqb (gatherRefusal s own (length l)) 0) (gathered s own ++ drop (length (gathered s own)) l) l
-
--- ---- what the pieces of its code go by
-
--- n and the sizes of a seat are those of a stream that is long enough for them
-pub record SeatIn (s : List ℕ) (seat : Seat) : Type 0 where
-  pub units : seat .n ≡ unitsOf s
-  pub array : seat .sizes ≡ sizesIn s
-  pub most : seat .n ≤ 16
-  pub long : needed s ≤ length s

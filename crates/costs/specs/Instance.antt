@@ -83,9 +83,6 @@ lentCost n dom k costs j u v =
 unfoldable pub lentView : ℕ → ℕ → List ℕ → List ℕ → View
 lentView own n sizes costs = record { place = pred own; n = n; dom = domIn n sizes; pair = lentCost n (domIn n sizes) (pred own) costs }
 
--- The same of a unit's seat, which holds the first three; and the domain sizes there.
-abbrev pub domFrom : Seat → ℕ → ℕ
-domFrom seat = domIn (seat .n) (seat .sizes)
-
+-- The same of a unit's seat, which holds the first three.
 abbrev pub viewFrom : Seat → List ℕ → View
 viewFrom seat costs = lentView (seat .own) (seat .n) (seat .sizes) costs

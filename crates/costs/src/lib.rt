@@ -14,10 +14,10 @@ ghost use Prim.Native.Nat.{_+_, _*_, _≤_, pred, min};
 ghost use lib.Dec.{eqb};
 ghost use lib.ListN.{getD};
 ghost use Rattle.base.specs.Sums.{sumFrom};
-ghost use Rattle.costs.specs.Instance.{domFrom, inPair, costNumber, viewFrom};
+ghost use Rattle.costs.specs.Instance.{inPair, costNumber, viewFrom};
 ghost use Rattle.costs.specs.Bounds.{costWith, h, estimate};
 ghost use Rattle.costs.specs.Lent.{lentCostsGood, lentCount, lentRefusal};
-ghost use Rattle.costs.specs.Lent.Parts.{othersBefore, pairFrom, leastRun};
+ghost use Rattle.costs.specs.Lent.Parts.{domFrom, othersBefore, pairFrom, leastRun};
 
 // Where a unit sits: its own number, 1 to n, among n units with these domain sizes; places past n are not looked at.
 // The costs that touch it are lent beside it.

@@ -3,25 +3,16 @@
 use mathlib.Core.Path.{sym, ap, _∙_}
 use native.Mathlib.Omega.{arith}
 use borrow.Author.Needs.{needs}
-use Rattle.costs.specs.Instance.{domFrom}
+use Rattle.costs.specs.Lent.Parts.{domFrom}
 use Rattle.costs.specs.Lent.Steps.{estimate-none}
 use Rattle.costs.proofs.estimate.Statement.{statement}
 use Rattle.costs.proofs.estimate.Tie as tie
-
-place-of-requires : tie.Need-place-of-requires
-place-of-requires c κs = search needs
-
-size-of-requires : tie.Need-size-of-requires
-size-of-requires c κs = search needs
 
 returns : tie.Need-returns
 returns c =
     let p = c .before .before .place-of in
     let a = c .before .before .before .before .args in
     sym (estimate-none (a .seat) (a .costs .now) (a .values) (a .k) (ap (domFrom (a .seat)) (sym (p .ensures .0)) ∙ sym (c .before .size-of .ensures .0) ∙ c .if1 .taken))
-
-wide-requires : tie.Need-wide-requires
-wide-requires c κs = search needs
 
 least-cost-requires : tie.Need-least-cost-requires
 least-cost-requires c κs =
@@ -37,9 +28,9 @@ pub estimate-spec : {M : Type 1} → statement M
 estimate-spec =
     tie.close
     (tie.spec
-    place-of-requires
-    size-of-requires
+    (λ c κs. search needs)
+    (λ c κs. search needs)
     returns
-    wide-requires
+    (λ c κs. search needs)
     least-cost-requires
     returns-2)

@@ -4,14 +4,8 @@ use borrow.Author.Needs.{needs}
 use Rattle.costs.proofs.h.Statement.{statement}
 use Rattle.costs.proofs.h.Tie as tie
 
-wide-requires : tie.Need-wide-requires
-wide-requires c κs = search needs
-
-later-cost-requires : tie.Need-later-cost-requires
-later-cost-requires c κs = search needs
-
 returns : tie.Need-returns
 returns c = rw (← c .before .wide .ensures .0) (c .later-cost .ensures .0)
 
 pub h-spec : {M : Type 1} → statement M
-h-spec = tie.close (tie.spec wide-requires later-cost-requires returns)
+h-spec = tie.close (tie.spec (λ c κs. search needs) (λ c κs. search needs) returns)

@@ -22,32 +22,11 @@ Inv-loop seat costs v place d count before₀ sum₀ j₀ before sum j = (place 
 abbrev μ-loop : tie.MeasureT-loop
 μ-loop seat costs v place d count before₀ sum₀ j₀ before sum j = count - j
 
-place-of-requires : tie.Need-place-of-requires Inv-loop μ-loop
-place-of-requires c κs = search needs
-
-size-of-requires : tie.Need-size-of-requires Inv-loop μ-loop
-size-of-requires c κs = search needs
-
-is-value-requires : tie.Need-is-value-requires Inv-loop μ-loop
-is-value-requires c κs = search needs
-
 returns : tie.Need-returns Inv-loop μ-loop
 returns c =
     let a = c .before .before .before .before .before .args in
     let q = sym (c .before .is-value .ensures) ∙ not-true _ (c .if1 .taken) in
     (sym (later-no-value (a .seat) (a .costs .now) (a .v) (rw (c .before .before .size-of .ensures .0, c .before .before .before .place-of .ensures .0) at q)), omega arith)
-
-wide-requires : tie.Need-wide-requires Inv-loop μ-loop
-wide-requires c κs = search needs
-
-add-others-before : tie.Need-add-others-before Inv-loop μ-loop
-add-others-before c = search needs
-
-others-before-requires : tie.Need-others-before-requires Inv-loop μ-loop
-others-before-requires c κs = search needs
-
-add-j : tie.Need-add-j Inv-loop μ-loop
-add-j c = search needs
 
 loop-holds : tie.Need-loop-holds Inv-loop μ-loop
 loop-holds c =
@@ -55,9 +34,6 @@ loop-holds c =
     let a = p .before .before .args in
     let e = p .place-of .ensures .0 in
     (omega arith, omega arith, rw (zero-add, e) (later-start (a .seat) (a .costs .now) (a .v)), omega arith, c .others-before .ensures .0, omega (arith, c .others-before .ensures .1))
-
-size-of-requires-2 : tie.Need-size-of-requires-2 Inv-loop μ-loop
-size-of-requires-2 c κs = search needs
 
 -- what holds in a turn: v is a value of the own unit, and neither part of the run's start is large
 is-own : (c : tie.After-size-of2 Inv-loop μ-loop) → let z = c .before .before .before .before .before .before .before in isValue (z .size-of .result) (z .before .before .before .args .v) ≡ true
@@ -90,18 +66,6 @@ add-least-run c = omega (arith, small c)
 least-run-requires : tie.Need-least-run-requires Inv-loop μ-loop
 least-run-requires c κs = (omega (arith, small c), c .size-of2 .ensures .1)
 
-add-sum : tie.Need-add-sum Inv-loop μ-loop
-add-sum c = search needs
-
-add-before : tie.Need-add-before Inv-loop μ-loop
-add-before c = search needs
-
-add-j-2 : tie.Need-add-j-2 Inv-loop μ-loop
-add-j-2 c = search needs
-
-loop-less : tie.Need-loop-less Inv-loop μ-loop
-loop-less c = search needs
-
 loop-again : tie.Need-loop-again Inv-loop μ-loop
 loop-again c =
     let l = c .before .before .before .loop in
@@ -130,24 +94,24 @@ later-cost-spec =
     (tie.spec
     Inv-loop
     μ-loop
-    place-of-requires
-    size-of-requires
-    is-value-requires
+    (λ c κs. search needs)
+    (λ c κs. search needs)
+    (λ c κs. search needs)
     returns
-    wide-requires
-    add-others-before
-    others-before-requires
-    add-j
+    (λ c κs. search needs)
+    (λ c. search needs)
+    (λ c κs. search needs)
+    (λ c. search needs)
     loop-holds
-    size-of-requires-2
+    (λ c κs. search needs)
     mul-least-run
     sub-least-run
     mul-least-run-2
     add-least-run
     least-run-requires
-    add-sum
-    add-before
-    add-j-2
-    loop-less
+    (λ c. search needs)
+    (λ c. search needs)
+    (λ c. search needs)
+    (λ c. search needs)
     loop-again
     returns-2)

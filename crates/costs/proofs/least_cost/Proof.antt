@@ -16,25 +16,10 @@ Inv-loop seat costs values k d best₀ v₀ best v = (1 ≤ v) × (v ≤ d) × (
 abbrev μ-loop : tie.MeasureT-loop
 μ-loop seat costs values k d best₀ v₀ best v = d - v
 
-value-cost-requires : tie.Need-value-cost-requires Inv-loop μ-loop
-value-cost-requires c κs = search needs
-
 loop-holds : tie.Need-loop-holds Inv-loop μ-loop
 loop-holds c =
     let a = c .before .before .args in
     (omega arith, omega arith, c .value-cost .ensures ∙ sym (leastCost-one (viewFrom (a .seat) (a .costs .now)) (a .values) (a .k)))
-
-add-v : tie.Need-add-v Inv-loop μ-loop
-add-v c = search needs
-
-value-cost-requires-2 : tie.Need-value-cost-requires-2 Inv-loop μ-loop
-value-cost-requires-2 c κs = search needs
-
-lesser-requires : tie.Need-lesser-requires Inv-loop μ-loop
-lesser-requires c κs = search needs
-
-loop-less : tie.Need-loop-less Inv-loop μ-loop
-loop-less c = search needs
 
 loop-again : tie.Need-loop-again Inv-loop μ-loop
 loop-again c =
@@ -57,11 +42,11 @@ least-cost-spec =
     (tie.spec
     Inv-loop
     μ-loop
-    value-cost-requires
+    (λ c κs. search needs)
     loop-holds
-    add-v
-    value-cost-requires-2
-    lesser-requires
-    loop-less
+    (λ c. search needs)
+    (λ c κs. search needs)
+    (λ c κs. search needs)
+    (λ c. search needs)
     loop-again
     returns)

@@ -7,18 +7,6 @@ use borrow.Author.Needs.{needs}
 use Rattle.costs.proofs.lent_count.Statement.{statement}
 use Rattle.costs.proofs.lent_count.Tie as tie
 
-place-of-requires : tie.Need-place-of-requires
-place-of-requires c κs = search needs
-
-size-of-requires : tie.Need-size-of-requires
-size-of-requires c κs = search needs
-
-wide-requires : tie.Need-wide-requires
-wide-requires c κs = search needs
-
-others-before-requires : tie.Need-others-before-requires
-others-before-requires c κs = search needs
-
 mul-result : tie.Need-mul-result
 mul-result c =
     let d = c .before .before .size-of .ensures .1 in
@@ -36,4 +24,4 @@ returns c =
 pub lent-count-spec : {M : Type 1} → statement M
 lent-count-spec =
     tie.close
-    (tie.spec place-of-requires size-of-requires wide-requires others-before-requires mul-result returns)
+    (tie.spec (λ c κs. search needs) (λ c κs. search needs) (λ c κs. search needs) (λ c κs. search needs) mul-result returns)

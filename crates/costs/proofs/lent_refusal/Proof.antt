@@ -8,20 +8,11 @@ use Rattle.costs.specs.Lent.Checks.{refusal-length, refusal-costs}
 use Rattle.costs.proofs.lent_refusal.Statement.{statement}
 use Rattle.costs.proofs.lent_refusal.Tie as tie
 
-lent-count-requires : tie.Need-lent-count-requires
-lent-count-requires c κs = search needs
-
-mul-if1 : tie.Need-mul-if1
-mul-if1 c = search needs
-
 returns : tie.Need-returns
 returns c =
     let a = c .before .before .before .args in
     let m = c .before .lent-count in
     sym (refusal-length (a .seat .own) (a .seat .n) (a .seat .sizes) (a .costs .now) (m .result) (m .ensures .0) (c .if1 .taken))
-
-costs-good-requires : tie.Need-costs-good-requires
-costs-good-requires c κs = search needs
 
 returns-2 : tie.Need-returns-2
 returns-2 c =
@@ -40,4 +31,4 @@ returns-3 c =
 pub lent-refusal-spec : {M : Type 1} → statement M
 lent-refusal-spec =
     tie.close
-    (tie.spec lent-count-requires mul-if1 returns costs-good-requires returns-2 returns-3)
+    (tie.spec (λ c κs. search needs) (λ c. search needs) returns (λ c κs. search needs) returns-2 returns-3)

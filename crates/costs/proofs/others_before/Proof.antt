@@ -4,25 +4,15 @@ use Prim.Native.Nat.{_+_}
 use mathlib.Core.Path.{_≡_, ap, sym, _∙_}
 use native.Mathlib.Omega.{arith}
 use borrow.Author.Needs.{needs}
-use Rattle.costs.specs.Instance.{domFrom}
-use Rattle.costs.specs.Lent.Parts.{othersBefore}
+use Rattle.costs.specs.Lent.Parts.{othersBefore, domFrom}
 use Rattle.costs.specs.Lent.Steps.{others-none, others-all}
 use Rattle.costs.proofs.others_before.Statement.{statement}
 use Rattle.costs.proofs.others_before.Tie as tie
-
-sum-sizes-requires : tie.Need-sum-sizes-requires
-sum-sizes-requires c κs = search needs
-
-place-of-requires : tie.Need-place-of-requires
-place-of-requires c κs = search needs
 
 returns : tie.Need-returns
 returns c =
     let a = c .before .before .before .args in
     (c .before .before .sum-sizes .ensures .0 ∙ others-none (a .seat) (a .j) (omega (arith, c .before .place-of .ensures .0)), c .before .before .sum-sizes .ensures .1)
-
-size-of-requires : tie.Need-size-of-requires
-size-of-requires c κs = search needs
 
 -- the own size is among them
 whole : (c : tie.After-size-of) → let a = c .before .before .before .before .args in c .before .before .before .sum-sizes .result ≡ othersBefore (a .seat) (a .j) + c .size-of .result
@@ -42,4 +32,4 @@ returns-2 c = (omega (arith, whole c), omega (arith, c .before .before .before .
 pub others-before-spec : {M : Type 1} → statement M
 others-before-spec =
     tie.close
-    (tie.spec sum-sizes-requires place-of-requires returns size-of-requires sub-result returns-2)
+    (tie.spec (λ c κs. search needs) (λ c κs. search needs) returns (λ c κs. search needs) sub-result returns-2)

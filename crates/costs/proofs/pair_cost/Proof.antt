@@ -14,17 +14,11 @@ use Rattle.costs.proofs.pair_cost.Tie as tie
 returns : tie.Need-returns
 returns c = let a = c .before .before .args in (sym (pair-self (a .costs .now) (a .place) (a .j) (a .d) (a .e) (a .before) (a .u) (a .v) (c .if1 .taken)), omega arith)
 
-is-value-requires : tie.Need-is-value-requires
-is-value-requires c κs = search needs
-
 returns-2 : tie.Need-returns-2
 returns-2 c =
     let a = c .before .before .before .before .args in
     let q = sym (c .before .is-value .ensures) ∙ not-true _ (c .if2 .taken) in
     (sym (pair-no-other (a .costs .now) (a .place) (a .j) (a .d) (a .e) (a .before) (a .u) (a .v) (c .before .before .if1 .left) q), omega arith)
-
-is-value-requires-2 : tie.Need-is-value-requires-2
-is-value-requires-2 c κs = search needs
 
 returns-3 : tie.Need-returns-3
 returns-3 c =
@@ -75,9 +69,9 @@ pair-cost-spec =
     tie.close
     (tie.spec
     returns
-    is-value-requires
+    (λ c κs. search needs)
     returns-2
-    is-value-requires-2
+    (λ c κs. search needs)
     returns-3
     mul-cost-number
     cost-number-requires

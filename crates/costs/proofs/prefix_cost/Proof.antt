@@ -17,38 +17,8 @@ Inv-loop seat costs values k v place d sum₀ before₀ j₀ sum before j = (j �
 abbrev μ-loop : tie.MeasureT-loop
 μ-loop seat costs values k v place d sum₀ before₀ j₀ sum before j = k - j
 
-place-of-requires : tie.Need-place-of-requires Inv-loop μ-loop
-place-of-requires c κs = search needs
-
-size-of-requires : tie.Need-size-of-requires Inv-loop μ-loop
-size-of-requires c κs = search needs
-
 loop-holds : tie.Need-loop-holds Inv-loop μ-loop
 loop-holds c = let a = c .before .before .before .args in (omega arith, sym (cost-none (viewFrom (a .seat) (a .costs .now)) (a .values) (a .v)), omega arith, refl, omega arith)
-
-size-of-requires-2 : tie.Need-size-of-requires-2 Inv-loop μ-loop
-size-of-requires-2 c κs = search needs
-
-value-at-requires : tie.Need-value-at-requires Inv-loop μ-loop
-value-at-requires c κs = search needs
-
-pair-cost-requires : tie.Need-pair-cost-requires Inv-loop μ-loop
-pair-cost-requires c κs = search needs
-
-add-sum : tie.Need-add-sum Inv-loop μ-loop
-add-sum c = search needs
-
-other-size-requires : tie.Need-other-size-requires Inv-loop μ-loop
-other-size-requires c κs = search needs
-
-add-before : tie.Need-add-before Inv-loop μ-loop
-add-before c = search needs
-
-add-j : tie.Need-add-j Inv-loop μ-loop
-add-j c = search needs
-
-loop-less : tie.Need-loop-less Inv-loop μ-loop
-loop-less c = search needs
 
 loop-again : tie.Need-loop-again Inv-loop μ-loop
 loop-again c =
@@ -84,16 +54,16 @@ prefix-cost-spec =
     (tie.spec
     Inv-loop
     μ-loop
-    place-of-requires
-    size-of-requires
+    (λ c κs. search needs)
+    (λ c κs. search needs)
     loop-holds
-    size-of-requires-2
-    value-at-requires
-    pair-cost-requires
-    add-sum
-    other-size-requires
-    add-before
-    add-j
-    loop-less
+    (λ c κs. search needs)
+    (λ c κs. search needs)
+    (λ c κs. search needs)
+    (λ c. search needs)
+    (λ c κs. search needs)
+    (λ c. search needs)
+    (λ c. search needs)
+    (λ c. search needs)
     loop-again
     returns)

@@ -14,19 +14,10 @@ returns c =
     let h : length (a .t1 .sizes) ≡ 16 = search needs in
     (sym (dom-past-list (a .t1 .n) (a .t1 .sizes) (a .b) (omega arith)), omega arith)
 
-wide-requires : tie.Need-wide-requires
-wide-requires c κs = search needs
-
 returns-2 : tie.Need-returns-2
 returns-2 c =
     let a = c .before .before .before .args in
     (sym (dom-past-count (a .t1 .n) (a .t1 .sizes) (a .b) (omega arith)), omega arith)
-
-element-copy-out-wide : tie.Need-element-copy-out-wide
-element-copy-out-wide c = search needs
-
-wide-requires-2 : tie.Need-wide-requires-2
-wide-requires-2 c κs = search needs
 
 returns-3 : tie.Need-returns-3
 returns-3 c =
@@ -35,4 +26,4 @@ returns-3 c =
 
 pub size-of-spec : {M : Type 1} → statement M
 size-of-spec =
-    tie.close (tie.spec returns wide-requires returns-2 element-copy-out-wide wide-requires-2 returns-3)
+    tie.close (tie.spec returns (λ c κs. search needs) returns-2 (λ c. search needs) (λ c κs. search needs) returns-3)

@@ -4,7 +4,7 @@ use Prim.Native.Nat.{_*_, _-_, _≤_}
 use mathlib.Core.Path.{_≡_}
 use native.Mathlib.Omega.{arith}
 use Rattle.base.specs.Sums.{sumFrom}
-use Rattle.costs.specs.Instance.{domFrom}
+use Rattle.costs.specs.Lent.Parts.{domFrom}
 use Rattle.costs.specs.Gather.Steps.{sum-more}
 use borrow.Author.Needs.{needs}
 use Rattle.costs.proofs.sum_sizes.Statement.{statement}
@@ -15,24 +15,6 @@ Inv-loop seat lo m sum₀ i₀ sum i = (i ≤ m) × (sum ≡ sumFrom (domFrom se
 
 abbrev μ-loop : tie.MeasureT-loop
 μ-loop seat lo m sum₀ i₀ sum i = m - i
-
-loop-holds : tie.Need-loop-holds Inv-loop μ-loop
-loop-holds c = search needs
-
-add-size-of : tie.Need-add-size-of Inv-loop μ-loop
-add-size-of c = search needs
-
-size-of-requires : tie.Need-size-of-requires Inv-loop μ-loop
-size-of-requires c κs = search needs
-
-add-sum : tie.Need-add-sum Inv-loop μ-loop
-add-sum c = search needs
-
-add-i : tie.Need-add-i Inv-loop μ-loop
-add-i c = search needs
-
-loop-less : tie.Need-loop-less Inv-loop μ-loop
-loop-less c = search needs
 
 loop-again : tie.Need-loop-again Inv-loop μ-loop
 loop-again c =
@@ -53,11 +35,11 @@ sum-sizes-spec =
     (tie.spec
     Inv-loop
     μ-loop
-    loop-holds
-    add-size-of
-    size-of-requires
-    add-sum
-    add-i
-    loop-less
+    (λ c. search needs)
+    (λ c. search needs)
+    (λ c κs. search needs)
+    (λ c. search needs)
+    (λ c. search needs)
+    (λ c. search needs)
     loop-again
     returns)

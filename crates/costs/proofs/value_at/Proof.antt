@@ -13,14 +13,5 @@ returns c =
     let h : length (a .t1) ≡ 16 = search needs in
     (sym (List·getD-eq-default (a .t1) 0 (omega arith)), omega arith)
 
-array-read-wide : tie.Need-array-read-wide
-array-read-wide c = search needs
-
-wide-requires : tie.Need-wide-requires
-wide-requires c κs = search needs
-
-returns-2 : tie.Need-returns-2
-returns-2 c = search needs
-
 pub value-at-spec : {M : Type 1} → statement M
-value-at-spec = tie.close (tie.spec returns array-read-wide wide-requires returns-2)
+value-at-spec = tie.close (tie.spec returns (λ c. search needs) (λ c κs. search needs) (λ c. search needs))

@@ -13,10 +13,12 @@ use Rattle.base.specs.Refusal.{orElse, or-left, or-right, or-first}
 use Rattle.table.specs.Stream.{unitsOf, streamRefusal, Accepted}
 use Rattle.table.specs.StreamLaws.{accepted-units}
 use Rattle.costs.specs.declared.Seat.{Seat}
-use Rattle.costs.specs.Instance.{otherStart, domFrom}
+use Rattle.costs.specs.Lent.Parts.{domFrom}
+use Rattle.costs.specs.Instance.{otherStart}
 use Rattle.costs.specs.Lent.{lentCount}
 use Rattle.costs.specs.Laws.Stream.{accepted-fit}
-use Rattle.costs.specs.Gather.{sizesIn, gathered, gatherRefusal, gatherOf, gatherInto, SeatIn}
+use Rattle.costs.specs.Gather.Steps.{SeatIn}
+use Rattle.costs.specs.Gather.{sizesIn, gathered, gatherRefusal, gatherOf, gatherInto}
 use Rattle.costs.specs.Gather.Sizes.{dom-same}
 use Rattle.costs.specs.Gather.Laws.{gathered-length}
 

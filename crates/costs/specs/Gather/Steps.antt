@@ -9,14 +9,22 @@ use lib.ListN.{length, getD, take, drop, set, length-append, length-take, length
 use lib.Seq.{take-all, getD-take, getD-drop, drop-drop, paste, paste-zero}
 use Rattle.base.specs.Sums.{sumFrom}
 use Rattle.base.specs.Put.{putAt, put-next, paste-more}
-use Rattle.table.specs.Stream.{unitsOf}
+use Rattle.table.specs.Stream.{unitsOf, needed}
 use Rattle.costs.specs.declared.Seat.{Seat}
-use Rattle.costs.specs.Instance.{domFrom, pairStart, domOf}
+use Rattle.costs.specs.Lent.Parts.{domFrom}
+use Rattle.costs.specs.Instance.{pairStart, domOf}
 use Rattle.base.specs.Sums.Laws.{sumFrom-last}
 use Rattle.costs.specs.Laws.Stream.{pair-costs}
-use Rattle.costs.specs.Gather.{pairBytes, withOther, gatherTo, SeatIn}
+use Rattle.costs.specs.Gather.{sizesIn, pairBytes, withOther, gatherTo}
 use Rattle.costs.specs.Gather.Sizes.{dom-same}
 use Rattle.costs.specs.Gather.Laws.{length-pair-bytes, with-own}
+
+-- n and the sizes of a seat are those of a stream that is long enough for them
+pub record SeatIn (s : List ℕ) (seat : Seat) : Type 0 where
+  pub units : seat .n ≡ unitsOf s
+  pub array : seat .sizes ≡ sizesIn s
+  pub most : seat .n ≤ 16
+  pub long : needed s ≤ length s
 
 -- ---- sizes
 

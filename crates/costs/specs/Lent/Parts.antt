@@ -6,9 +6,13 @@ use mathlib.Core.List.{List}
 use lib.Dec.{ltb, eqb}
 use Rattle.base.specs.Sums.{sumFrom, sumTo, least}
 use Rattle.base.specs.Shape.{isValue}
-use Rattle.costs.specs.Instance.{View, domFrom, inPair, costNumber}
+use Rattle.costs.specs.Instance.{View, domIn, inPair, costNumber}
 use Rattle.costs.specs.declared.Seat.{Seat}
 use Rattle.costs.specs.Bounds.{costWith, h}
+
+-- the domain sizes at a seat
+abbrev pub domFrom : Seat → ℕ → ℕ
+domFrom seat = domIn (seat .n) (seat .sizes)
 
 -- how many values the other units before place j have together
 abbrev pub othersBefore : Seat → ℕ → ℕ

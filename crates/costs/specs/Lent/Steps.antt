@@ -15,10 +15,10 @@ use borrow.Author.Tests.{lt-ltb, le-ltb, lt-leb, ltb-true, ltb-false, eq-eqb, ne
 use Rattle.base.specs.Sums.{sumFrom, sumTo, least}
 use Rattle.base.specs.Sums.Laws.{sumTo-cong, sumTo-sumFrom}
 use Rattle.base.specs.Shape.{isValue, range-value}
-use Rattle.costs.specs.Instance.{View, domIn, inPair, costNumber, lentCost, lentView, domFrom, viewFrom}
+use Rattle.costs.specs.Instance.{View, domIn, inPair, costNumber, lentCost, lentView, viewFrom}
 use Rattle.costs.specs.declared.Seat.{Seat}
 use Rattle.costs.specs.Bounds.{costWith, h, estimate}
-use Rattle.costs.specs.Lent.Parts.{othersBefore, pairFrom, leastRun, laterFrom, leastCost}
+use Rattle.costs.specs.Lent.Parts.{othersBefore, pairFrom, leastRun, laterFrom, leastCost, domFrom}
 
 -- ---- domain sizes
 

@@ -11,34 +11,16 @@ use borrow.Author.Needs.{needs}
 use Rattle.report.proofs.print_file.Statement.{statement}
 use Rattle.report.proofs.print_file.Tie as tie
 
-slice-aggregate-read : tie.Need-slice-aggregate-read
-slice-aggregate-read c = search needs
-
-read-requires : tie.Need-read-requires
-read-requires c κs = search needs
-
-refuse-requires : tie.Need-refuse-requires
-refuse-requires c κs = search needs
-
 returns : tie.Need-returns
 returns c =
     let x = c .before .before .before in
     unread (x .before .before .before .args .file .now) (replicate 61457 0) (x .read .result) (x .read .ensures .0) (length-replicate {A = ℕ} 61457 0) (refusalBy (x .before .before .before .args .settled)) (c .before .if1 .taken)
-
-sub-print-stream : tie.Need-sub-print-stream
-sub-print-stream c = search needs
-
-part-print-stream-start : tie.Need-part-print-stream-start
-part-print-stream-start c = search needs
 
 part-print-stream-end : tie.Need-part-print-stream-end
 part-print-stream-end c =
     let x = c .before .before .before in
     let p = read-fits (x .before .before .before .args .file .now) (replicate 61457 0) (x .read .result) (x .read .ensures .0) (length-replicate {A = ℕ} 61457 0) (c .before .if1 .left) in
     search needs
-
-print-stream-requires : tie.Need-print-stream-requires
-print-stream-requires c κs = search needs
 
 returns-2 : tie.Need-returns-2
 returns-2 c =
@@ -54,12 +36,12 @@ pub print-file-spec : {M : Type 1} → statement M
 print-file-spec =
     tie.close
     (tie.spec
-    slice-aggregate-read
-    read-requires
-    refuse-requires
+    (λ c. search needs)
+    (λ c κs. search needs)
+    (λ c κs. search needs)
     returns
-    sub-print-stream
-    part-print-stream-start
+    (λ c. search needs)
+    (λ c. search needs)
     part-print-stream-end
-    print-stream-requires
+    (λ c κs. search needs)
     returns-2)

@@ -5,20 +5,8 @@ use borrow.Author.Needs.{needs}
 use Rattle.report.proofs.print_run.Statement.{statement}
 use Rattle.report.proofs.print_run.Tie as tie
 
-slice-aggregate-settle : tie.Need-slice-aggregate-settle
-slice-aggregate-settle c = search needs
-
-settle-requires : tie.Need-settle-requires
-settle-requires c κs = search needs
-
-refuse-requires : tie.Need-refuse-requires
-refuse-requires c κs = search needs
-
 returns : tie.Need-returns
 returns c = let x = c .before .before .before .settle in settled-refusal (c .before .before .before .before .before .before .args .stream .now) (x .result) (x .ensures .0)
-
-print-network-requires : tie.Need-print-network-requires
-print-network-requires c κs = search needs
 
 returns-2 : tie.Need-returns-2
 returns-2 c = let x = c .before .before .before .before .settle in settled-refusal (c .before .before .before .before .before .before .before .args .stream .now) (x .result) (x .ensures .0)
@@ -27,9 +15,9 @@ pub print-run-spec : {M : Type 1} → statement M
 print-run-spec =
     tie.close
     (tie.spec
-    slice-aggregate-settle
-    settle-requires
-    refuse-requires
+    (λ c. search needs)
+    (λ c κs. search needs)
+    (λ c κs. search needs)
     returns
-    print-network-requires
+    (λ c κs. search needs)
     returns-2)

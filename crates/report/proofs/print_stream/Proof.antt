@@ -6,16 +6,10 @@ use borrow.Author.Needs.{needs}
 use Rattle.report.proofs.print_stream.Statement.{statement}
 use Rattle.report.proofs.print_stream.Tie as tie
 
-print-run-requires : tie.Need-print-run-requires
-print-run-requires c κs = search needs
-
 returns : tie.Need-returns
 returns c =
     let a = c .before .before .before .args in
     c .print-run .ensures ∙ ap (λ b. refusalBy b (a .stream .now)) (sym (c .before .if1 .taken))
-
-print-found-requires : tie.Need-print-found-requires
-print-found-requires c κs = search needs
 
 returns-2 : tie.Need-returns-2
 returns-2 c =
@@ -23,4 +17,4 @@ returns-2 c =
     c .print-found .ensures ∙ ap (λ b. refusalBy b (a .stream .now)) (sym (c .before .if1 .left))
 
 pub print-stream-spec : {M : Type 1} → statement M
-print-stream-spec = tie.close (tie.spec print-run-requires returns print-found-requires returns-2)
+print-stream-spec = tie.close (tie.spec (λ c κs. search needs) returns (λ c κs. search needs) returns-2)

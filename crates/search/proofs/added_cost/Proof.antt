@@ -18,41 +18,14 @@ Inv-loop stream starts level d v chosen column sum₀ i₀ sum i = (i ≤ level)
 abbrev μ-loop : tie.MeasureT-loop
 μ-loop stream starts level d v chosen column sum₀ i₀ sum i = level - i
 
-mul-column : tie.Need-mul-column Inv-loop μ-loop
-mul-column c = search needs
-
 loop-holds : tie.Need-loop-holds Inv-loop μ-loop
 loop-holds c = let a = c .before .before .args in (omega arith, refl, sym (cost-none (viewOf (instanceOf (a .stream .now)) (a .level)) (a .t5) (a .v)), omega arith)
-
-add-cost-place : tie.Need-add-cost-place Inv-loop μ-loop
-add-cost-place c = search needs
-
-mul-cost-place : tie.Need-mul-cost-place Inv-loop μ-loop
-mul-cost-place c = search needs
-
-shared-slice-read-cost-place : tie.Need-shared-slice-read-cost-place Inv-loop μ-loop
-shared-slice-read-cost-place c = search needs
-
-array-read-cost-place : tie.Need-array-read-cost-place Inv-loop μ-loop
-array-read-cost-place c = search needs
 
 cost-place-requires : tie.Need-cost-place-requires Inv-loop μ-loop
 cost-place-requires c κs =
     let z = c .before .before .before .before .before in
     let l = c .before .before .loop in
     (omega (arith, z .pre .byte), z .pre .values (l .i) (omega arith) .0, omega (arith, z .pre .v1), omega (arith, z .pre .vd, z .pre .byte))
-
-u16-at-requires : tie.Need-u16-at-requires Inv-loop μ-loop
-u16-at-requires c κs = search needs
-
-add-sum : tie.Need-add-sum Inv-loop μ-loop
-add-sum c = search needs
-
-add-i : tie.Need-add-i Inv-loop μ-loop
-add-i c = search needs
-
-loop-less : tie.Need-loop-less Inv-loop μ-loop
-loop-less c = search needs
 
 loop-again : tie.Need-loop-again Inv-loop μ-loop
 loop-again c =
@@ -76,16 +49,16 @@ added-cost-spec =
     (tie.spec
     Inv-loop
     μ-loop
-    mul-column
+    (λ c. search needs)
     loop-holds
-    add-cost-place
-    mul-cost-place
-    shared-slice-read-cost-place
-    array-read-cost-place
+    (λ c. search needs)
+    (λ c. search needs)
+    (λ c. search needs)
+    (λ c. search needs)
     cost-place-requires
-    u16-at-requires
-    add-sum
-    add-i
-    loop-less
+    (λ c κs. search needs)
+    (λ c. search needs)
+    (λ c. search needs)
+    (λ c. search needs)
     loop-again
     returns)

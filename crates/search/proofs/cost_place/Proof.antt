@@ -7,12 +7,6 @@ use native.Mathlib.Nat.{mul-le-mul}
 use Rattle.search.proofs.cost_place.Statement.{statement}
 use Rattle.search.proofs.cost_place.Tie as tie
 
-wide-requires : tie.Need-wide-requires
-wide-requires c κs = search needs
-
-sub-result : tie.Need-sub-result
-sub-result c = search needs
-
 -- the part that is a product
 small : (c : tie.After-wide) → (c .wide .result - 1) * c .before .args .d ≤ 255 * 255
 small c =
@@ -22,9 +16,6 @@ small c =
 
 mul-result : tie.Need-mul-result
 mul-result c = omega (arith, small c)
-
-sub-result-2 : tie.Need-sub-result-2
-sub-result-2 c = search needs
 
 add-result : tie.Need-add-result
 add-result c = omega (arith, small c)
@@ -42,10 +33,10 @@ pub cost-place-spec : {M : Type 1} → statement M
 cost-place-spec =
     tie.close
     (tie.spec
-    wide-requires
-    sub-result
+    (λ c κs. search needs)
+    (λ c. search needs)
     mul-result
-    sub-result-2
+    (λ c. search needs)
     add-result
     mul-result-2
     add-result-2

@@ -16,16 +16,10 @@ use Rattle.search.specs.Laws.{answer-stream-refused, answer-too-many, an
 use Rattle.search.proofs.exhaustive.Statement.{statement}
 use Rattle.search.proofs.exhaustive.Tie as tie
 
-stream-refusal-requires : tie.Need-stream-refusal-requires
-stream-refusal-requires c κs = search needs
-
 returns : tie.Need-returns
 returns c =
     let s = c .before .before .before .args .stream .now in
     answer-stream-refused s (c .before .stream-refusal .result) (c .before .stream-refusal .ensures) (c .if1 .taken)
-
-byte-requires : tie.Need-byte-requires
-byte-requires c κs = search needs
 
 too-many-requires : tie.Need-too-many-requires
 unfolding Accepted
@@ -44,9 +38,6 @@ pair-starts-requires c κs =
     let s = z .before .before .before .args .stream .now in
     let ok = sym (z .before .stream-refusal .ensures) ∙ z .if1 .left in
     (ok, c .before .before .byte .ensures .0, omega (arith, accepted-units s ok, c .before .before .byte .ensures .0))
-
-slice-aggregate-extend : tie.Need-slice-aggregate-extend
-slice-aggregate-extend c = search needs
 
 extend-requires : tie.Need-extend-requires
 unfolding Accepted
@@ -70,12 +61,12 @@ pub exhaustive-spec : {M : Type 1} → statement M
 exhaustive-spec =
     tie.close
     (tie.spec
-    stream-refusal-requires
+    (λ c κs. search needs)
     returns
-    byte-requires
+    (λ c κs. search needs)
     too-many-requires
     returns-2
     pair-starts-requires
-    slice-aggregate-extend
+    (λ c. search needs)
     extend-requires
     returns-3)

@@ -16,41 +16,11 @@ Inv-loop stream n i at starts₀ d from₀ j₀ starts from j = (i < j) × (j �
 abbrev μ-loop : tie.MeasureT-loop
 μ-loop stream n i at starts₀ d from₀ j₀ starts from j = n - j
 
-add-byte : tie.Need-add-byte Inv-loop μ-loop
-add-byte c = search needs
-
-byte-requires : tie.Need-byte-requires Inv-loop μ-loop
-byte-requires c κs = search needs
-
-add-j : tie.Need-add-j Inv-loop μ-loop
-add-j c = search needs
-
-loop-holds : tie.Need-loop-holds Inv-loop μ-loop
-loop-holds c = search needs
-
 cast-starts : tie.Need-cast-starts Inv-loop μ-loop
 cast-starts c =
     let z = c .before .before .before .before .before in
     let l = c .before .loop in
     omega (arith, start-fits (z .args .stream .now) (z .args .i) (l .j) (z .pre .0 .accepted) (l .inv .0) (omega (arith, z .pre .0 .units)))
-
-mul-starts : tie.Need-mul-starts Inv-loop μ-loop
-mul-starts c = search needs
-
-add-starts : tie.Need-add-starts Inv-loop μ-loop
-add-starts c = search needs
-
-mul-starts-2 : tie.Need-mul-starts-2 Inv-loop μ-loop
-mul-starts-2 c = search needs
-
-slice-write-starts : tie.Need-slice-write-starts Inv-loop μ-loop
-slice-write-starts c = search needs
-
-add-byte-2 : tie.Need-add-byte-2 Inv-loop μ-loop
-add-byte-2 c = search needs
-
-byte-requires-2 : tie.Need-byte-requires-2 Inv-loop μ-loop
-byte-requires-2 c κs = search needs
 
 mul-from : tie.Need-mul-from Inv-loop μ-loop
 mul-from c =
@@ -72,12 +42,6 @@ add-from c =
     let d : c .before .before .before .byte .result ≤ 255 = omega arith in
     omega (arith, mul-le-mul d b, start-fits (z .args .stream .now) (z .args .i) (l .j) (z .pre .0 .accepted) (l .inv .0) (omega (arith, z .pre .0 .units)))
 
-add-j-2 : tie.Need-add-j-2 Inv-loop μ-loop
-add-j-2 c = search needs
-
-loop-less : tie.Need-loop-less Inv-loop μ-loop
-loop-less c = search needs
-
 loop-again : tie.Need-loop-again Inv-loop μ-loop
 loop-again c =
     let z = c .before .before .before .before .before .before in
@@ -85,9 +49,6 @@ loop-again c =
     let b = c .before .before .before .byte in
     let q = filled-next (z .args .stream .now) (l .starts) (z .args .i) (l .j) (l .from) (b .result) (c .byte2 .result) (omega (arith, z .pre .0 .units, z .pre .0 .most)) (l .inv .0) (omega (arith, z .pre .0 .units)) (l .inv .4) (b .ensures .0) (c .byte2 .ensures .0) (l .inv .5) in
     (omega arith, omega arith, l .inv .2, omega arith, q .0, q .1)
-
-same-length : tie.Need-same-length Inv-loop μ-loop
-same-length c = search needs
 
 returns : tie.Need-returns Inv-loop μ-loop
 returns c =
@@ -102,22 +63,22 @@ fill-row-spec =
     (tie.spec
     Inv-loop
     μ-loop
-    add-byte
-    byte-requires
-    add-j
-    loop-holds
+    (λ c. search needs)
+    (λ c κs. search needs)
+    (λ c. search needs)
+    (λ c. search needs)
     cast-starts
-    mul-starts
-    add-starts
-    mul-starts-2
-    slice-write-starts
-    add-byte-2
-    byte-requires-2
+    (λ c. search needs)
+    (λ c. search needs)
+    (λ c. search needs)
+    (λ c. search needs)
+    (λ c. search needs)
+    (λ c κs. search needs)
     mul-from
     mul-from-2
     add-from
-    add-j-2
-    loop-less
+    (λ c. search needs)
+    (λ c. search needs)
     loop-again
-    same-length
+    (λ c. search needs)
     returns)

@@ -21,12 +21,6 @@ abbrev μ-loop : tie.MeasureT-loop
 loop-holds : tie.Need-loop-holds Inv-loop μ-loop
 loop-holds c = (omega arith, refl, omega arith)
 
-add-byte : tie.Need-add-byte Inv-loop μ-loop
-add-byte c = search needs
-
-byte-requires : tie.Need-byte-requires Inv-loop μ-loop
-byte-requires c κs = search needs
-
 mul-count : tie.Need-mul-count Inv-loop μ-loop
 mul-count c =
     let l = c .before .before .loop in
@@ -38,12 +32,6 @@ returns c =
     let l = c .before .before .before .loop in
     let z = c .before .before .before .before .before in
     count-above (z .args .stream .now) (z .pre .0) (l .i) (l .count) (c .before .byte .result) (l .inv .1) (omega arith) (c .before .byte .ensures .0) (c .if1 .taken)
-
-add-i : tie.Need-add-i Inv-loop μ-loop
-add-i c = search needs
-
-loop-less : tie.Need-loop-less Inv-loop μ-loop
-loop-less c = search needs
 
 loop-again : tie.Need-loop-again Inv-loop μ-loop
 loop-again c =
@@ -64,11 +52,11 @@ too-many-spec =
     Inv-loop
     μ-loop
     loop-holds
-    add-byte
-    byte-requires
+    (λ c. search needs)
+    (λ c κs. search needs)
     mul-count
     returns
-    add-i
-    loop-less
+    (λ c. search needs)
+    (λ c. search needs)
     loop-again
     returns-2)

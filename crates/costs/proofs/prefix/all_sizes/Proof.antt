@@ -17,24 +17,6 @@ Inv-loop stream m sum₀ i₀ sum i = (i ≤ m) × (sum ≡ sumFrom (domOf strea
 abbrev μ-loop : tie.MeasureT-loop
 μ-loop stream m sum₀ i₀ sum i = m - i
 
-loop-holds : tie.Need-loop-holds Inv-loop μ-loop
-loop-holds c = search needs
-
-size-at-requires : tie.Need-size-at-requires Inv-loop μ-loop
-size-at-requires c κs = search needs
-
-wide-requires : tie.Need-wide-requires Inv-loop μ-loop
-wide-requires c κs = search needs
-
-add-sum : tie.Need-add-sum Inv-loop μ-loop
-add-sum c = search needs
-
-add-i : tie.Need-add-i Inv-loop μ-loop
-add-i c = search needs
-
-loop-less : tie.Need-loop-less Inv-loop μ-loop
-loop-less c = search needs
-
 loop-again : tie.Need-loop-again Inv-loop μ-loop
 loop-again c =
     let l = c .before .before .before .loop in
@@ -53,11 +35,11 @@ all-sizes-spec =
     (tie.spec
     Inv-loop
     μ-loop
-    loop-holds
-    size-at-requires
-    wide-requires
-    add-sum
-    add-i
-    loop-less
+    (λ c. search needs)
+    (λ c κs. search needs)
+    (λ c κs. search needs)
+    (λ c. search needs)
+    (λ c. search needs)
+    (λ c. search needs)
     loop-again
     returns)

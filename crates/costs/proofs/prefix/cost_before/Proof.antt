@@ -19,18 +19,6 @@ Inv-loop stream values place d v units later₀ between₀ row₀ sum₀ j₀ la
 abbrev μ-loop : tie.MeasureT-loop
 μ-loop stream values place d v units later₀ between₀ row₀ sum₀ j₀ later between row sum j = place - j
 
-byte-at-requires : tie.Need-byte-at-requires Inv-loop μ-loop
-byte-at-requires c κs = search needs
-
-wide-requires : tie.Need-wide-requires Inv-loop μ-loop
-wide-requires c κs = search needs
-
-all-sizes-requires : tie.Need-all-sizes-requires Inv-loop μ-loop
-all-sizes-requires c κs = search needs
-
-all-sizes-requires-2 : tie.Need-all-sizes-requires-2 Inv-loop μ-loop
-all-sizes-requires-2 c κs = search needs
-
 loop-holds : tie.Need-loop-holds Inv-loop μ-loop
 loop-holds c =
     let z = c .before .before .before .before .before in
@@ -44,9 +32,6 @@ loop-holds c =
 
 size-at-requires : tie.Need-size-at-requires Inv-loop μ-loop
 size-at-requires c κs = omega (arith, c .before .loop .inv .2 .inside)
-
-wide-requires-2 : tie.Need-wide-requires-2 Inv-loop μ-loop
-wide-requires-2 c κs = search needs
 
 -- what the laws of a turn go by
 turn : (c : tie.After-wide2 Inv-loop μ-loop)
@@ -68,12 +53,6 @@ sub-later c = omega (arith, later-after (turn c))
 
 sub-between : tie.Need-sub-between Inv-loop μ-loop
 sub-between c = omega (arith, between-after (turn c))
-
-value-at-requires : tie.Need-value-at-requires Inv-loop μ-loop
-value-at-requires c κs = search needs
-
-add-cost-in-pair : tie.Need-add-cost-in-pair Inv-loop μ-loop
-add-cost-in-pair c = search needs
 
 mul-cost-in-pair : tie.Need-mul-cost-in-pair Inv-loop μ-loop
 mul-cost-in-pair c = omega (arith, place-most (turn (c .before)))
@@ -103,12 +82,6 @@ mul-row c = omega (arith, row-after (turn (c .before .before)))
 add-row : tie.Need-add-row Inv-loop μ-loop
 add-row c = omega (arith, row-after (turn (c .before .before)))
 
-add-j : tie.Need-add-j Inv-loop μ-loop
-add-j c = search needs
-
-loop-less : tie.Need-loop-less Inv-loop μ-loop
-loop-less c = search needs
-
 loop-again : tie.Need-loop-again Inv-loop μ-loop
 loop-again c =
     let z = c .before .before .before .before .before .before .before .before .before .before .before in
@@ -130,17 +103,17 @@ cost-before-spec =
     (tie.spec
     Inv-loop
     μ-loop
-    byte-at-requires
-    wide-requires
-    all-sizes-requires
-    all-sizes-requires-2
+    (λ c κs. search needs)
+    (λ c κs. search needs)
+    (λ c κs. search needs)
+    (λ c κs. search needs)
     loop-holds
     size-at-requires
-    wide-requires-2
+    (λ c κs. search needs)
     sub-later
     sub-between
-    value-at-requires
-    add-cost-in-pair
+    (λ c κs. search needs)
+    (λ c. search needs)
     mul-cost-in-pair
     add-cost-in-pair-2
     mul-cost-in-pair-2
@@ -149,7 +122,7 @@ cost-before-spec =
     add-sum
     mul-row
     add-row
-    add-j
-    loop-less
+    (λ c. search needs)
+    (λ c. search needs)
     loop-again
     returns)

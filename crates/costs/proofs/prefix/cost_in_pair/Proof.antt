@@ -12,9 +12,6 @@ use Rattle.base.specs.Shape.{value-range}
 use Rattle.costs.proofs.prefix.cost_in_pair.Statement.{statement}
 use Rattle.costs.proofs.prefix.cost_in_pair.Tie as tie
 
-is-value-requires : tie.Need-is-value-requires
-is-value-requires c κs = search needs
-
 returns : tie.Need-returns
 returns c =
     let a = c .before .before .before .args in
@@ -32,9 +29,6 @@ mul-u16-at c =
     let u : a .u - 1 ≤ 254 = omega arith in
     let d : a .d ≤ 255 = omega arith in
     omega (arith, mul-le-mul u d)
-
-sub-u16-at-2 : tie.Need-sub-u16-at-2
-sub-u16-at-2 c = search needs
 
 add-u16-at : tie.Need-add-u16-at
 add-u16-at c =
@@ -57,9 +51,6 @@ add-u16-at-2 c =
     let d : a .d ≤ 255 = omega arith in
     omega (arith, mul-le-mul u d)
 
-u16-at-requires : tie.Need-u16-at-requires
-u16-at-requires c κs = search needs
-
 returns-2 : tie.Need-returns-2
 returns-2 c =
     let a = c .before .before .before .before .args in
@@ -70,13 +61,13 @@ pub cost-in-pair-spec : {M : Type 1} → statement M
 cost-in-pair-spec =
     tie.close
     (tie.spec
-    is-value-requires
+    (λ c κs. search needs)
     returns
     sub-u16-at
     mul-u16-at
-    sub-u16-at-2
+    (λ c. search needs)
     add-u16-at
     mul-u16-at-2
     add-u16-at-2
-    u16-at-requires
+    (λ c κs. search needs)
     returns-2)

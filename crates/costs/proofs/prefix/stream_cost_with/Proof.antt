@@ -12,21 +12,6 @@ use borrow.Author.Needs.{needs}
 use Rattle.costs.proofs.prefix.stream_cost_with.Statement.{statement}
 use Rattle.costs.proofs.prefix.stream_cost_with.Tie as tie
 
-place-at-requires : tie.Need-place-at-requires
-place-at-requires c κs = search needs
-
-wide-requires : tie.Need-wide-requires
-wide-requires c κs = search needs
-
-size-at-requires : tie.Need-size-at-requires
-size-at-requires c κs = search needs
-
-wide-requires-2 : tie.Need-wide-requires-2
-wide-requires-2 c κs = search needs
-
-is-value-requires : tie.Need-is-value-requires
-is-value-requires c κs = search needs
-
 returns : tie.Need-returns
 returns c =
     let a = c .before .before .before .before .before .before .before .args in
@@ -50,11 +35,11 @@ pub stream-cost-with-spec : {M : Type 1} → statement M
 stream-cost-with-spec =
     tie.close
     (tie.spec
-    place-at-requires
-    wide-requires
-    size-at-requires
-    wide-requires-2
-    is-value-requires
+    (λ c κs. search needs)
+    (λ c κs. search needs)
+    (λ c κs. search needs)
+    (λ c κs. search needs)
+    (λ c κs. search needs)
     returns
     cost-before-requires
     returns-2)

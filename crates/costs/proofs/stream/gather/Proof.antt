@@ -7,15 +7,6 @@ use Rattle.costs.specs.Gather.Checks.{gatherable, gather-refused, gather
 use Rattle.costs.proofs.stream.gather.Statement.{statement}
 use Rattle.costs.proofs.stream.gather.Tie as tie
 
-byte-at-requires : tie.Need-byte-at-requires
-byte-at-requires c κs = search needs
-
-sizes-of-requires : tie.Need-sizes-of-requires
-sizes-of-requires c κs = search needs
-
-gather-refusal-requires : tie.Need-gather-refusal-requires
-gather-refusal-requires c κs = search needs
-
 returns : tie.Need-returns
 returns c =
     let r = c .before .gather-refusal in
@@ -31,9 +22,6 @@ gather-all-requires c κs =
     let g = gatherable (a .stream .now) (a .own) _ (sym (r .ensures) ∙ c .before .if1 .left) in
     (seated (a .stream .now) (record { own = a .own; n = n .result; sizes = sizes .result }) (n .ensures) (sizes .ensures) (g .accepted), omega (arith, n .ensures, g .unit), g .fits)
 
-same-length : tie.Need-same-length
-same-length c = search needs
-
 returns-2 : tie.Need-returns-2
 returns-2 c =
     let z = c .before .before in
@@ -45,10 +33,10 @@ pub gather-spec : {M : Type 1} → statement M
 gather-spec =
     tie.close
     (tie.spec
-    byte-at-requires
-    sizes-of-requires
-    gather-refusal-requires
+    (λ c κs. search needs)
+    (λ c κs. search needs)
+    (λ c κs. search needs)
     returns
     gather-all-requires
-    same-length
+    (λ c. search needs)
     returns-2)

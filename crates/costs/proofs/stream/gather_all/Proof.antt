@@ -20,9 +20,6 @@ Inv-loop stream seat out₀ count at₀ j₀ out at j = (count ≡ seat .n) × (
 abbrev μ-loop : tie.MeasureT-loop
 μ-loop stream seat out₀ count at₀ j₀ out at j = count - j
 
-wide-requires : tie.Need-wide-requires Inv-loop μ-loop
-wide-requires c κs = search needs
-
 loop-holds : tie.Need-loop-holds Inv-loop μ-loop
 loop-holds c =
     let a = c .before .before .before .args in
@@ -36,12 +33,6 @@ put-other-requires c κs =
     let l = c .before .before .loop in
     let room = gather-room (s .args .stream .now) (s .pre .0 .long) (pred (s .args .seat .own)) (omega (arith, s .pre .0 .units)) (l .j) (unitsOf (s .args .stream .now)) (omega (arith, s .pre .0 .units)) in
     (s .pre .0, s .pre .1, omega arith, omega arith)
-
-add-j : tie.Need-add-j Inv-loop μ-loop
-add-j c = search needs
-
-loop-less : tie.Need-loop-less Inv-loop μ-loop
-loop-less c = search needs
 
 loop-again : tie.Need-loop-again Inv-loop μ-loop
 loop-again c =
@@ -57,9 +48,6 @@ loop-again c =
       c .before .before .put-other .ensures .1 ∙ ap (λ d. putAt d (l .at) w) (l .inv .4) ∙ put-behind g w (a .out .now) (l .at) (l .inv .2) ∙ ap (λ f. f ++ drop (length f) (a .out .now)) (sym e),
     )
 
-same-length : tie.Need-same-length Inv-loop μ-loop
-same-length c = search needs
-
 returns : tie.Need-returns Inv-loop μ-loop
 unfolding gathered
 returns c =
@@ -74,11 +62,11 @@ gather-all-spec =
     (tie.spec
     Inv-loop
     μ-loop
-    wide-requires
+    (λ c κs. search needs)
     loop-holds
     put-other-requires
-    add-j
-    loop-less
+    (λ c. search needs)
+    (λ c. search needs)
     loop-again
-    same-length
+    (λ c. search needs)
     returns)

@@ -13,20 +13,8 @@ use Rattle.costs.specs.Gather.Checks.{refused-5, refused-10, refused-str
 use Rattle.costs.proofs.stream.gather_refusal.Statement.{statement}
 use Rattle.costs.proofs.stream.gather_refusal.Tie as tie
 
-stream-refusal-requires : tie.Need-stream-refusal-requires
-stream-refusal-requires c κs = search needs
-
 returns : tie.Need-returns
 returns c = let a = c .before .before .before .args in refused-5 (a .stream .now) (a .seat .own) (a .room) (sym (c .before .stream-refusal .ensures) ∙ c .if1 .taken)
-
-wide-requires : tie.Need-wide-requires
-wide-requires c κs = search needs
-
-wide-requires-2 : tie.Need-wide-requires-2
-wide-requires-2 c κs = search needs
-
-is-value-requires : tie.Need-is-value-requires
-is-value-requires c κs = search needs
 
 -- the tests that were made, each where it was
 not-five : (c : tie.Else1) → streamRefusal (c .before .before .before .args .stream .now) ≡ 5 → ⊥
@@ -52,12 +40,6 @@ returns-3 c =
     let r = c .before .before .before .before .before .before .stream-refusal in
     let unit = is-unit (c .before .before) ∙ not-false _ (c .before .if2 .left) in
     r .ensures ∙ refused-stream (a .stream .now) (a .seat .own) (a .room) (not-five (c .before .before .before .before .before)) unit (λ z. c .if3 .taken (r .ensures ∙ z))
-
-lent-count-requires : tie.Need-lent-count-requires
-lent-count-requires c κs = search needs
-
-mul-if4 : tie.Need-mul-if4
-mul-if4 c = search needs
 
 -- how many bytes there are to gather
 count : (c : tie.After-lent-count) → let a = c .before .before .before .before .before .before .before .before .before .args in length (gathered (a .stream .now) (a .seat .own)) ≡ 2 * c .lent-count .result
@@ -85,14 +67,14 @@ pub gather-refusal-spec : {M : Type 1} → statement M
 gather-refusal-spec =
     tie.close
     (tie.spec
-    stream-refusal-requires
+    (λ c κs. search needs)
     returns
-    wide-requires
-    wide-requires-2
-    is-value-requires
+    (λ c κs. search needs)
+    (λ c κs. search needs)
+    (λ c κs. search needs)
     returns-2
     returns-3
-    lent-count-requires
-    mul-if4
+    (λ c κs. search needs)
+    (λ c. search needs)
     returns-4
     returns-5)

@@ -8,24 +8,6 @@ use borrow.Author.Needs.{needs}
 use Rattle.costs.proofs.stream.pair_start.Statement.{statement}
 use Rattle.costs.proofs.stream.pair_start.Tie as tie
 
-row-start-requires : tie.Need-row-start-requires
-row-start-requires c κs = search needs
-
-size-of-requires : tie.Need-size-of-requires
-size-of-requires c κs = search needs
-
-add-sum-sizes : tie.Need-add-sum-sizes
-add-sum-sizes c = search needs
-
-add-sum-sizes-2 : tie.Need-add-sum-sizes-2
-add-sum-sizes-2 c = search needs
-
-sub-sum-sizes : tie.Need-sub-sum-sizes
-sub-sum-sizes c = search needs
-
-sum-sizes-requires : tie.Need-sum-sizes-requires
-sum-sizes-requires c κs = search needs
-
 mul-result : tie.Need-mul-result
 mul-result c =
     let s : c .sum-sizes .result ≤ 4080 = omega arith in
@@ -48,12 +30,12 @@ pub pair-start-spec : {M : Type 1} → statement M
 pair-start-spec =
     tie.close
     (tie.spec
-    row-start-requires
-    size-of-requires
-    add-sum-sizes
-    add-sum-sizes-2
-    sub-sum-sizes
-    sum-sizes-requires
+    (λ c κs. search needs)
+    (λ c κs. search needs)
+    (λ c. search needs)
+    (λ c. search needs)
+    (λ c. search needs)
+    (λ c κs. search needs)
     mul-result
     add-result
     returns)

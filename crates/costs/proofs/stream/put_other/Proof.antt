@@ -10,9 +10,6 @@ use borrow.Author.Needs.{needs}
 use Rattle.costs.proofs.stream.put_other.Statement.{statement}
 use Rattle.costs.proofs.stream.put_other.Tie as tie
 
-place-of-requires : tie.Need-place-of-requires
-place-of-requires c κs = search needs
-
 returns : tie.Need-returns
 returns c = let s = c .before .before .before .before .args in put-own (s .stream .now) (s .out .now) (pred (s .seat .own)) (s .j) (s .at) (c .if1 .taken ∙ c .before .place-of .ensures .0)
 
@@ -22,9 +19,6 @@ put-pair-requires c κs =
     let s = c .before .before .before .before .before .before in
     let e : withOther (s .args .stream .now) (pred (s .args .seat .own)) (s .args .j) ≡ pairBytes (s .args .stream .now) (s .args .j) (pred (s .args .seat .own)) = with-before (s .args .stream .now) (pred (s .args .seat .own)) (s .args .j) (omega (arith, p .ensures .0)) in
     (s .pre .0, omega arith, omega arith, rw (p .ensures .0) (rw e at (s .pre .3)))
-
-same-length : tie.Need-same-length
-same-length c = search needs
 
 returns-2 : tie.Need-returns-2
 returns-2 c =
@@ -40,9 +34,6 @@ put-pair-requires-2 c κs =
     let e : withOther (s .args .stream .now) (pred (s .args .seat .own)) (s .args .j) ≡ pairBytes (s .args .stream .now) (pred (s .args .seat .own)) (s .args .j) = with-after (s .args .stream .now) (pred (s .args .seat .own)) (s .args .j) (omega (arith, p .ensures .0)) in
     (s .pre .0, omega arith, omega arith, rw (p .ensures .0) (rw e at (s .pre .3)))
 
-same-length-2 : tie.Need-same-length-2
-same-length-2 c = search needs
-
 returns-3 : tie.Need-returns-3
 returns-3 c =
     let p = c .before .before .before .before .before .before .place-of in
@@ -54,11 +45,11 @@ pub put-other-spec : {M : Type 1} → statement M
 put-other-spec =
     tie.close
     (tie.spec
-    place-of-requires
+    (λ c κs. search needs)
     returns
     put-pair-requires
-    same-length
+    (λ c. search needs)
     returns-2
     put-pair-requires-2
-    same-length-2
+    (λ c. search needs)
     returns-3)

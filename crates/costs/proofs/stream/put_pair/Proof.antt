@@ -8,27 +8,6 @@ use borrow.Author.Needs.{needs}
 use Rattle.costs.proofs.stream.put_pair.Statement.{statement}
 use Rattle.costs.proofs.stream.put_pair.Tie as tie
 
-wide-requires : tie.Need-wide-requires
-wide-requires c κs = search needs
-
-add-from : tie.Need-add-from
-add-from c = search needs
-
-pair-start-requires : tie.Need-pair-start-requires
-pair-start-requires c κs = search needs
-
-mul-from : tie.Need-mul-from
-mul-from c = search needs
-
-add-from-2 : tie.Need-add-from-2
-add-from-2 c = search needs
-
-size-of-requires : tie.Need-size-of-requires
-size-of-requires c κs = search needs
-
-size-of-requires-2 : tie.Need-size-of-requires-2
-size-of-requires-2 c κs = search needs
-
 mul-count : tie.Need-mul-count
 mul-count c =
     let p = mul-le-mul (c .before .size-of .ensures .1) (c .size-of2 .ensures .1) in
@@ -51,9 +30,6 @@ add-result c =
     let z = c .before .before .before .before in
     omega (arith, pair-count (s .pre .0) (s .args .i) (s .args .j) (z .before .before .before .wide .result) (z .before .before .pair-start .result) (z .before .size-of .result) (z .size-of2 .result) (s .pre .1) (s .pre .2) (z .before .before .before .wide .ensures .0) (z .before .before .pair-start .ensures .0) (z .before .size-of .ensures .0) (z .size-of2 .ensures .0))
 
-same-length : tie.Need-same-length
-same-length c = search needs
-
 returns : tie.Need-returns
 returns c =
     let s = c .before .before .before .before .before .before .before .before .before .before in
@@ -64,16 +40,16 @@ pub put-pair-spec : {M : Type 1} → statement M
 put-pair-spec =
     tie.close
     (tie.spec
-    wide-requires
-    add-from
-    pair-start-requires
-    mul-from
-    add-from-2
-    size-of-requires
-    size-of-requires-2
+    (λ c κs. search needs)
+    (λ c. search needs)
+    (λ c κs. search needs)
+    (λ c. search needs)
+    (λ c. search needs)
+    (λ c κs. search needs)
+    (λ c κs. search needs)
     mul-count
     mul-count-2
     copy-part-requires
     add-result
-    same-length
+    (λ c. search needs)
     returns)

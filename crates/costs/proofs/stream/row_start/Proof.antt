@@ -5,7 +5,8 @@ use mathlib.Core.Path.{_≡_}
 use native.Mathlib.Omega.{arith}
 use native.Mathlib.Nat.{mul-le-mul}
 use native.Mathlib.Numerals.{add-one}
-use Rattle.costs.specs.Instance.{domFrom, rowStart}
+use Rattle.costs.specs.Lent.Parts.{domFrom}
+use Rattle.costs.specs.Instance.{rowStart}
 use borrow.Author.Needs.{needs}
 use Rattle.costs.proofs.stream.row_start.Statement.{statement}
 use Rattle.costs.proofs.stream.row_start.Tie as tie
@@ -15,27 +16,6 @@ Inv-loop seat i sum₀ a₀ sum a = (a ≤ i) × (sum ≡ rowStart (domFrom seat
 
 abbrev μ-loop : tie.MeasureT-loop
 μ-loop seat i sum₀ a₀ sum a = i - a
-
-loop-holds : tie.Need-loop-holds Inv-loop μ-loop
-loop-holds c = search needs
-
-size-of-requires : tie.Need-size-of-requires Inv-loop μ-loop
-size-of-requires c κs = search needs
-
-add-sum-sizes : tie.Need-add-sum-sizes Inv-loop μ-loop
-add-sum-sizes c = search needs
-
-wide-requires : tie.Need-wide-requires Inv-loop μ-loop
-wide-requires c κs = search needs
-
-add-sum-sizes-2 : tie.Need-add-sum-sizes-2 Inv-loop μ-loop
-add-sum-sizes-2 c = search needs
-
-sub-sum-sizes : tie.Need-sub-sum-sizes Inv-loop μ-loop
-sub-sum-sizes c = search needs
-
-sum-sizes-requires : tie.Need-sum-sizes-requires Inv-loop μ-loop
-sum-sizes-requires c κs = search needs
 
 mul-sum : tie.Need-mul-sum Inv-loop μ-loop
 mul-sum c =
@@ -48,12 +28,6 @@ add-sum c =
     let s : c .sum-sizes .result ≤ 4080 = omega arith in
     let p = mul-le-mul (c .before .before .size-of .ensures .1) s in
     omega arith
-
-add-a : tie.Need-add-a Inv-loop μ-loop
-add-a c = search needs
-
-loop-less : tie.Need-loop-less Inv-loop μ-loop
-loop-less c = search needs
 
 loop-again : tie.Need-loop-again Inv-loop μ-loop
 loop-again c =
@@ -75,16 +49,16 @@ row-start-spec =
     (tie.spec
     Inv-loop
     μ-loop
-    loop-holds
-    size-of-requires
-    add-sum-sizes
-    wide-requires
-    add-sum-sizes-2
-    sub-sum-sizes
-    sum-sizes-requires
+    (λ c. search needs)
+    (λ c κs. search needs)
+    (λ c. search needs)
+    (λ c κs. search needs)
+    (λ c. search needs)
+    (λ c. search needs)
+    (λ c κs. search needs)
     mul-sum
     add-sum
-    add-a
-    loop-less
+    (λ c. search needs)
+    (λ c. search needs)
     loop-again
     returns)

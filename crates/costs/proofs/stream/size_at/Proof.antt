@@ -7,20 +7,8 @@ use borrow.Author.Needs.{needs}
 use Rattle.costs.proofs.stream.size_at.Statement.{statement}
 use Rattle.costs.proofs.stream.size_at.Tie as tie
 
-byte-at-requires : tie.Need-byte-at-requires
-byte-at-requires c κs = search needs
-
-wide-requires : tie.Need-wide-requires
-wide-requires c κs = search needs
-
 returns : tie.Need-returns
 returns c = let a = c .before .before .before .before .args in size-none (a .stream .now) (a .k) (omega arith)
-
-add-byte-at : tie.Need-add-byte-at
-add-byte-at c = search needs
-
-byte-at-requires-2 : tie.Need-byte-at-requires-2
-byte-at-requires-2 c κs = search needs
 
 returns-2 : tie.Need-returns-2
 returns-2 c = let a = c .before .before .before .before .before .args in c .byte-at2 .ensures ∙ size-some (a .stream .now) (a .k) (omega arith)
@@ -28,4 +16,4 @@ returns-2 c = let a = c .before .before .before .before .before .args in c .byte
 pub size-at-spec : {M : Type 1} → statement M
 size-at-spec =
     tie.close
-    (tie.spec byte-at-requires wide-requires returns add-byte-at byte-at-requires-2 returns-2)
+    (tie.spec (λ c κs. search needs) (λ c κs. search needs) returns (λ c. search needs) (λ c κs. search needs) returns-2)
