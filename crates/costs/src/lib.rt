@@ -16,8 +16,8 @@ ghost use lib.ListN.{getD};
 ghost use Rattle.base.specs.Sums.{sumFrom};
 ghost use Rattle.costs.specs.Instance.{inPair, costNumber, viewFrom};
 ghost use Rattle.costs.specs.Bounds.{costWith, h, estimate};
-ghost use Rattle.costs.specs.Lent.{lentCostsGood, lentCount, lentRefusal};
-ghost use Rattle.costs.specs.Lent.Parts.{domFrom, othersBefore, pairFrom, leastRun};
+ghost use Rattle.costs.specs.Lent.{lentCount, lentRefusal};
+ghost use Rattle.costs.specs.Lent.Parts.{othersBefore, pairFrom, leastRun, domFrom};
 
 // Where a unit sits: its own number, 1 to n, among n units with these domain sizes; places past n are not looked at.
 // The costs that touch it are lent beside it.
@@ -35,7 +35,7 @@ pub fn lent_refusal(seat: Seat, costs: &[u8]) -> u8
     if costs.len() != 2 * count {
         return 6;
     }
-    if !costs_good(costs, count) {
+    if !table::costs_good(costs, 0, count) {
         return 7;
     }
     0
@@ -71,21 +71,6 @@ fn lent_count(seat: Seat) -> usize
     ensures { λ r. ⌜ (r ≡ lentCount (seat .own) (seat .n) (seat .sizes)) × (r ≤ 16777216) ⌝ }
 {
     size_of(seat, place_of(seat)) * others_before(seat, wide(seat.n))
-}
-
-// Whether the first m costs are at most 60,000.
-fn costs_good(costs: &[u8], m: usize) -> bool
-    requires { ⌜ m ≤ 16777216 ⌝ }
-    ensures { λ r. ⌜ r ≡ lentCostsGood (now (costs .entry)) 0 m ⌝ }
-{
-    let mut i = 0;
-    while i < m {
-        if base::PAIR_LIMIT < base::u16_at(costs, 2 * i) {
-            return false;
-        }
-        i += 1;
-    }
-    true
 }
 
 // The cost of own value v with the values of the first k units.

@@ -13,11 +13,11 @@ use lib.ListN.{length, getD, take, drop, length-append, length-drop, List·getD-
 use lib.Seq.{getD-drop, getD-take, length-take-le, getD-append-add, take-append-seam}
 use borrow.Author.Tests.{lt-ltb, le-ltb, ltb-true, ltb-false, eq-eqb, ne-eqb, le-leb}
 use Rattle.base.specs.Sums.{sumTo}
-use Rattle.table.specs.Stream.{unitsOf, sizesOf, needed, costAt, Accepted}
+use Rattle.table.specs.Stream.{unitsOf, sizesOf, needed, costAt, costsGood, Accepted}
 use Rattle.table.specs.StreamLaws.{accepted-units, accepted-cost}
 use Rattle.base.specs.Shape.{isValue, range-value}
 use Rattle.costs.specs.Instance.{View, viewOf, pairStart, inPair, costNumber, instanceOf, otherStart, lentCost, lentView, domOf, costsOf}
-use Rattle.costs.specs.Lent.{lentCostsGood, lentCount, lentRefusal}
+use Rattle.costs.specs.Lent.{lentCount, lentRefusal}
 use Rattle.costs.specs.Lent.Checks.{refusal-costs}
 use Rattle.base.specs.Sums.Laws.{sumTo-le}
 use Rattle.base.specs.Shape.{value-range}
@@ -207,14 +207,15 @@ gathered-view s ok own lo hi sizes e = same-sizes ∙ same-pairs
 
 -- ---- and they pass the checks of lent costs
 
-all-good : (costs : List ℕ) (k m : ℕ) → ((x : ℕ) → x < m → costNumber costs (k + x) ≤ 60000) → lentCostsGood costs k m ≡ true
-unfolding lentCostsGood
+all-good : (costs : List ℕ) (k m : ℕ) → ((x : ℕ) → x < m → costNumber costs (k + x) ≤ 60000) → costsGood costs (2 * k) m ≡ true
+unfolding costsGood
 all-good costs k zero e = refl
 all-good costs k (suc m) e =
     let a : costNumber costs k ≤ 60000 = subst (λ p. costNumber costs p ≤ 60000) (add-zero k) (e 0 (omega arith)) in
-    let r : lentCostsGood costs (suc k) m ≡ true =
+    let n : 2 * k + 2 ≡ 2 * suc k = omega arith in
+    let r : costsGood costs (2 * suc k) m ≡ true =
     all-good costs (suc k) m (λ x h. let q : k + suc x ≡ suc k + x = omega arith in subst (λ p. costNumber costs p ≤ 60000) q (e (suc x) (omega arith))) in
-    rw (le-leb (costNumber costs k) 60000 a, r)
+    rw (le-leb (costNumber costs k) 60000 a, n, r)
 
 module _ (s : List ℕ) (ok : Accepted s) (k : ℕ) (in-n : k < unitsOf s) where
   pair-small : (i j x : ℕ) → i < j → j < unitsOf s → x < domOf s i * domOf s j → costNumber (pairBytes s i j) x ≤ 60000

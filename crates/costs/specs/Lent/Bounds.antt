@@ -1,23 +1,24 @@
 -- What the limit of 60,000 gives of the sums over a view: first for any view whose pair costs keep it, then for costs that were not refused.
 -- Each sum has at most so many terms, each at most 60,000; a cost number past the end is 0.
 -- Assumes nothing.
-use Prim.Native.Nat.{ℕ, zero, suc, _+_, _*_, _-_, _≤_, _<_, pred}
+use Prim.Native.Nat.{ℕ, suc, _+_, _*_, _-_, _≤_, pred}
 use mathlib.Core.Path.{_≡_, refl}
 use mathlib.Core.Bool.{Bool, true, false, cond, not, _&&_}
 use mathlib.Core.List.{List}
-use native.Mathlib.Nat.{zero-add, le-of-suc-le-suc, not-suc-le-zero}
+use native.Mathlib.Nat.{zero-add}
 use native.Mathlib.Omega.{arith}
-use lib.Dec.{ltb, leb, eqb}
+use lib.Dec.{ltb, eqb}
 use lib.ListN.{length, getD}
-use borrow.Author.Tests.{leb-true, ltb-true, ltb-false, eqb-true}
+use borrow.Author.Tests.{ltb-true, ltb-false, eqb-true}
 use Rattle.base.specs.Bytes.{u16-past}
-use Rattle.base.specs.Shape.{and-left, and-right}
 use Rattle.base.specs.Sums.{least}
 use Rattle.base.specs.Shape.{isValue}
+use Rattle.table.specs.Stream.{costsGood}
+use Rattle.table.specs.StreamLaws.{costs-at}
 use Rattle.costs.specs.Instance.{View, domIn, costNumber, lentView}
 use Rattle.costs.specs.Bounds.{costWith, h, estimate}
 use Rattle.base.specs.Sums.Laws.{sumFrom-le, sumTo-le, least-bound}
-use Rattle.costs.specs.Lent.{lentCostsGood, lentCount, lentRefusal}
+use Rattle.costs.specs.Lent.{lentCount, lentRefusal}
 
 -- ---- any view
 
@@ -40,17 +41,6 @@ module _ (w : View) (small : (j u v : ℕ) → w .pair j u v ≤ 60000) where
 
 -- ---- costs that were not refused
 
--- where the costs from k on pass, each does
-costs-at : (costs : List ℕ) (k m : ℕ) → lentCostsGood costs k m ≡ true → (i : ℕ) → i < m → costNumber costs (k + i) ≤ 60000
-unfolding lentCostsGood
-costs-at costs k zero e i l = absurd (not-suc-le-zero l)
-costs-at costs k (suc m) e zero l =
-    let q : k + 0 ≡ k = omega arith in
-    rw q (leb-true (costNumber costs k) 60000 (and-left (leb (costNumber costs k) 60000) (lentCostsGood costs (suc k) m) e))
-costs-at costs k (suc m) e (suc i) l =
-    let q : k + suc i ≡ suc k + i = omega arith in
-    rw q (costs-at costs (suc k) m (and-right (leb (costNumber costs k) 60000) (lentCostsGood costs (suc k) m) e) i (le-of-suc-le-suc l))
-
 -- the two tests of lentRefusal, taken apart
 passed : (a b : Bool) → _≡_ {A = ℕ} (cond a (cond b 0 7) 6) 0 → (a ≡ true) × (b ≡ true)
 passed false b e = absurd (omega arith)
@@ -62,9 +52,9 @@ cond-most true x M l = l
 cond-most false x M l = omega arith
 
 module _ (own n : ℕ) (sizes costs : List ℕ) (ok : lentRefusal own n sizes costs ≡ 0) where
-  tests : (eqb (length costs) (2 * lentCount own n sizes) ≡ true) × (lentCostsGood costs 0 (lentCount own n sizes) ≡ true)
+  tests : (eqb (length costs) (2 * lentCount own n sizes) ≡ true) × (costsGood costs 0 (lentCount own n sizes) ≡ true)
   unfolding lentRefusal
-  tests = passed (eqb (length costs) (2 * lentCount own n sizes)) (lentCostsGood costs 0 (lentCount own n sizes)) ok
+  tests = passed (eqb (length costs) (2 * lentCount own n sizes)) (costsGood costs 0 (lentCount own n sizes)) ok
 
   -- there are as many costs as n and the sizes need
   pub lent-length : length costs ≡ 2 * lentCount own n sizes
