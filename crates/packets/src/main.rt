@@ -1,6 +1,6 @@
 // Reads the packets of data/packets for 4 units of 2, 3, 4 and 5 values, and says of each what reading it gives. A record of the
 // file has 96 bytes: 31 of name, a unit number (0: read by no unit, for any receiver), and the 64 bytes of a message. The last is a
-// byte short. A message that is read is written again: into 65 bytes, for 3 units, into 63 bytes, and for no unit.
+// byte short. A message that is read is written again, into 65 bytes, for 3 units and for none, and into 63 bytes; and read for none.
 use libc::STDOUT_FILENO;
 use message::Kind;
 use message::Message;
@@ -85,6 +85,10 @@ fn again(kind: Kind, m: Message, packet: &[u8]) {
         &short,
         packet,
     );
+    io::write_all(STDOUT_FILENO, b"; read for none");
+    let p = message::parse(0, sizes, packet);
+    let answer = p.answer;
+    outcome(message::refusal_of(answer), &short, packet);
     io::write_all(STDOUT_FILENO, b"\n");
 }
 
