@@ -77,12 +77,6 @@ least-le f (suc (suc d)) v lo hi = go (leb v (suc d)) refl (λ l. least-le f (su
     go true e ih = omega (arith, ih (leb-true v (suc d) e))
     go false e ih = let q : v ≡ suc (suc d) = omega (arith, leb-false v (suc d) e) in rw q (omega arith)
 
--- what bounds every value from below bounds the least
-pub least-ge : (f : ℕ → ℕ) (d B : ℕ) → 1 ≤ d → ((v : ℕ) → 1 ≤ v → v ≤ d → B ≤ f v) → B ≤ least f d
-least-ge f zero B p h = absurd (omega arith)
-least-ge f (suc zero) B p h = h 1 (omega arith) (omega arith)
-least-ge f (suc (suc d)) B p h = omega (arith, h (suc (suc d)) (omega arith) (omega arith), least-ge f (suc d) B (omega arith) (λ v a b. h v a (omega arith)))
-
 -- what bounds every value from above bounds the least
 pub least-bound : (f : ℕ → ℕ) (d M : ℕ) → ((v : ℕ) → f v ≤ M) → least f d ≤ M
 least-bound f zero M h = omega arith

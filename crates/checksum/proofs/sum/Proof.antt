@@ -21,18 +21,6 @@ abbrev μ-loop : tie.MeasureT-loop
 loop-holds : tie.Need-loop-holds Inv-loop μ-loop
 loop-holds c = (omega arith, sym (sum-none (c .before .args .bytes .now)), omega arith)
 
-cast-weight : tie.Need-cast-weight Inv-loop μ-loop
-cast-weight c = search needs
-
-add-weight : tie.Need-add-weight Inv-loop μ-loop
-add-weight c = search needs
-
-shared-slice-read-wide-u32 : tie.Need-shared-slice-read-wide-u32 Inv-loop μ-loop
-shared-slice-read-wide-u32 c = search needs
-
-wide-u32-requires : tie.Need-wide-u32-requires Inv-loop μ-loop
-wide-u32-requires c κs = search needs
-
 mul-reduced : tie.Need-mul-reduced Inv-loop μ-loop
 mul-reduced c =
     let l = c .before .before .before .loop in
@@ -46,15 +34,6 @@ add-reduced c =
     let w : l .i % 65521 + 1 ≤ 65521 = omega arith in
     let b : c .wide-u32 .result ≤ 255 = omega arith in
     record { fits = omega (arith, mul-le-mul w b) }
-
-reduced-requires : tie.Need-reduced-requires Inv-loop μ-loop
-reduced-requires c κs = search needs
-
-add-i : tie.Need-add-i Inv-loop μ-loop
-add-i c = search needs
-
-loop-less : tie.Need-loop-less Inv-loop μ-loop
-loop-less c = search needs
 
 loop-again : tie.Need-loop-again Inv-loop μ-loop
 loop-again c =
@@ -75,14 +54,14 @@ sum-spec =
     Inv-loop
     μ-loop
     loop-holds
-    cast-weight
-    add-weight
-    shared-slice-read-wide-u32
-    wide-u32-requires
+    (λ c. search needs)
+    (λ c. search needs)
+    (λ c. search needs)
+    (λ c κs. search needs)
     mul-reduced
     add-reduced
-    reduced-requires
-    add-i
-    loop-less
+    (λ c κs. search needs)
+    (λ c. search needs)
+    (λ c. search needs)
     loop-again
     returns)

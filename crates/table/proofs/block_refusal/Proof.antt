@@ -12,21 +12,6 @@ returns c =
     let a = c .before .before .args in
     refused-size (a .number) (a .last) (a .block .now) (c .if1 .taken)
 
-u16-at-requires : tie.Need-u16-at-requires
-u16-at-requires c κs = search needs
-
-sub-sum : tie.Need-sub-sum
-sub-sum c = search needs
-
-part-sum-start : tie.Need-part-sum-start
-part-sum-start c = search needs
-
-part-sum-end : tie.Need-part-sum-end
-part-sum-end c = search needs
-
-sum-requires : tie.Need-sum-requires
-sum-requires c κs = search needs
-
 returns-2 : tie.Need-returns-2
 returns-2 c =
     let x = c .before .before .before .before in
@@ -34,24 +19,12 @@ returns-2 c =
     let b = a .block .now in
     refused-check (a .number) (a .last) b (x .if1 .left) (λ e. c .if2 .taken (c .before .before .before .u16-at .ensures .0 ∙ e ∙ sym (c .before .sum .ensures)))
 
-u16-at-requires-2 : tie.Need-u16-at-requires-2
-u16-at-requires-2 c κs = search needs
-
 returns-3 : tie.Need-returns-3
 returns-3 c =
     let x = c .before .before .before .before .before .before in
     let a = x .before .before .args in
     let b = a .block .now in
     refused-number (a .number) (a .last) b (x .if1 .left) (sym (c .before .before .before .before .before .u16-at .ensures .0) ∙ c .before .before .if2 .left ∙ c .before .before .before .sum .ensures) (λ e. c .if3 .taken (c .before .u16-at2 .ensures .0 ∙ e))
-
-u16-at-requires-3 : tie.Need-u16-at-requires-3
-u16-at-requires-3 c κs = search needs
-
-cast-count : tie.Need-cast-count
-cast-count c = search needs
-
-count-good-requires : tie.Need-count-good-requires
-count-good-requires c κs = search needs
 
 returns-4 : tie.Need-returns-4
 returns-4 c =
@@ -86,17 +59,17 @@ block-refusal-spec =
     tie.close
     (tie.spec
     returns
-    u16-at-requires
-    sub-sum
-    part-sum-start
-    part-sum-end
-    sum-requires
+    (λ c κs. search needs)
+    (λ c. search needs)
+    (λ c. search needs)
+    (λ c. search needs)
+    (λ c κs. search needs)
     returns-2
-    u16-at-requires-2
+    (λ c κs. search needs)
     returns-3
-    u16-at-requires-3
-    cast-count
-    count-good-requires
+    (λ c κs. search needs)
+    (λ c. search needs)
+    (λ c κs. search needs)
     returns-4
     unused-zero-requires
     returns-5

@@ -22,30 +22,6 @@ abbrev μ-loop : tie.MeasureT-loop
 loop-holds : tie.Need-loop-holds Inv-loop μ-loop
 loop-holds c = let g = good-size (length (c .before .args .file .now)) (c .before .pre) in (refl, g .0, g .2, omega arith, rw sub-zero)
 
-mul-start : tie.Need-mul-start Inv-loop μ-loop
-mul-start c = search needs
-
-add-end : tie.Need-add-end Inv-loop μ-loop
-add-end c = search needs
-
-sub-block-refusal : tie.Need-sub-block-refusal Inv-loop μ-loop
-sub-block-refusal c = search needs
-
-part-block-refusal-start : tie.Need-part-block-refusal-start Inv-loop μ-loop
-part-block-refusal-start c = search needs
-
-part-block-refusal-end : tie.Need-part-block-refusal-end Inv-loop μ-loop
-part-block-refusal-end c = search needs
-
-cast-block-refusal : tie.Need-cast-block-refusal Inv-loop μ-loop
-cast-block-refusal c = search needs
-
-add-block-refusal : tie.Need-add-block-refusal Inv-loop μ-loop
-add-block-refusal c = search needs
-
-block-refusal-requires : tie.Need-block-refusal-requires Inv-loop μ-loop
-block-refusal-requires c κs = search needs
-
 returns : tie.Need-returns Inv-loop μ-loop
 returns c =
     let f = c .before .before .before .before .before .before .args .file .now in
@@ -53,12 +29,6 @@ returns c =
     let r = c .before .block-refusal .result in
     let t = block-turn f (l .k) (length f / 512) (512 * l .k + 512 - 512 * l .k) r (omega arith) (omega arith) (c .before .block-refusal .ensures) in
     blocks-bad f (l .k) (length f / 512) (l .inv .4) (omega arith) r t (c .if1 .taken)
-
-add-k : tie.Need-add-k Inv-loop μ-loop
-add-k c = search needs
-
-loop-less : tie.Need-loop-less Inv-loop μ-loop
-loop-less c = search needs
 
 loop-again : tie.Need-loop-again Inv-loop μ-loop
 loop-again c =
@@ -81,16 +51,16 @@ blocks-refusal-spec =
     Inv-loop
     μ-loop
     loop-holds
-    mul-start
-    add-end
-    sub-block-refusal
-    part-block-refusal-start
-    part-block-refusal-end
-    cast-block-refusal
-    add-block-refusal
-    block-refusal-requires
+    (λ c. search needs)
+    (λ c. search needs)
+    (λ c. search needs)
+    (λ c. search needs)
+    (λ c. search needs)
+    (λ c. search needs)
+    (λ c. search needs)
+    (λ c κs. search needs)
     returns
-    add-k
-    loop-less
+    (λ c. search needs)
+    (λ c. search needs)
     loop-again
     returns-2)

@@ -21,34 +21,10 @@ loop-holds : tie.Need-loop-holds Inv-loop μ-loop
 unfolding joined
 loop-holds c = (omega arith, refl, refl)
 
-mul-start : tie.Need-mul-start Inv-loop μ-loop
-mul-start c = search needs
-
-add-end : tie.Need-add-end Inv-loop μ-loop
-add-end c = search needs
-
-sub-read-block : tie.Need-sub-read-block Inv-loop μ-loop
-sub-read-block c = search needs
-
-part-read-block-start : tie.Need-part-read-block-start Inv-loop μ-loop
-part-read-block-start c = search needs
-
-part-read-block-end : tie.Need-part-read-block-end Inv-loop μ-loop
-part-read-block-end c = search needs
-
 cast-read-block : tie.Need-cast-read-block Inv-loop μ-loop
 cast-read-block c =
     let st = c .before .before .before .before .before in
     record { fits = omega (arith, good-size (length (st .args .file .now)) (st .pre .0 .0)) }
-
-add-read-block : tie.Need-add-read-block Inv-loop μ-loop
-add-read-block c = search needs
-
-read-block-requires : tie.Need-read-block-requires Inv-loop μ-loop
-read-block-requires c κs = search needs
-
-mul-put : tie.Need-mul-put Inv-loop μ-loop
-mul-put c = search needs
 
 put-requires : tie.Need-put-requires Inv-loop μ-loop
 unfolding streamOf
@@ -60,12 +36,6 @@ put-requires c κs =
     let h = payload-fits f (length f / 512) (l .k) (st .pre .0 .1) (omega arith) (c .before .read-block .result .now) p in
     search needs
 
-add-k : tie.Need-add-k Inv-loop μ-loop
-add-k c = search needs
-
-loop-less : tie.Need-loop-less Inv-loop μ-loop
-loop-less c = search needs
-
 loop-again : tie.Need-loop-again Inv-loop μ-loop
 loop-again c =
     let st = c .before .before .before .before .before .before .before .before .before .before in
@@ -74,9 +44,6 @@ loop-again c =
     let r = c .before .before .before .before .read-block in
     let p = payload-read f (length f / 512) (l .k) (st .pre .0 .1) (omega arith) (512 * l .k + 512 - 512 * l .k) (r .result .now) (omega arith) (r .ensures) in
     (omega arith, search needs, c .before .before .put .ensures ∙ payload-put f (length f / 512) (l .k) (st .pre .0 .1) (omega arith) (st .args .out .now) (r .result .now) (l .out) p (l .inv .2))
-
-same-length : tie.Need-same-length Inv-loop μ-loop
-same-length c = search needs
 
 returns : tie.Need-returns Inv-loop μ-loop
 unfolding streamOf
@@ -93,18 +60,18 @@ copy-blocks-spec =
     Inv-loop
     μ-loop
     loop-holds
-    mul-start
-    add-end
-    sub-read-block
-    part-read-block-start
-    part-read-block-end
+    (λ c. search needs)
+    (λ c. search needs)
+    (λ c. search needs)
+    (λ c. search needs)
+    (λ c. search needs)
     cast-read-block
-    add-read-block
-    read-block-requires
-    mul-put
+    (λ c. search needs)
+    (λ c κs. search needs)
+    (λ c. search needs)
     put-requires
-    add-k
-    loop-less
+    (λ c. search needs)
+    (λ c. search needs)
     loop-again
-    same-length
+    (λ c. search needs)
     returns)

@@ -23,9 +23,6 @@ returns c =
     let l = c .before .before .loop in
     costs-past (a .bytes .now) (l .at) (l .left) (l .inv) (c .if1 .taken)
 
-u16-at-requires : tie.Need-u16-at-requires Inv-loop μ-loop
-u16-at-requires c κs = search needs
-
 returns-2 : tie.Need-returns-2 Inv-loop μ-loop
 returns-2 c =
     let a = c .before .before .before .before .before .before .args in
@@ -36,12 +33,6 @@ add-at : tie.Need-add-at Inv-loop μ-loop
 add-at c =
     let st = c .before .before .before .before .before .before in
     record { fits = omega (arith, st .good .0 .1) }
-
-sub-left : tie.Need-sub-left Inv-loop μ-loop
-sub-left c = search needs
-
-loop-less : tie.Need-loop-less Inv-loop μ-loop
-loop-less c = search needs
 
 loop-again : tie.Need-loop-again Inv-loop μ-loop
 loop-again c =
@@ -63,10 +54,10 @@ costs-good-spec =
     μ-loop
     loop-holds
     returns
-    u16-at-requires
+    (λ c κs. search needs)
     returns-2
     add-at
-    sub-left
-    loop-less
+    (λ c. search needs)
+    (λ c. search needs)
     loop-again
     returns-3)

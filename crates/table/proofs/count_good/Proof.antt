@@ -4,9 +4,6 @@ use borrow.Author.Needs.{needs}
 use Rattle.table.proofs.count_good.Statement.{statement}
 use Rattle.table.proofs.count_good.Tie as tie
 
-is-value-requires : tie.Need-is-value-requires
-is-value-requires c κs = search needs
-
 returns : tie.Need-returns
 returns c = simp (c .before .if1 .taken, c .is-value .ensures)
 
@@ -14,4 +11,4 @@ returns-2 : tie.Need-returns-2
 returns-2 c = simp (c .if1 .left)
 
 pub count-good-spec : {M : Type 1} → statement M
-count-good-spec = tie.close (tie.spec is-value-requires returns returns-2)
+count-good-spec = tie.close (tie.spec (λ c κs. search needs) returns returns-2)

@@ -20,9 +20,6 @@ abbrev μ-loop : tie.MeasureT-loop
 loop-holds : tie.Need-loop-holds Inv-loop μ-loop
 loop-holds c = (c .before .pre .1, refl)
 
-run-at-requires : tie.Need-run-at-requires Inv-loop μ-loop
-run-at-requires c κs = search needs
-
 run-good-requires : tie.Need-run-good-requires Inv-loop μ-loop
 run-good-requires c κs =
     let st = c .before .before .before .before in
@@ -35,18 +32,6 @@ returns c =
     let l = c .before .before .before .before .loop in
     let r = c .before .before .run-at in
     run-bad (streamOf (st .args .file .now)) (l .at) (l .left) (l .inv .1) (r .result) (r .ensures .1) (sym (c .before .run-good .ensures) ∙ not-true _ (c .if1 .taken))
-
-mul-at : tie.Need-mul-at Inv-loop μ-loop
-mul-at c = search needs
-
-add-at : tie.Need-add-at Inv-loop μ-loop
-add-at c = search needs
-
-sub-left : tie.Need-sub-left Inv-loop μ-loop
-sub-left c = search needs
-
-loop-less : tie.Need-loop-less Inv-loop μ-loop
-loop-less c = search needs
 
 loop-again : tie.Need-loop-again Inv-loop μ-loop
 loop-again c =
@@ -68,12 +53,12 @@ file-costs-good-spec =
     Inv-loop
     μ-loop
     loop-holds
-    run-at-requires
+    (λ c κs. search needs)
     run-good-requires
     returns
-    mul-at
-    add-at
-    sub-left
-    loop-less
+    (λ c. search needs)
+    (λ c. search needs)
+    (λ c. search needs)
+    (λ c. search needs)
     loop-again
     returns-2)

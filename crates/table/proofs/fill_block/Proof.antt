@@ -5,44 +5,8 @@ use borrow.Author.Needs.{needs}
 use Rattle.table.proofs.fill_block.Statement.{statement}
 use Rattle.table.proofs.fill_block.Tie as tie
 
-put-u16-requires : tie.Need-put-u16-requires
-put-u16-requires c κs = search needs
-
-cast-put-u16 : tie.Need-cast-put-u16
-cast-put-u16 c = search needs
-
-put-u16-requires-2 : tie.Need-put-u16-requires-2
-put-u16-requires-2 c κs = search needs
-
-put-requires : tie.Need-put-requires
-put-requires c κs = search needs
-
-add-used : tie.Need-add-used
-add-used c = search needs
-
-sub-put-zeros : tie.Need-sub-put-zeros
-sub-put-zeros c = search needs
-
-put-zeros-requires : tie.Need-put-zeros-requires
-put-zeros-requires c κs = search needs
-
-sub-sum : tie.Need-sub-sum
-sub-sum c = search needs
-
-part-sum-start : tie.Need-part-sum-start
-part-sum-start c = search needs
-
-part-sum-end : tie.Need-part-sum-end
-part-sum-end c = search needs
-
-sum-requires : tie.Need-sum-requires
-sum-requires c κs = search needs
-
 put-u16-requires-3 : tie.Need-put-u16-requires-3
 put-u16-requires-3 c κs = (search needs, sum-fits _ _ (c .before .sum .ensures))
-
-same-length : tie.Need-same-length
-same-length c = search needs
 
 returns : tie.Need-returns
 returns c =
@@ -53,17 +17,17 @@ pub fill-block-spec : {M : Type 1} → statement M
 fill-block-spec =
     tie.close
     (tie.spec
-    put-u16-requires
-    cast-put-u16
-    put-u16-requires-2
-    put-requires
-    add-used
-    sub-put-zeros
-    put-zeros-requires
-    sub-sum
-    part-sum-start
-    part-sum-end
-    sum-requires
+    (λ c κs. search needs)
+    (λ c. search needs)
+    (λ c κs. search needs)
+    (λ c κs. search needs)
+    (λ c. search needs)
+    (λ c. search needs)
+    (λ c κs. search needs)
+    (λ c. search needs)
+    (λ c. search needs)
+    (λ c. search needs)
+    (λ c κs. search needs)
     put-u16-requires-3
-    same-length
+    (λ c. search needs)
     returns)

@@ -26,12 +26,6 @@ loop-holds : tie.Need-loop-holds Inv-loop μ-loop
 unfolding sumList pairsIn
 loop-holds c = search needs
 
-add-view-byte : tie.Need-add-view-byte Inv-loop μ-loop
-add-view-byte c = search needs
-
-view-byte-requires : tie.Need-view-byte-requires Inv-loop μ-loop
-view-byte-requires c κs = search needs
-
 mul-pairs : tie.Need-mul-pairs Inv-loop μ-loop
 mul-pairs c =
     let l = c .before .before .loop in
@@ -47,15 +41,6 @@ add-pairs c =
     let d : c .view-byte .result ≤ 255 = omega arith in
     let p : l .earlier * c .view-byte .result ≤ 4080 * 255 = mul-le-mul b d in
     record { fits = omega arith }
-
-add-earlier : tie.Need-add-earlier Inv-loop μ-loop
-add-earlier c = search needs
-
-add-i : tie.Need-add-i Inv-loop μ-loop
-add-i c = search needs
-
-loop-less : tie.Need-loop-less Inv-loop μ-loop
-loop-less c = search needs
 
 loop-again : tie.Need-loop-again Inv-loop μ-loop
 loop-again c =
@@ -84,12 +69,12 @@ pairs-in-spec =
     Inv-loop
     μ-loop
     loop-holds
-    add-view-byte
-    view-byte-requires
+    (λ c. search needs)
+    (λ c κs. search needs)
     mul-pairs
     add-pairs
-    add-earlier
-    add-i
-    loop-less
+    (λ c. search needs)
+    (λ c. search needs)
+    (λ c. search needs)
     loop-again
     returns)

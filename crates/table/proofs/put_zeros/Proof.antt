@@ -19,18 +19,6 @@ abbrev μ-loop : tie.MeasureT-loop
 loop-holds : tie.Need-loop-holds Inv-loop μ-loop
 loop-holds c = let a = c .args in (omega arith, refl, paste-zero (a .out .now) (a .at) (replicate (a .count) 0))
 
-add-out : tie.Need-add-out Inv-loop μ-loop
-add-out c = search needs
-
-slice-write-out : tie.Need-slice-write-out Inv-loop μ-loop
-slice-write-out c = search needs
-
-add-i : tie.Need-add-i Inv-loop μ-loop
-add-i c = search needs
-
-loop-less : tie.Need-loop-less Inv-loop μ-loop
-loop-less c = search needs
-
 loop-again : tie.Need-loop-again Inv-loop μ-loop
 loop-again c =
     let a = c .before .before .args in
@@ -38,9 +26,6 @@ loop-again c =
     let n : length {A = ℕ} (replicate (a .count) 0) ≡ a .count = length-replicate {A = ℕ} (a .count) 0 in
     let z : _≡_ {A = ℕ} (getD (replicate (a .count) 0) (l .i) 0) 0 = getD-replicate (a .count) (l .i) 0 0 (omega arith) in
     (omega arith, simp length-set (l .inv .1), rw (l .inv .2) (ap (λ (x : ℕ). set (paste (a .out .now) (a .at) (replicate (a .count) 0) (l .i)) (a .at + l .i) x) (sym z) ∙ paste-more (a .out .now) (a .at) (replicate (a .count) 0) (l .i) (omega arith) (omega arith)))
-
-same-length : tie.Need-same-length Inv-loop μ-loop
-same-length c = search needs
 
 returns : tie.Need-returns Inv-loop μ-loop
 returns c =
@@ -55,10 +40,10 @@ put-zeros-spec =
     Inv-loop
     μ-loop
     loop-holds
-    add-out
-    slice-write-out
-    add-i
-    loop-less
+    (λ c. search needs)
+    (λ c. search needs)
+    (λ c. search needs)
+    (λ c. search needs)
     loop-again
-    same-length
+    (λ c. search needs)
     returns)

@@ -9,9 +9,6 @@ use Rattle.table.specs.FileLaws.{read-room, read-size, read-blocks, read
 use Rattle.table.proofs.read.Statement.{statement}
 use Rattle.table.proofs.read.Tie as tie
 
-read-refusal-requires : tie.Need-read-refusal-requires
-read-refusal-requires c κs = search needs
-
 returns : tie.Need-returns
 unfolding readOf readInto
 returns c =
@@ -36,9 +33,6 @@ copy-blocks-requires c κs =
     let h = read-room f (length o) ok in
     ((read-size f (length o) ok, read-blocks f (length o) ok), omega arith)
 
-same-length : tie.Need-same-length
-same-length c = search needs
-
 returns-2 : tie.Need-returns-2
 unfolding readOf readInto
 returns-2 c =
@@ -53,9 +47,9 @@ pub read-spec : {M : Type 1} → statement M
 read-spec =
     tie.close
     (tie.spec
-    read-refusal-requires
+    (λ c κs. search needs)
     returns
     stream-length-requires
     copy-blocks-requires
-    same-length
+    (λ c. search needs)
     returns-2)

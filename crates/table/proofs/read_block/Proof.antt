@@ -10,37 +10,10 @@ use borrow.Author.Needs.{needs}
 use Rattle.table.proofs.read_block.Statement.{statement}
 use Rattle.table.proofs.read_block.Tie as tie
 
-block-refusal-requires : tie.Need-block-refusal-requires
-block-refusal-requires c κs = search needs
-
-sub-result : tie.Need-sub-result
-sub-result c = search needs
-
-part-result-start : tie.Need-part-result-start
-part-result-start c = search needs
-
-part-result-end : tie.Need-part-result-end
-part-result-end c = search needs
-
 returns : tie.Need-returns
 returns c =
     let a = c .before .before .before .before .args in
     read-refused (a .number) (a .last) (a .block .now) (λ e. c .before .if1 .taken (c .before .before .block-refusal .ensures ∙ e))
-
-u16-at-requires : tie.Need-u16-at-requires
-u16-at-requires c κs = search needs
-
-cast-end : tie.Need-cast-end
-cast-end c = search needs
-
-add-end : tie.Need-add-end
-add-end c = search needs
-
-sub-result-2 : tie.Need-sub-result-2
-sub-result-2 c = search needs
-
-part-result-start-2 : tie.Need-part-result-start-2
-part-result-start-2 c = search needs
 
 part-result-end-2 : tie.Need-part-result-end-2
 part-result-end-2 c =
@@ -60,15 +33,15 @@ pub read-block-spec : {M : Type 1} → statement M
 read-block-spec =
     tie.close
     (tie.spec
-    block-refusal-requires
-    sub-result
-    part-result-start
-    part-result-end
+    (λ c κs. search needs)
+    (λ c. search needs)
+    (λ c. search needs)
+    (λ c. search needs)
     returns
-    u16-at-requires
-    cast-end
-    add-end
-    sub-result-2
-    part-result-start-2
+    (λ c κs. search needs)
+    (λ c. search needs)
+    (λ c. search needs)
+    (λ c. search needs)
+    (λ c. search needs)
     part-result-end-2
     returns-2)

@@ -10,9 +10,6 @@ use Rattle.table.proofs.read_refusal.Tie as tie
 returns : tie.Need-returns
 returns c = refused-room (c .before .before .args .file .now) (c .before .before .args .room) (c .if1 .taken)
 
-size-good-requires : tie.Need-size-good-requires
-size-good-requires c κs = search needs
-
 returns-2 : tie.Need-returns-2
 returns-2 c =
     let a = c .before .before .before .before .args in
@@ -50,7 +47,7 @@ read-refusal-spec =
     tie.close
     (tie.spec
     returns
-    size-good-requires
+    (λ c κs. search needs)
     returns-2
     blocks-refusal-requires
     returns-3

@@ -9,30 +9,6 @@ use Rattle.table.specs.FileLaws.{run-in-block, cost-in-two}
 use Rattle.table.proofs.run_good.Statement.{statement}
 use Rattle.table.proofs.run_good.Tie as tie
 
-add-if1 : tie.Need-add-if1
-add-if1 c = search needs
-
-place-in-file-requires : tie.Need-place-in-file-requires
-place-in-file-requires c κs = search needs
-
-byte-at-requires : tie.Need-byte-at-requires
-byte-at-requires c κs = search needs
-
-add-place-in-file : tie.Need-add-place-in-file
-add-place-in-file c = search needs
-
-place-in-file-requires-2 : tie.Need-place-in-file-requires-2
-place-in-file-requires-2 c κs = search needs
-
-byte-at-requires-2 : tie.Need-byte-at-requires-2
-byte-at-requires-2 c κs = search needs
-
-slice-aggregate-costs-good : tie.Need-slice-aggregate-costs-good
-slice-aggregate-costs-good c = search needs
-
-costs-good-requires : tie.Need-costs-good-requires
-costs-good-requires c κs = search needs
-
 returns : tie.Need-returns
 returns c =
     let st = c .before .before .before .before .before .before .before .before in
@@ -40,12 +16,6 @@ returns c =
     let a = c .before .before .before .before .byte-at .ensures ∙ ap (λ (x : ℕ). getD (st .args .file .now) x 0) (c .before .before .before .before .before .place-in-file .ensures) in
     let b = c .before .before .byte-at2 .ensures ∙ ap (λ (x : ℕ). getD (st .args .file .now) x 0) (c .before .before .before .place-in-file2 .ensures) in
     c .costs-good .ensures ∙ rw one (cost-in-two (st .args .file .now) (st .args .count) (st .pre .0) (st .args .at) (c .before .before .before .before .byte-at .result) (c .before .before .byte-at2 .result) (omega arith) a b)
-
-place-in-file-requires-3 : tie.Need-place-in-file-requires-3
-place-in-file-requires-3 c κs = search needs
-
-costs-good-requires-2 : tie.Need-costs-good-requires-2
-costs-good-requires-2 c κs = search needs
 
 returns-2 : tie.Need-returns-2
 returns-2 c =
@@ -56,15 +26,15 @@ pub run-good-spec : {M : Type 1} → statement M
 run-good-spec =
     tie.close
     (tie.spec
-    add-if1
-    place-in-file-requires
-    byte-at-requires
-    add-place-in-file
-    place-in-file-requires-2
-    byte-at-requires-2
-    slice-aggregate-costs-good
-    costs-good-requires
+    (λ c. search needs)
+    (λ c κs. search needs)
+    (λ c κs. search needs)
+    (λ c. search needs)
+    (λ c κs. search needs)
+    (λ c κs. search needs)
+    (λ c. search needs)
+    (λ c κs. search needs)
     returns
-    place-in-file-requires-3
-    costs-good-requires-2
+    (λ c κs. search needs)
+    (λ c κs. search needs)
     returns-2)

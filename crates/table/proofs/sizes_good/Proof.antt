@@ -19,26 +19,11 @@ Inv-loop bytes blocked count n i₀ i = (i ≤ n) × (allInSixteen (take n (drop
 abbrev μ-loop : tie.MeasureT-loop
 μ-loop bytes blocked count n i₀ i = n - i
 
-loop-holds : tie.Need-loop-holds Inv-loop μ-loop
-loop-holds c = search needs
-
-add-if1 : tie.Need-add-if1 Inv-loop μ-loop
-add-if1 c = search needs
-
 returns : tie.Need-returns Inv-loop μ-loop
 returns c =
     let st = c .before .before .before .before in
     let l = c .before .before .loop in
     sizes-end (streamIn (st .args .blocked) (st .args .bytes .now)) (st .args .n) (l .i) (l .inv .1) (omega (arith, st .pre .0 .counted))
-
-add-view-byte : tie.Need-add-view-byte Inv-loop μ-loop
-add-view-byte c = search needs
-
-view-byte-requires : tie.Need-view-byte-requires Inv-loop μ-loop
-view-byte-requires c κs = search needs
-
-is-value-requires : tie.Need-is-value-requires Inv-loop μ-loop
-is-value-requires c κs = search needs
 
 returns-2 : tie.Need-returns-2 Inv-loop μ-loop
 returns-2 c =
@@ -47,12 +32,6 @@ returns-2 c =
     let s = streamIn (st .args .blocked) (st .args .bytes .now) in
     let e : inSixteen (getD s (1 + l .i) 0) ≡ false = ap inSixteen (sym (c .before .before .view-byte .ensures .0)) ∙ sym (c .before .is-value .ensures) ∙ not-true _ (c .if2 .taken) in
     sizes-bad s (st .args .n) (l .i) (l .inv .1) (omega arith) (omega (arith, st .pre .0 .counted)) e
-
-add-i : tie.Need-add-i Inv-loop μ-loop
-add-i c = search needs
-
-loop-less : tie.Need-loop-less Inv-loop μ-loop
-loop-less c = search needs
 
 loop-again : tie.Need-loop-again Inv-loop μ-loop
 loop-again c =
@@ -74,14 +53,14 @@ sizes-good-spec =
     (tie.spec
     Inv-loop
     μ-loop
-    loop-holds
-    add-if1
+    (λ c. search needs)
+    (λ c. search needs)
     returns
-    add-view-byte
-    view-byte-requires
-    is-value-requires
+    (λ c. search needs)
+    (λ c κs. search needs)
+    (λ c κs. search needs)
     returns-2
-    add-i
-    loop-less
+    (λ c. search needs)
+    (λ c. search needs)
     loop-again
     returns-3)

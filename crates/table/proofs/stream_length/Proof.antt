@@ -10,24 +10,6 @@ use Rattle.table.proofs.stream_length.Tie as tie
 sub-before : tie.Need-sub-before
 sub-before c = let st = c .before in omega (arith, good-size (length (st .args .file .now)) (st .pre .0) .1)
 
-mul-result : tie.Need-mul-result
-mul-result c = search needs
-
-mul-u16-at : tie.Need-mul-u16-at
-mul-u16-at c = search needs
-
-add-u16-at : tie.Need-add-u16-at
-add-u16-at c = search needs
-
-u16-at-requires : tie.Need-u16-at-requires
-u16-at-requires c κs = search needs
-
-cast-result : tie.Need-cast-result
-cast-result c = search needs
-
-add-result : tie.Need-add-result
-add-result c = search needs
-
 returns : tie.Need-returns
 returns c =
     let st = c .before .before in
@@ -38,10 +20,10 @@ stream-length-spec =
     tie.close
     (tie.spec
     sub-before
-    mul-result
-    mul-u16-at
-    add-u16-at
-    u16-at-requires
-    cast-result
-    add-result
+    (λ c. search needs)
+    (λ c. search needs)
+    (λ c. search needs)
+    (λ c κs. search needs)
+    (λ c. search needs)
+    (λ c. search needs)
     returns)

@@ -13,12 +13,9 @@ file-costs-good-requires c κs =
 returns : tie.Need-returns
 returns c = c .file-costs-good .ensures ∙ rw (c .before .if1 .taken)
 
-costs-good-requires : tie.Need-costs-good-requires
-costs-good-requires c κs = search needs
-
 returns-2 : tie.Need-returns-2
 returns-2 c = c .costs-good .ensures ∙ rw (c .before .if1 .left)
 
 pub view-costs-good-spec : {M : Type 1} → statement M
 view-costs-good-spec =
-    tie.close (tie.spec file-costs-good-requires returns costs-good-requires returns-2)
+    tie.close (tie.spec file-costs-good-requires returns (λ c κs. search needs) returns-2)

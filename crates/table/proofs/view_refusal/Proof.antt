@@ -15,12 +15,6 @@ returns c =
     let st = c .before .before in
     refused-empty (streamIn (st .args .blocked) (st .args .bytes .now)) (st .pre .counted ∙ c .if1 .taken)
 
-view-byte-requires : tie.Need-view-byte-requires
-view-byte-requires c κs = search needs
-
-is-value-requires : tie.Need-is-value-requires
-is-value-requires c κs = search needs
-
 returns-2 : tie.Need-returns-2
 returns-2 c =
     let v = c .before .before in
@@ -45,9 +39,6 @@ returns-3 c =
     let u = sym (c .before .before .before .is-value .ensures) ∙ not-false _ (c .before .before .if2 .left) in
     refused-sizes s n e some u (sym (c .before .sizes-good .ensures) ∙ not-true _ (c .if3 .taken))
 
-add-if4 : tie.Need-add-if4
-add-if4 c = search needs
-
 returns-4 : tie.Need-returns-4
 returns-4 c =
     let v = c .before .before .before .before .before in
@@ -63,15 +54,6 @@ returns-4 c =
 pairs-in-requires : tie.Need-pairs-in-requires
 pairs-in-requires c κs = (c .before .before .before .before .before .before .before .before .pre, in-range _ (sym (c .before .before .before .before .is-value .ensures) ∙ not-false _ (c .before .before .before .if2 .left)) .1, omega arith)
 
-add-if5 : tie.Need-add-if5
-add-if5 c = search needs
-
-mul-if5 : tie.Need-mul-if5
-mul-if5 c = search needs
-
-add-if5-2 : tie.Need-add-if5-2
-add-if5-2 c = search needs
-
 returns-5 : tie.Need-returns-5
 returns-5 c =
     let v = c .before .before .before .before .before .before .before in
@@ -84,9 +66,6 @@ returns-5 c =
     let z = sym (c .before .before .before .before .sizes-good .ensures) ∙ not-false _ (c .before .before .before .if3 .left) in
     let p = c .before .pairs-in .ensures .0 in
     refused-length s n e some u z (λ l. c .if5 .taken (sym (st .pre .counted) ∙ l ∙ rw (← p)))
-
-add-view-costs-good : tie.Need-add-view-costs-good
-add-view-costs-good c = search needs
 
 view-costs-good-requires : tie.Need-view-costs-good-requires
 view-costs-good-requires c κs =
@@ -124,19 +103,19 @@ view-refusal-spec =
     tie.close
     (tie.spec
     returns
-    view-byte-requires
-    is-value-requires
+    (λ c κs. search needs)
+    (λ c κs. search needs)
     returns-2
     sizes-good-requires
     returns-3
-    add-if4
+    (λ c. search needs)
     returns-4
     pairs-in-requires
-    add-if5
-    mul-if5
-    add-if5-2
+    (λ c. search needs)
+    (λ c. search needs)
+    (λ c. search needs)
     returns-5
-    add-view-costs-good
+    (λ c. search needs)
     view-costs-good-requires
     returns-6
     returns-7)

@@ -8,9 +8,6 @@ use Rattle.table.specs.FileLaws.{write-most, write-room, written-length,
 use Rattle.table.proofs.write.Statement.{statement}
 use Rattle.table.proofs.write.Tie as tie
 
-write-refusal-requires : tie.Need-write-refusal-requires
-write-refusal-requires c κs = search needs
-
 returns : tie.Need-returns
 unfolding storeOf storeInto
 returns c =
@@ -30,12 +27,6 @@ write-blocks-requires c κs =
     let ok = sym (x .before .write-refusal .ensures) ∙ x .if1 .left in
     (write-most (a .stream .now) (length (a .file .now)) ok, c .before .blocks-for .ensures, rw (c .before .blocks-for .ensures) (write-room (a .stream .now) (length (a .file .now)) ok))
 
-mul-t5 : tie.Need-mul-t5
-mul-t5 c = search needs
-
-same-length : tie.Need-same-length
-same-length c = search needs
-
 returns-2 : tie.Need-returns-2
 unfolding storeOf storeInto
 returns-2 c =
@@ -51,10 +42,10 @@ pub write-spec : {M : Type 1} → statement M
 write-spec =
     tie.close
     (tie.spec
-    write-refusal-requires
+    (λ c κs. search needs)
     returns
     blocks-for-requires
     write-blocks-requires
-    mul-t5
-    same-length
+    (λ c. search needs)
+    (λ c. search needs)
     returns-2)

@@ -23,51 +23,6 @@ loop-holds : tie.Need-loop-holds Inv-loop μ-loop
 unfolding fileFrom
 loop-holds c = (omega arith, refl, refl)
 
-mul-from : tie.Need-mul-from Inv-loop μ-loop
-mul-from c = search needs
-
-add-smaller : tie.Need-add-smaller Inv-loop μ-loop
-add-smaller c = search needs
-
-smaller-requires : tie.Need-smaller-requires Inv-loop μ-loop
-smaller-requires c κs = search needs
-
-mul-start : tie.Need-mul-start Inv-loop μ-loop
-mul-start c = search needs
-
-add-end : tie.Need-add-end Inv-loop μ-loop
-add-end c = search needs
-
-sub-fill-block : tie.Need-sub-fill-block Inv-loop μ-loop
-sub-fill-block c = search needs
-
-part-fill-block-start : tie.Need-part-fill-block-start Inv-loop μ-loop
-part-fill-block-start c = search needs
-
-part-fill-block-end : tie.Need-part-fill-block-end Inv-loop μ-loop
-part-fill-block-end c = search needs
-
-cast-fill-block : tie.Need-cast-fill-block Inv-loop μ-loop
-cast-fill-block c = search needs
-
-sub-fill-block-2 : tie.Need-sub-fill-block-2 Inv-loop μ-loop
-sub-fill-block-2 c = search needs
-
-part-fill-block-start-2 : tie.Need-part-fill-block-start-2 Inv-loop μ-loop
-part-fill-block-start-2 c = search needs
-
-part-fill-block-end-2 : tie.Need-part-fill-block-end-2 Inv-loop μ-loop
-part-fill-block-end-2 c = search needs
-
-fill-block-requires : tie.Need-fill-block-requires Inv-loop μ-loop
-fill-block-requires c κs = search needs
-
-add-k : tie.Need-add-k Inv-loop μ-loop
-add-k c = search needs
-
-loop-less : tie.Need-loop-less Inv-loop μ-loop
-loop-less c = search needs
-
 loop-again : tie.Need-loop-again Inv-loop μ-loop
 loop-again c =
     let z = c .before .before .before .before .before .before .before in
@@ -79,9 +34,6 @@ loop-again c =
     let e : b ≡ blockOf (l .k) (take 506 (drop (506 * l .k) s)) = c .before .before .fill-block .ensures ∙ ap (λ (p : List ℕ). blockOf (l .k) p) (carried s (l .k) n (omega (arith, c .before .before .before .before .before .smaller .ensures))) in
     let g : 512 * l .k + 512 - 512 * l .k ≡ length b = omega (arith, ap length e ∙ block-long (l .k) (drop (506 * l .k) s)) in
     (omega arith, search needs, put-part (l .file) b (512 * l .k) (512 * l .k + 512 - 512 * l .k) g ∙ rw (l .inv .2, e) (file-more (l .k) s o))
-
-same-length : tie.Need-same-length Inv-loop μ-loop
-same-length c = search needs
 
 returns : tie.Need-returns Inv-loop μ-loop
 returns c =
@@ -96,21 +48,21 @@ write-blocks-spec =
     Inv-loop
     μ-loop
     loop-holds
-    mul-from
-    add-smaller
-    smaller-requires
-    mul-start
-    add-end
-    sub-fill-block
-    part-fill-block-start
-    part-fill-block-end
-    cast-fill-block
-    sub-fill-block-2
-    part-fill-block-start-2
-    part-fill-block-end-2
-    fill-block-requires
-    add-k
-    loop-less
+    (λ c. search needs)
+    (λ c. search needs)
+    (λ c κs. search needs)
+    (λ c. search needs)
+    (λ c. search needs)
+    (λ c. search needs)
+    (λ c. search needs)
+    (λ c. search needs)
+    (λ c. search needs)
+    (λ c. search needs)
+    (λ c. search needs)
+    (λ c. search needs)
+    (λ c κs. search needs)
+    (λ c. search needs)
+    (λ c. search needs)
     loop-again
-    same-length
+    (λ c. search needs)
     returns)

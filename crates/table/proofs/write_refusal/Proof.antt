@@ -8,18 +8,12 @@ use Rattle.table.specs.FileLaws.{refused-stream, refused-short, write-ac
 use Rattle.table.proofs.write_refusal.Statement.{statement}
 use Rattle.table.proofs.write_refusal.Tie as tie
 
-stream-refusal-requires : tie.Need-stream-refusal-requires
-stream-refusal-requires c κs = search needs
-
 returns : tie.Need-returns
 returns c = let a = c .before .before .before .args in refused-stream (a .stream .now) (a .room) (c .before .stream-refusal .result) (c .before .stream-refusal .ensures) (c .if1 .taken)
 
 blocks-for-requires : tie.Need-blocks-for-requires
 unfolding Accepted
 blocks-for-requires c κs = accepted-most (c .before .before .before .args .stream .now) (sym (c .before .stream-refusal .ensures) ∙ c .if1 .left)
-
-mul-if2 : tie.Need-mul-if2
-mul-if2 c = search needs
 
 returns-2 : tie.Need-returns-2
 returns-2 c =
@@ -34,4 +28,4 @@ returns-3 c =
 pub write-refusal-spec : {M : Type 1} → statement M
 write-refusal-spec =
     tie.close
-    (tie.spec stream-refusal-requires returns blocks-for-requires mul-if2 returns-2 returns-3)
+    (tie.spec (λ c κs. search needs) returns blocks-for-requires (λ c. search needs) returns-2 returns-3)
