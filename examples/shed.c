@@ -62,7 +62,7 @@ static void start(struct box *box, uint8_t own, const uint8_t *stream, size_t le
     box->costs_length = costs.length;
     riksamoe_outcome_t made =
         riksamoe_unit_make(own, box->n, box->sizes, box->costs, box->costs_length, out, sizeof out);
-    if (made.refusal != 0)
+    if (made.refusal != RIKSAMOE_ACCEPTED)
         fail("refused", made.refusal);
     box->unit = made.unit;
     records += made.records;
@@ -75,9 +75,9 @@ static void receive(struct box *box, const uint8_t *packet, size_t length)
     uint8_t out[RIKSAMOE_SENDING];
     riksamoe_report_t report = riksamoe_unit_step_in_place(&box->unit, box->own, box->n, box->sizes, box->costs,
                                                            box->costs_length, packet, length, out, sizeof out);
-    if (report.refusal == 12)
+    if (report.refusal == RIKSAMOE_STOPPED)
         return; /* a late packet to a box that has stopped */
-    if (report.refusal != 0)
+    if (report.refusal != RIKSAMOE_ACCEPTED)
         fail("refused", report.refusal);
     records += report.records;
     accepted++;
@@ -109,7 +109,7 @@ static size_t load(const char *path, uint8_t *stream)
     size_t length = fread(file, 1, sizeof file, in);
     fclose(in);
     riksamoe_length_t read = riksamoe_table_read(file, length, stream, RIKSAMOE_STREAM);
-    if (read.refusal != 0)
+    if (read.refusal != RIKSAMOE_ACCEPTED)
         fail("refused", read.refusal);
     return read.length;
 }

@@ -38,6 +38,7 @@
  *   riksamoe_message_parse           768
  *   riksamoe_message_write           768
  *   riksamoe_unit_make             2,560
+ *   riksamoe_unit_in_range         1,024
  *   riksamoe_unit_step             4,864
  *   riksamoe_unit_step_in_place    4,864
  *   riksamoe_network_make         13,056
@@ -217,6 +218,11 @@ uint8_t riksamoe_message_write(uint8_t n, riksamoe_sizes_t sizes, uint8_t kind, 
 /* Unit `own` of n, new: 5, 10, 6, 7, 13. Unit 1 sends; for n = 1 it has stopped. */
 riksamoe_outcome_t riksamoe_unit_make(uint8_t own, uint8_t n, riksamoe_sizes_t sizes, const uint8_t *costs, size_t costs_length,
                                       uint8_t *out, size_t room);
+
+/* Whether a state is in range, as one that was read back from flash may not be: 5 (n, sizes), 10 (own), 6, 7, 5 (state). A step checks the
+ * same before it reads its packet. */
+uint8_t riksamoe_unit_in_range(riksamoe_unit_t unit, uint8_t own, uint8_t n, riksamoe_sizes_t sizes, const uint8_t *costs,
+                               size_t costs_length);
 
 /* The unit after a packet: 13, 5 (n, sizes), 10 (own), 6, 7, 5 (state), 8, 10, 9, 12, 11. */
 riksamoe_outcome_t riksamoe_unit_step(riksamoe_unit_t unit, uint8_t own, uint8_t n, riksamoe_sizes_t sizes, const uint8_t *costs,

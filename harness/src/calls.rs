@@ -15,6 +15,7 @@ pub enum Call {
     Parse,
     Encode,
     Make,
+    InRange,
     Step,
     MakeNetwork,
     Deliver,
@@ -23,7 +24,7 @@ pub enum Call {
 }
 
 /// Each call, its name in the Rattle code, and the refusals it can give.
-pub const CALLS: [(Call, &str, &[u8]); 13] = [
+pub const CALLS: [(Call, &str, &[u8]); 14] = [
     (Call::Sum, "checksum::sum", &[]),
     (Call::Block, "table::read_block", &[1, 4, 2, 3]),
     (Call::Read, "table::read", &[13, 1, 4, 2, 3, 5, 6, 7]),
@@ -32,6 +33,7 @@ pub const CALLS: [(Call, &str, &[u8]); 13] = [
     (Call::Parse, "message::parse", &[5, 8, 10, 9]),
     (Call::Encode, "message::write", &[5, 10, 9, 13]),
     (Call::Make, "unit::make", &[5, 10, 6, 7, 13]),
+    (Call::InRange, "unit::in_range", &[5, 10, 6, 7]),
     (Call::Step, "unit::step", &[13, 5, 10, 6, 7, 8, 9, 12, 11]),
     (Call::MakeNetwork, "network::make", &[5, 6, 7, 13]),
     (Call::Deliver, "network::deliver", &[13, 5, 6, 7, 12, 15, 8, 10, 9, 11, 14]),
@@ -50,6 +52,7 @@ pub enum Input {
     Parse { n: u8, sizes: Places, packet: Vec<u8> },
     Encode { n: u8, sizes: Places, kind: u8, message: Message, out: Vec<u8> },
     Make { own: u8, n: u8, sizes: Places, costs: Vec<u8>, out: Vec<u8> },
+    InRange { unit: Unit, own: u8, n: u8, sizes: Places, costs: Vec<u8> },
     Step { unit: Unit, own: u8, n: u8, sizes: Places, costs: Vec<u8>, packet: Vec<u8>, out: Vec<u8> },
     MakeNetwork { stream: Vec<u8>, pool: Vec<u8> },
     Deliver { network: Box<Network>, stream: Vec<u8>, pool: Vec<u8>, cell: u64 },
@@ -117,6 +120,10 @@ pub fn reference(input: Input) -> Outcome {
         }
         Input::Make { own, n, sizes, costs, mut out } => {
             unit_outcome(&unit::make(own, n, &sizes, &costs, &mut out), out)
+        }
+        Input::InRange { unit, own, n, sizes, costs } => {
+            let refusal = unit::check_lent(&unit, own, n, &sizes, &costs).err().unwrap_or(0);
+            Outcome { refusal, ..Outcome::default() }
         }
         Input::Step { unit, own, n, sizes, costs, packet, mut out } => {
             unit_outcome(&unit::step(&unit, own, n, &sizes, &costs, &packet, &mut out), out)

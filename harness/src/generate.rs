@@ -627,6 +627,10 @@ pub fn input(random: &mut Random, call: Call) -> Input {
             damage_costs(random, &mut costs);
             Input::Make { own, n, sizes, costs, out: buffer(random, 1_024) }
         }
+        Call::InRange => {
+            let Input::Step { unit, own, n, sizes, costs, .. } = step(random) else { unreachable!("a step") };
+            Input::InRange { unit, own, n, sizes, costs }
+        }
         Call::Step => step(random),
         Call::MakeNetwork => {
             let stream = some_stream(random, 3);

@@ -128,6 +128,7 @@ extern "C" {
         out: *mut u8,
         room: usize,
     ) -> UnitOutcome;
+    fn riksamoe_unit_in_range(unit: Unit, own: u8, n: u8, sizes: Sizes, costs: *const u8, costs_length: usize) -> u8;
     fn riksamoe_unit_step(
         unit: Unit,
         own: u8,
@@ -202,6 +203,10 @@ pub fn message_write(n: u8, sizes: &Places, kind: u8, message: Message, out: &mu
 pub fn unit_make(own: u8, n: u8, sizes: &Places, costs: &[u8], out: &mut [u8]) -> UnitOutcome {
     let sizes = Sizes { places: *sizes };
     unsafe { riksamoe_unit_make(own, n, sizes, costs.as_ptr(), costs.len(), out.as_mut_ptr(), out.len()) }
+}
+
+pub fn unit_in_range(unit: Unit, own: u8, n: u8, sizes: &Places, costs: &[u8]) -> u8 {
+    unsafe { riksamoe_unit_in_range(unit, own, n, Sizes { places: *sizes }, costs.as_ptr(), costs.len()) }
 }
 
 pub fn unit_step(
@@ -378,6 +383,10 @@ pub fn linked(input: Input) -> Outcome {
         }
         Input::Make { own, n, sizes, costs, mut out } => {
             unit_outcome(&unit_make(own, n, &sizes, &costs, &mut out), out)
+        }
+        Input::InRange { unit, own, n, sizes, costs } => {
+            let refusal = unit_in_range((&unit).into(), own, n, &sizes, &costs);
+            Outcome { refusal, ..Outcome::default() }
         }
         Input::Step { unit, own, n, sizes, costs, packet, out } => {
             step_both_ways((&unit).into(), own, n, &sizes, &costs, &packet, out)

@@ -21,10 +21,11 @@ ghost use Rattle.table.specs.File.{readOf, readInto, storeOf, storeInto};
 ghost use Rattle.costs.specs.Gather.{sizesIn, gatherOf, gatherInto};
 ghost use Rattle.message.specs.Decode.{parseOf};
 ghost use Rattle.unit.specs.State.{noUnit};
-ghost use Rattle.unit.specs.Calls.{outcomeOf, bytesOf, makeOut};
+ghost use Rattle.unit.specs.Calls.{outcomeOf, bytesOf, makeOut, rangeRefusal};
 ghost use Rattle.network.specs.Calls.{makeOf};
 ghost use Rattle.network.specs.Settle.{settleOf};
 ghost use Rattle.search.specs.Search.{searchOf};
+ghost use Rattle.cabi.specs.Lent.{unitFrom};
 ghost use Rattle.cabi.specs.Calls.{codeOf, parsedOf, writeByCode, writtenByCode, unknownKind, ofFound, stepOf, steppedBytes, reportBy, deliveredTo, poolAfter};
 
 // A domain size for each of 16 units, zero past n.
@@ -191,6 +192,21 @@ pub extern "C" fn riksamoe_unit_make(
 {
     let places = sizes.places;
     unit::make(own, n, places, costs, out)
+}
+
+#[no_mangle]
+pub extern "C" fn riksamoe_unit_in_range(
+    u: LentUnit,
+    own: u8,
+    n: u8,
+    sizes: Sizes,
+    costs: &[u8],
+) -> u8
+    ensures { λ r. ⌜ r ≡ rangeRefusal (unitFrom u) own n (sizes .places) (now (costs .entry)) ⌝ }
+{
+    let places = sizes.places;
+    let v = lent::unit_from(u);
+    unit::in_range(v, own, n, places, costs)
 }
 
 #[no_mangle]

@@ -84,6 +84,12 @@ fn try_step(
     if out < OUT {
         return Err(13);
     }
+    let view = check_lent(unit, own, n, sizes, costs)?;
+    step_packet(&view, unit, packet)
+}
+
+/// What a step is lent beside the packet and the output, as the unit sees it. Refusals 5 (n, sizes), 10 (own number), 6, 7, 5 (state).
+pub fn check_lent<'a>(unit: &Unit, own: u8, n: u8, sizes: &Places, costs: &'a [u8]) -> Result<View<'a>, Refusal> {
     check_sizes(n, sizes)?;
     check_own(own, n)?;
     check_costs(own, n, sizes, costs)?;
@@ -91,7 +97,7 @@ fn try_step(
     if !in_range(&view, unit) {
         return Err(5);
     }
-    step_packet(&view, unit, packet)
+    Ok(view)
 }
 
 /// The part of a step that a delivery shares: refusals 8, 10, 9, 12, 11.

@@ -1,0 +1,17 @@
+-- `riksamoe_unit_in_range` meets its contract: `unit::in_range` of the lent state as it is read.
+-- Assumes nothing.
+use borrow.Author.Needs.{needs}
+use Rattle.cabi.proofs.riksamoe_unit_in_range.Statement.{statement}
+use Rattle.cabi.proofs.riksamoe_unit_in_range.Tie as tie
+
+unit-from-requires : tie.Need-unit-from-requires
+unit-from-requires c κs = search needs
+
+in-range-requires : tie.Need-in-range-requires
+in-range-requires c κs = search needs
+
+returns : tie.Need-returns
+returns c = cc
+
+pub riksamoe-unit-in-range-spec : {M : Type 1} → statement M
+riksamoe-unit-in-range-spec = tie.close (tie.spec unit-from-requires in-range-requires returns)
