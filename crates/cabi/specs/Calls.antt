@@ -1,4 +1,4 @@
--- The answers of the calls of document 01 in the structs that C is handed, and kinds by their numbers.
+-- The answers of the calls of document 01 in the structs that C is handed, kinds by their numbers, and step and delivery on what C lends.
 -- Assumes nothing.
 use Prim.Native.Nat.{ℕ, pred}
 use mathlib.Core.Path.{_≡_, _∙_}
@@ -45,6 +45,8 @@ parsedOf p = record { refusal = refusalOf (p .answer); kind = codeOf (p .answer)
 unfoldable pub unknownKind : ℕ → List ℕ → Message → ℕ
 unknownKind n sizes m = cond (not (shapeGood n sizes)) 5 (cond (not (addressGood n m)) 10 9)
 
+-- ---- writing by number
+
 -- writing a message whose kind is read from its number: the refusal, and what is left in the lent output
 abbrev pub writeAs : Read → ℕ → List ℕ → Message → ℕ → ℕ
 writeAs (Good k) n sizes m room = writeRefusal n sizes k m room
@@ -59,6 +61,24 @@ writeByCode n sizes code m room = writeAs (kindOf code) n sizes m room
 
 unfoldable pub writtenByCode : ℕ → List ℕ → ℕ → Message → List ℕ → List ℕ
 writtenByCode n sizes code m out = writtenAs (kindOf code) n sizes m out
+
+-- what writing by number comes to, where the number is a kind's and where it is none
+module _ (n : ℕ) (sizes : List ℕ) (code : ℕ) (m : Message) where
+  pub write-known : (k : Kind) (room : ℕ) → kindOf code ≡ Good k → writeByCode n sizes code m room ≡ writeRefusal n sizes k m room
+  unfolding writeByCode
+  write-known k room e = rw e
+
+  pub written-known : (k : Kind) (out : List ℕ) → kindOf code ≡ Good k → writtenByCode n sizes code m out ≡ packetInto n sizes k m out
+  unfolding writtenByCode
+  written-known k out e = rw e
+
+  pub write-unknown : (r room : ℕ) → kindOf code ≡ Refused r → writeByCode n sizes code m room ≡ unknownKind n sizes m
+  unfolding writeByCode
+  write-unknown r room e = rw e
+
+  pub written-unknown : (r : ℕ) (out : List ℕ) → kindOf code ≡ Refused r → writtenByCode n sizes code m out ≡ out
+  unfolding writtenByCode
+  written-unknown r out e = rw e
 
 -- ---- a step on a lent state: unit's, on the state that is read
 
@@ -98,23 +118,3 @@ pub delivery-is : (s : LentNetwork) (stream pool : List ℕ) (cell : ℕ) (t : N
     → t ≡ networkFrom s → (a ≡ deliverOf t stream pool cell .answer) × (l ≡ deliverOf t stream pool cell .pool) → x ≡ answerBack s a → (x ≡ deliveredTo s stream pool cell) × (l ≡ poolAfter s stream pool cell)
 unfolding deliveredTo poolAfter
 delivery-is s stream pool cell t a x l read e f = (f ∙ rw (e .0, read), e .1 ∙ rw read)
-
--- ---- writing by number
-
--- what writing by number comes to, where the number is a kind's and where it is none
-module _ (n : ℕ) (sizes : List ℕ) (code : ℕ) (m : Message) where
-  pub write-known : (k : Kind) (room : ℕ) → kindOf code ≡ Good k → writeByCode n sizes code m room ≡ writeRefusal n sizes k m room
-  unfolding writeByCode
-  write-known k room e = rw e
-
-  pub written-known : (k : Kind) (out : List ℕ) → kindOf code ≡ Good k → writtenByCode n sizes code m out ≡ packetInto n sizes k m out
-  unfolding writtenByCode
-  written-known k out e = rw e
-
-  pub write-unknown : (r room : ℕ) → kindOf code ≡ Refused r → writeByCode n sizes code m room ≡ unknownKind n sizes m
-  unfolding writeByCode
-  write-unknown r room e = rw e
-
-  pub written-unknown : (r : ℕ) (out : List ℕ) → kindOf code ≡ Refused r → writtenByCode n sizes code m out ≡ out
-  unfolding writtenByCode
-  written-unknown r out e = rw e
