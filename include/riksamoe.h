@@ -38,7 +38,7 @@
  *   riksamoe_message_parse           768
  *   riksamoe_message_write           768
  *   riksamoe_unit_make             2,560
- *   riksamoe_unit_in_range         1,024
+ *   riksamoe_unit_in_range         1,280
  *   riksamoe_unit_step             4,864
  *   riksamoe_unit_step_in_place    4,864
  *   riksamoe_network_make         13,056
