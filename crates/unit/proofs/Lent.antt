@@ -2,14 +2,16 @@
 -- By computing. Assumes nothing.
 use Prim.Native.Nat.{ℕ, zero, suc, pred, _-_, _≤_}
 use native.Mathlib.Omega.{arith}
-use mathlib.Core.Path.{_≡_, refl, ap}
+use mathlib.Core.Path.{_≡_, refl, sym, ap, _∙_}
+use mathlib.Core.Bool.{and-false}
 use mathlib.Core.List.{List}
 use lib.ListN.{getD}
 use lib.Seq.{getD-take}
 use Rattle.costs.specs.declared.Seat.{Seat}
 use Rattle.costs.specs.Instance.{lentView, viewFrom}
+use Rattle.costs.specs.Bounds.{costWith}
 use Rattle.unit.specs.declared.Unit.{Unit}
-use Rattle.unit.specs.State.{ownValue}
+use Rattle.unit.specs.State.{ownValue, ownCost}
 
 pub pred-sub : (k : ℕ) → pred k ≡ k - 1
 pred-sub zero = refl
@@ -34,3 +36,13 @@ module _ (seat : Seat) (costs : List ℕ) where
 
   pub value-lent : (u : Unit) → ownValue (viewFrom seat costs) u ≡ getD (u .values) (seat .own - 1) 0
   value-lent u = ap (λ (k : ℕ). getD (u .values) k 0) place-lent
+
+  -- without a value there is nothing to pay
+  none-paid : (l : List ℕ) (k : ℕ) → costWith (viewFrom seat costs) l k 0 ≡ 0
+  unfolding costWith lentView
+  none-paid l zero = refl
+  none-paid l (suc k) = rw (none-paid l k) (simp and-false)
+
+  pub no-value-no-cost : (u : Unit) → getD (u .values) (seat .own - 1) 0 ≡ 0 → 0 ≡ ownCost (viewFrom seat costs) u
+  no-value-no-cost u e =
+      sym (ap (λ (v : ℕ). costWith (viewFrom seat costs) (u .values) (viewFrom seat costs .place) v) (value-lent u ∙ e) ∙ none-paid (u .values) (viewFrom seat costs .place))

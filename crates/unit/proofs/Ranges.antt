@@ -10,12 +10,11 @@ use borrow.Author.Tests.{le-leb, lt-leb, eq-eqb, ne-eqb}
 use Rattle.base.specs.Limits.{estimateLimit, prefixLimit}
 use Rattle.costs.specs.declared.Seat.{Seat}
 use Rattle.costs.specs.Instance.{viewFrom}
-use Rattle.costs.specs.Bounds.{costWith}
 use Rattle.message.specs.Message.{every, isUnit, filledTo, noneOrBound}
 use Rattle.message.specs.Laws.{every-more, every-not}
 use Rattle.unit.specs.declared.Unit.{Unit}
-use Rattle.unit.specs.State.{compareOn, notLess, allAtMost, cpaZero, cpaOutInRange, paidInRange, inRangePaid, inRange}
-use Rattle.unit.proofs.Lent.{pred-sub, place-lent, n-lent, own-lent}
+use Rattle.unit.specs.State.{compareOn, notLess, allAtMost, cpaZero, cpaOutInRange, paidInRange, inRangePaid, inRange, ownCost}
+use Rattle.unit.proofs.Lent.{pred-sub, n-lent, own-lent}
 
 -- ---- 16 places at most m, the first i of them looked at
 
@@ -125,8 +124,7 @@ module _ (n : ℕ) (sizes : List ℕ) (own paid : ℕ) (u : Unit) where
   range-unit e = rw e
 
 -- what a unit pays by its view
-pub range-lent : (seat : Seat) (costs : List ℕ) (u : Unit) (v paid : ℕ) → 1 ≤ seat .own → v ≡ getD (u .values) (seat .own - 1) 0 → paid ≡ costWith (viewFrom seat costs) (u .values) (seat .own - 1) v
+pub range-lent : (seat : Seat) (costs : List ℕ) (u : Unit) (paid : ℕ) → 1 ≤ seat .own → paid ≡ ownCost (viewFrom seat costs) u
     → paidInRange (seat .n) (seat .sizes) (seat .own) paid u ≡ inRange (seat .sizes) (viewFrom seat costs) u
 unfolding inRange
-range-lent seat costs u v paid first own-value pays =
-    rw (pays, own-value, own-lent seat costs first, n-lent seat costs, place-lent seat costs)
+range-lent seat costs u paid first pays = rw (pays, own-lent seat costs first, n-lent seat costs)

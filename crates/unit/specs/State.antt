@@ -1,6 +1,6 @@
 -- A unit's state, its parts set one at a time, the order of stamps, and which lent states are in range.
 --     fresh, the setters `with..`          a new unit; one idea changed, the rest kept
---     ownValue, next, left, placeTried     the own value, and the order in which values are tried
+--     ownValue, ownCost, next .. placeTried     the own value, its costs, and the order in which values are tried
 --     orderOf, compareOn, sameOn           01: "Stamps compare from unit 1 on"
 --     cpaOutInRange .. inRange             01: "A lent state is in range when .."
 -- Places count from 0: place k of an array is unit k + 1's; numbers of units (`own`) count from 1. Assumes nothing.
@@ -61,6 +61,10 @@ withStopped z u = unit (u .threshold) (u .bound) (u .best) (u .estimates) (u .st
 
 abbrev pub ownValue : View → Unit → ℕ
 ownValue w u = getD (u .values) (w .place) 0
+
+-- 01: "the own value's costs": with the values of the units before
+abbrev pub ownCost : View → Unit → ℕ
+ownCost w u = costWith w (u .values) (w .place) (ownValue w u)
 
 -- 01: "the values after the current one, ascending": the next one, and how many there are
 abbrev pub next : ℕ → ℕ
@@ -133,4 +137,4 @@ inRangePaid n sizes own paid u = isUnit 16 own && paidInRange n sizes own paid u
 
 -- the same with a unit's view, which says what its own value costs
 unfoldable pub inRange : List ℕ → View → Unit → Bool
-inRange sizes w u = paidInRange (w .n) sizes (suc (w .place)) (costWith w (u .values) (w .place) (ownValue w u)) u
+inRange sizes w u = paidInRange (w .n) sizes (suc (w .place)) (ownCost w u) u

@@ -24,7 +24,7 @@ use Rattle.unit.specs.declared.Ordering.{Ordering}
 use Rattle.unit.specs.declared.Ordering.the-variants.{Less, Equal, Greater}
 use Rattle.unit.specs.declared.Sending.{Sending}
 use Rattle.unit.specs.declared.Plan.the-variants.{Nothing, Forward, Back, Reply}
-use Rattle.unit.specs.State.{zeros, withThreshold, withBest, withEstimates, withCpa, withCounter, withStopped, ownValue, next, left, compareOn, sameOn}
+use Rattle.unit.specs.State.{zeros, withThreshold, withBest, withEstimates, withCpa, withCounter, withStopped, ownValue, ownCost, next, left, compareOn, sameOn}
 
 -- 01: "At each record unit i writes a beginning: the values of units 1 to i"; beside it the stamp on these units
 pub record Written : Type 0 where
@@ -62,7 +62,7 @@ takeBound m u = takeLower (ltb (m .bound) (u .bound)) (m .bound) (m .best) u
 
 -- 01: "the cost without the own value"
 abbrev pub bareCost : View → Unit → ℕ
-bareCost w u = u .cost - costWith w (u .values) (w .place) (ownValue w u)
+bareCost w u = u .cost - ownCost w u
 
 -- 01: "Take the own value off", "paper's own stamp place 0"
 abbrev pub takeOff : View → Unit → Unit

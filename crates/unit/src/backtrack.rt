@@ -4,6 +4,7 @@ use crate::Decided;
 use crate::Plan;
 use crate::Sending;
 use crate::Unit;
+use crate::state::own_cost;
 use crate::state::with_stopped;
 use costs::Seat;
 use message::Message;
@@ -70,10 +71,7 @@ pub(crate) fn bare_cost(seat: Seat, costs: &[u8], u: Unit) -> u32
     requires { ⌜ Own (seat .own) ⌝ }
     ensures { λ r. ⌜ r ≡ bareCost (viewFrom seat (now (costs .entry))) u ⌝ }
 {
-    let place = seat.own - 1;
-    let values = u.values;
-    let value = values[place as usize];
-    let paid = costs::cost_with(seat, costs, values, place, value);
+    let paid = own_cost(seat, costs, u);
     if paid <= u.cost {
         return u.cost - paid;
     }

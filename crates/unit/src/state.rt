@@ -9,6 +9,7 @@ ghost use Prim.Native.Nat.{_≤_};
 ghost use Rattle.base.specs.Limits.{estimateLimit};
 ghost use Rattle.costs.specs.Instance.{viewFrom};
 ghost use Rattle.unit.specs.State.{
+  ownCost,
   withThreshold,
   withBest,
   withCpa,
@@ -30,11 +31,22 @@ pub(crate) fn lent_in_range(seat: Seat, costs: &[u8], u: Unit) -> bool
     requires { ⌜ Own (seat .own) ⌝ }
     ensures { λ r. ⌜ r ≡ inRange (seat .sizes) (viewFrom seat (now (costs .entry))) u ⌝ }
 {
+    let paid = own_cost(seat, costs, u);
+    paid_in_range(seat, paid, u)
+}
+
+// The own value's costs; without one there are none to add up.
+pub(crate) fn own_cost(seat: Seat, costs: &[u8], u: Unit) -> u32
+    requires { ⌜ Own (seat .own) ⌝ }
+    ensures { λ r. ⌜ r ≡ ownCost (viewFrom seat (now (costs .entry))) u ⌝ }
+{
     let place = seat.own - 1;
     let values = u.values;
     let value = values[place as usize];
-    let paid = costs::cost_with(seat, costs, values, place, value);
-    paid_in_range(seat, paid, u)
+    if value == 0 {
+        return 0;
+    }
+    costs::cost_with(seat, costs, values, place, value)
 }
 
 // Whether the state of unit `own` is in range, its own value's costs being `paid`; no state is for a number that is not 1 to 16.
