@@ -9,6 +9,7 @@ use mathlib.Core.List.{List, [], _∷_}
 use native.Mathlib.Omega.{arith}
 use native.Mathlib.Nat.{mul-le-mul, le-refl}
 use lib.ListN.{length}
+use Rattle.base.specs.Limits.{pairLimit, totalLimit}
 use Rattle.base.specs.Sums.{sumFrom, least}
 use Rattle.costs.specs.Instance.{Instance}
 use Rattle.costs.specs.Problem.{Problem, InDomains, Full, ClosedBy, Closed, Laws, closed-least}
@@ -23,7 +24,7 @@ pub record Sound (I : Instance) : Type 0 where
   pub n16 : I .n ≤ 16
   pub dom1 : (k : ℕ) → k < I .n → 1 ≤ I .dom k
   pub dom16 : (k : ℕ) → I .dom k ≤ 16
-  pub small : (i u j v : ℕ) → I .cost i u j v ≤ 60000
+  pub small : (i u j v : ℕ) → I .cost i u j v ≤ pairLimit
 
 -- ---- functions of a prefix
 
@@ -98,7 +99,7 @@ module _ (I : Instance) where
 -- ---- the limit of a total, 01: "A bound is at most 7,200,000"
 
 module _ (I : Instance) (s : Sound I) where
-  pub against-limit : (j v : ℕ) (b : List ℕ) → against I j v b ≤ 60000 * length b
+  pub against-limit : (j v : ℕ) (b : List ℕ) → against I j v b ≤ pairLimit * length b
   against-limit j v [] = omega arith
   against-limit j v (u ∷ b) = omega (arith, s .small (length b) u j v, against-limit j v b)
 
@@ -106,7 +107,7 @@ module _ (I : Instance) (s : Sound I) where
   cost-and-more [] = omega arith
   cost-and-more (v ∷ b) = omega (arith, cost-and-more b, against-limit (length b) v b)
 
-  pub full-limit : (b : List ℕ) → length b ≤ I .n → costOf I b ≤ 7200000
+  pub full-limit : (b : List ℕ) → length b ≤ I .n → costOf I b ≤ totalLimit
   full-limit b l = let k : length b ≤ 16 = omega (arith, s .n16) in omega (arith, cost-and-more b, mul-le-mul k (le-refl (length b)))
 
 -- ---- there is a full assignment: each unit's first value
@@ -130,5 +131,5 @@ module _ (I : Instance) (s : Sound I) where
   ones-full = (length-ones (I .n), ones-in-dom (I .n) (omega arith))
 
   -- so what bounds every full assignment is a number within the limit
-  pub closed-limit : (B : ℕ) → Closed (problemOf I) [] B → B ≤ 7200000
+  pub closed-limit : (B : ℕ) → Closed (problemOf I) [] B → B ≤ totalLimit
   closed-limit B c = omega (arith, closed-least (problemOf I) B c (ones (I .n)) ones-full, full-limit I s (ones (I .n)) (omega (arith, length-ones (I .n))))

@@ -12,6 +12,7 @@ use lib.Dec.{ltb, eqb}
 use lib.ListN.{length, getD, take, drop, length-append, length-drop, List·getD-append}
 use lib.Seq.{getD-drop, getD-take, length-take-le, getD-append-add, take-append-seam}
 use borrow.Author.Tests.{lt-ltb, le-ltb, ltb-true, ltb-false, eq-eqb, ne-eqb, le-leb}
+use Rattle.base.specs.Limits.{pairLimit}
 use Rattle.base.specs.Sums.{sumTo}
 use Rattle.table.specs.Stream.{unitsOf, sizesOf, needed, costAt, costsGood, Accepted}
 use Rattle.table.specs.StreamLaws.{accepted-units, accepted-cost}
@@ -207,29 +208,29 @@ gathered-view s ok own lo hi sizes e = same-sizes ∙ same-pairs
 
 -- ---- and they pass the checks of lent costs
 
-all-good : (costs : List ℕ) (k m : ℕ) → ((x : ℕ) → x < m → costNumber costs (k + x) ≤ 60000) → costsGood costs (2 * k) m ≡ true
+all-good : (costs : List ℕ) (k m : ℕ) → ((x : ℕ) → x < m → costNumber costs (k + x) ≤ pairLimit) → costsGood costs (2 * k) m ≡ true
 unfolding costsGood
 all-good costs k zero e = refl
 all-good costs k (suc m) e =
-    let a : costNumber costs k ≤ 60000 = subst (λ p. costNumber costs p ≤ 60000) (add-zero k) (e 0 (omega arith)) in
+    let a : costNumber costs k ≤ pairLimit = subst (λ p. costNumber costs p ≤ pairLimit) (add-zero k) (e 0 (omega arith)) in
     let n : 2 * k + 2 ≡ 2 * suc k = omega arith in
     let r : costsGood costs (2 * suc k) m ≡ true =
-    all-good costs (suc k) m (λ x h. let q : k + suc x ≡ suc k + x = omega arith in subst (λ p. costNumber costs p ≤ 60000) q (e (suc x) (omega arith))) in
-    rw (le-leb (costNumber costs k) 60000 a, n, r)
+    all-good costs (suc k) m (λ x h. let q : k + suc x ≡ suc k + x = omega arith in subst (λ p. costNumber costs p ≤ pairLimit) q (e (suc x) (omega arith))) in
+    rw (le-leb (costNumber costs k) pairLimit a, n, r)
 
 module _ (s : List ℕ) (ok : Accepted s) (k : ℕ) (in-n : k < unitsOf s) where
-  pair-small : (i j x : ℕ) → i < j → j < unitsOf s → x < domOf s i * domOf s j → costNumber (pairBytes s i j) x ≤ 60000
+  pair-small : (i j x : ℕ) → i < j → j < unitsOf s → x < domOf s i * domOf s j → costNumber (pairBytes s i j) x ≤ pairLimit
   pair-small i j x l h b =
       rw (pair-number s (accepted-fit s ok) i j x b) (accepted-cost s ok (pairStart (domOf s) (unitsOf s) i j + x) (omega (arith, pair-costs s (there s (accepted-fit s ok)) i j l h)))
 
-  with-small : (j x : ℕ) → j < unitsOf s → x < domOf s k * cond (eqb j k) 0 (domOf s j) → costNumber (withOther s k j) x ≤ 60000
+  with-small : (j x : ℕ) → j < unitsOf s → x < domOf s k * cond (eqb j k) 0 (domOf s j) → costNumber (withOther s k j) x ≤ pairLimit
   with-small j x h b =
       by-order j k
       (λ l. rw (with-before s k j l) (pair-small j k x l in-n (omega (arith, rw (other-size (domOf s) k j (λ e. omega arith)) at b, mul-comm (domOf s j) (domOf s k)))))
       (λ e. rw (e, with-own s k) (omega arith))
       (λ l. rw (with-after s k j l) (pair-small k j x l h (rw (other-size (domOf s) k j (λ e. omega arith)) at b)))
 
-  gathered-small : (m x : ℕ) → m ≤ unitsOf s → x < otherStart (domOf s) k m → costNumber (gatherTo s k m) x ≤ 60000
+  gathered-small : (m x : ℕ) → m ≤ unitsOf s → x < otherStart (domOf s) k m → costNumber (gatherTo s k m) x ≤ pairLimit
   unfolding gatherTo
   gathered-small zero x h b = absurd (omega arith)
   gathered-small (suc m) x h b = go (ltb x (otherStart (domOf s) k m)) refl (λ l. gathered-small m x (omega arith) l)
@@ -237,10 +238,10 @@ module _ (s : List ℕ) (ok : Accepted s) (k : ℕ) (in-n : k < unitsOf s) where
       len : length (gatherTo s k m) ≡ 2 * otherStart (domOf s) k m
       len = length-gather s (accepted-fit s ok) k in-n m (omega arith)
 
-      go : (t : Bool) → ltb x (otherStart (domOf s) k m) ≡ t → (x < otherStart (domOf s) k m → costNumber (gatherTo s k m) x ≤ 60000) → costNumber (gatherTo s k (suc m)) x ≤ 60000
+      go : (t : Bool) → ltb x (otherStart (domOf s) k m) ≡ t → (x < otherStart (domOf s) k m → costNumber (gatherTo s k m) x ≤ pairLimit) → costNumber (gatherTo s k (suc m)) x ≤ pairLimit
       go true e ih =
           let l = ltb-true x (otherStart (domOf s) k m) e in
-          subst (λ c. c ≤ 60000)
+          subst (λ c. c ≤ pairLimit)
           (same-number (gatherTo s k m) (gatherTo s k (suc m)) x x
           (sym (List·getD-append (gatherTo s k m) (withOther s k m) 0 (2 * x) (omega (arith, len))))
           (sym (List·getD-append (gatherTo s k m) (withOther s k m) 0 (2 * x + 1) (omega (arith, len)))))
@@ -250,7 +251,7 @@ module _ (s : List ℕ) (ok : Accepted s) (k : ℕ) (in-n : k < unitsOf s) where
           let q : otherStart (domOf s) k m + y ≡ x = omega (arith, ltb-false x (otherStart (domOf s) k m) e) in
           let small : y < domOf s k * cond (eqb m k) 0 (domOf s m) =
           omega (arith, mul-add (domOf s k) (sumTo (λ b. cond (eqb b k) 0 (domOf s b)) m) (cond (eqb m k) 0 (domOf s m))) in
-          subst (λ c. costNumber (gatherTo s k (suc m)) c ≤ 60000) q
+          subst (λ c. costNumber (gatherTo s k (suc m)) c ≤ pairLimit) q
           (rw (gather-number s (accepted-fit s ok) k in-n m (suc m) y (omega arith) h small) (with-small m y h small))
 
 pub gathered-good : (s : List ℕ) → Accepted s → (own : ℕ) → 1 ≤ own → own ≤ unitsOf s → (sizes : List ℕ) → take (unitsOf s) sizes ≡ sizesOf s

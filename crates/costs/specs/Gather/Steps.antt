@@ -2,18 +2,19 @@
 -- Assumes nothing.
 use Prim.Native.Nat.{ℕ, _+_, _*_, _≤_, _<_}
 use mathlib.Core.Path.{_≡_, refl, sym, ap, _∙_}
-use mathlib.Core.List.{List, [], _++_, append-assoc, append-nil}
+use mathlib.Core.List.{List, [], _++_, append-nil}
 use native.Mathlib.Numerals.{add-one}
 use native.Mathlib.Omega.{arith}
-use lib.ListN.{length, getD, take, drop, set, length-append, length-take, length-drop, drop-of-length-le, List·getD-eq-default}
-use lib.Seq.{take-all, getD-take, getD-drop, drop-drop, paste, paste-zero}
+use lib.ListN.{length, getD, take, drop, set, length-drop, drop-of-length-le}
+use lib.Seq.{take-all, getD-take, getD-drop, paste, paste-zero}
 use Rattle.base.specs.Sums.{sumFrom}
-use Rattle.base.specs.Put.{putAt, put-next, paste-more}
+use Rattle.base.specs.Put.{putAt, paste-more}
 use Rattle.table.specs.Stream.{unitsOf, needed}
 use Rattle.costs.specs.declared.Seat.{Seat}
 use Rattle.costs.specs.Lent.Parts.{domFrom}
 use Rattle.costs.specs.Instance.{pairStart, domOf}
 use Rattle.base.specs.Sums.Laws.{sumFrom-last}
+use Rattle.costs.specs.Lent.Steps.{dom-past-count}
 use Rattle.costs.specs.Laws.Stream.{pair-costs}
 use Rattle.costs.specs.Gather.{sizesIn, pairBytes, withOther, gatherTo}
 use Rattle.costs.specs.Gather.Sizes.{dom-same}
@@ -29,7 +30,7 @@ pub record SeatIn (s : List ℕ) (seat : Seat) : Type 0 where
 -- ---- sizes
 
 pub size-none : (s : List ℕ) (k : ℕ) → unitsOf s ≤ k → 0 ≡ domOf s k
-size-none s k h = sym (List·getD-eq-default (take (unitsOf s) (drop 1 s)) 0 (simp length-take (omega arith)))
+size-none s k h = sym (dom-past-count (unitsOf s) (drop 1 s) k h)
 
 pub size-some : (s : List ℕ) (k : ℕ) → k < unitsOf s → getD s (1 + k) 0 ≡ domOf s k
 size-some s k h = sym (getD-take (unitsOf s) (drop 1 s) k 0 h ∙ getD-drop 1 s k 0)
@@ -88,10 +89,6 @@ put-nothing d at = paste-zero d at []
 -- and the unit itself has no costs with itself
 pub put-own : (s d : List ℕ) (k j at : ℕ) → j ≡ k → (at ≡ at + length (withOther s k j)) × (d ≡ putAt d at (withOther s k j))
 put-own s d k j at e = rw (e, with-own s k) (omega arith, put-nothing d at)
-
--- what is put behind the front of a list joins that front
-pub put-behind : (g w d : List ℕ) (at : ℕ) → at ≡ length g → putAt (g ++ drop (length g) d) at w ≡ (g ++ w) ++ drop (length (g ++ w)) d
-put-behind g w d at e = put-next g (drop (length g) d) w at (sym e) ∙ rw (drop-drop (length w) (length g) d, length-append g w, append-assoc)
 
 -- one unit more
 pub gather-next : (s : List ℕ) (k j : ℕ) → gatherTo s k (j + 1) ≡ gatherTo s k j ++ withOther s k j

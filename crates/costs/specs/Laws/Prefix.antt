@@ -10,6 +10,7 @@ use lib.Dec.{eqb}
 use lib.ListN.{length, getD, set}
 use lib.Seq.{getD-set-same, getD-set-other}
 use borrow.Author.Tests.{lt-ltb, le-ltb, eqb-true, eqb-false}
+use Rattle.base.specs.Limits.{totalLimit}
 use Rattle.base.specs.Sums.{sumTo, least}
 use Rattle.costs.specs.Instance.{Instance, viewOf}
 use Rattle.costs.specs.Bounds.{costWith, h, estimate, Assignment, total}
@@ -125,5 +126,5 @@ module _ (I : Instance) where
 -- ---- the limit, of arrays
 
 module _ (I : Instance) (s : Sound I) where
-  pub total-limit : (l : List ℕ) → total I l ≤ 7200000
+  pub total-limit : (l : List ℕ) → total I l ≤ totalLimit
   total-limit l = rw (total-prefix I l) (full-limit I s (pre (I .n) l) (omega (arith, length-pre (I .n) l)))

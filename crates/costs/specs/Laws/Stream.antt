@@ -8,15 +8,17 @@ use mathlib.Core.List.{List, [], _∷_}
 use native.Mathlib.Omega.{arith}
 use native.Mathlib.Nat.{mul-le-mul, mul-add, le-refl, zero-add}
 use lib.Dec.{ltb}
-use lib.ListN.{length, getD, drop, length-drop, List·getD-eq-default}
+use lib.ListN.{length, getD, drop, length-drop}
 use lib.Seq.{getD-drop, getD-take, length-take-le}
 use borrow.Author.Tests.{ltb-true, ltb-false}
+use Rattle.base.specs.Limits.{pairLimit}
 use Rattle.base.specs.Sums.{sumFrom}
 use Rattle.table.specs.Stream.{unitsOf, sizesOf, sumList, pairsIn, needed, costAt, Accepted}
-use Rattle.table.specs.StreamLaws.{accepted-units, accepted-size, accepted-length, accepted-sizes-length, accepted-cost}
+use Rattle.table.specs.StreamLaws.{accepted-units, accepted-size, accepted-length, accepted-cost}
 use Rattle.base.specs.Shape.{isValue, value-range}
 use Rattle.costs.specs.Instance.{rowStart, pairStart, inPair, costNumber, tableCost, instanceOf, domOf, costsOf}
 use Rattle.base.specs.Sums.Laws.{sumTo-mono, sumTo-sumFrom, sumFrom-last, sumFrom-split}
+use Rattle.costs.specs.Lent.Steps.{dom-past-count}
 use Rattle.costs.specs.Laws.{Sound}
 
 -- ---- a cost's place
@@ -112,20 +114,17 @@ module _ (s : List ℕ) (ok : Accepted s) where
   pub dom-inside : (k : ℕ) → k < unitsOf s → (1 ≤ domOf s k) × (domOf s k ≤ 16)
   dom-inside k h = rw (getD-take (unitsOf s) (drop 1 s) k 0 h, getD-drop 1 s k 0) (accepted-size s ok k h)
 
-  dom-outside : (k : ℕ) → unitsOf s ≤ k → domOf s k ≡ 0
-  dom-outside k h = List·getD-eq-default (sizesOf s) 0 (omega (arith, accepted-sizes-length s ok))
-
   pub dom-most : (k : ℕ) → domOf s k ≤ 16
   dom-most k = go (ltb k (unitsOf s)) refl
     where
       go : (t : Bool) → ltb k (unitsOf s) ≡ t → domOf s k ≤ 16
       go true e = dom-inside k (ltb-true k (unitsOf s) e) .1
-      go false e = omega (arith, dom-outside k (ltb-false k (unitsOf s) e))
+      go false e = omega (arith, dom-past-count (unitsOf s) (drop 1 s) k (ltb-false k (unitsOf s) e))
 
-  table-cost-small : (i u j v : ℕ) → tableCost (unitsOf s) (domOf s) (costsOf s) i u j v ≤ 60000
+  table-cost-small : (i u j v : ℕ) → tableCost (unitsOf s) (domOf s) (costsOf s) i u j v ≤ pairLimit
   table-cost-small i u j v = go (ltb i j && ltb j (unitsOf s) && isValue (domOf s i) u && isValue (domOf s j) v) refl
     where
-      go : (t : Bool) → (ltb i j && ltb j (unitsOf s) && isValue (domOf s i) u && isValue (domOf s j) v) ≡ t → cond t (costNumber (costsOf s) (pairStart (domOf s) (unitsOf s) i j + inPair (domOf s j) u v)) 0 ≤ 60000
+      go : (t : Bool) → (ltb i j && ltb j (unitsOf s) && isValue (domOf s i) u && isValue (domOf s j) v) ≡ t → cond t (costNumber (costsOf s) (pairStart (domOf s) (unitsOf s) i j + inPair (domOf s j) u v)) 0 ≤ pairLimit
       go true e =
           let q = all-four (ltb i j) (ltb j (unitsOf s)) (isValue (domOf s i) u) (isValue (domOf s j) v) e in
           let hu = value-range (domOf s i) u (q .2) in

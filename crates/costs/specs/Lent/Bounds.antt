@@ -10,6 +10,7 @@ use native.Mathlib.Omega.{arith}
 use lib.Dec.{ltb, eqb}
 use lib.ListN.{length, getD}
 use borrow.Author.Tests.{ltb-true, ltb-false, eqb-true}
+use Rattle.base.specs.Limits.{pairLimit}
 use Rattle.base.specs.Bytes.{u16-past}
 use Rattle.base.specs.Sums.{least}
 use Rattle.base.specs.Shape.{isValue}
@@ -22,21 +23,21 @@ use Rattle.costs.specs.Lent.{lentCount, lentRefusal}
 
 -- ---- any view
 
-module _ (w : View) (small : (j u v : ℕ) → w .pair j u v ≤ 60000) where
-  pub cost-most : (values : List ℕ) (k v : ℕ) → costWith w values k v ≤ 60000 * k
+module _ (w : View) (small : (j u v : ℕ) → w .pair j u v ≤ pairLimit) where
+  pub cost-most : (values : List ℕ) (k v : ℕ) → costWith w values k v ≤ pairLimit * k
   unfolding costWith
-  cost-most values k v = sumTo-le (λ j. w .pair j (getD values j 0) v) 60000 k (λ j. small j (getD values j 0) v)
+  cost-most values k v = sumTo-le (λ j. w .pair j (getD values j 0) v) pairLimit k (λ j. small j (getD values j 0) v)
 
-  pub h-most : (v : ℕ) → h w v ≤ 60000 * (w .n - suc (w .place))
+  pub h-most : (v : ℕ) → h w v ≤ pairLimit * (w .n - suc (w .place))
   unfolding h
   h-most v =
-      sumFrom-le (λ j. least (λ u. w .pair j u v) (w .dom j)) 60000 (suc (w .place)) (w .n - suc (w .place))
-      (λ j. least-bound (λ u. w .pair j u v) (w .dom j) 60000 (λ u. small j u v))
+      sumFrom-le (λ j. least (λ u. w .pair j u v) (w .dom j)) pairLimit (suc (w .place)) (w .n - suc (w .place))
+      (λ j. least-bound (λ u. w .pair j u v) (w .dom j) pairLimit (λ u. small j u v))
 
-  pub estimate-most : (values : List ℕ) (k : ℕ) → estimate w values k ≤ 60000 * k + 60000 * (w .n - suc (w .place))
+  pub estimate-most : (values : List ℕ) (k : ℕ) → estimate w values k ≤ pairLimit * k + pairLimit * (w .n - suc (w .place))
   unfolding estimate
   estimate-most values k =
-      least-bound (λ v. costWith w values k v + h w v) (w .dom (w .place)) (60000 * k + 60000 * (w .n - suc (w .place)))
+      least-bound (λ v. costWith w values k v + h w v) (w .dom (w .place)) (pairLimit * k + pairLimit * (w .n - suc (w .place)))
       (λ v. omega (arith, cost-most values k v, h-most v))
 
 -- ---- costs that were not refused
@@ -60,18 +61,18 @@ module _ (own n : ℕ) (sizes costs : List ℕ) (ok : lentRefusal own n sizes co
   pub lent-length : length costs ≡ 2 * lentCount own n sizes
   lent-length = eqb-true (length costs) (2 * lentCount own n sizes) (tests .0)
 
-  pub lent-number-most : (i : ℕ) → costNumber costs i ≤ 60000
+  pub lent-number-most : (i : ℕ) → costNumber costs i ≤ pairLimit
   lent-number-most i = go (ltb i (lentCount own n sizes)) refl
     where
-      go : (t : Bool) → ltb i (lentCount own n sizes) ≡ t → costNumber costs i ≤ 60000
+      go : (t : Bool) → ltb i (lentCount own n sizes) ≡ t → costNumber costs i ≤ pairLimit
       go true e = rw zero-add at (costs-at costs 0 (lentCount own n sizes) (tests .1) i (ltb-true i (lentCount own n sizes) e))
       go false e =
           let l : length costs ≤ 2 * i = omega (arith, lent-length, ltb-false i (lentCount own n sizes) e) in
           let z : costNumber costs i ≡ 0 = u16-past costs (2 * i) l in
           omega (arith, z)
 
-  pub lent-pair-most : (j u v : ℕ) → lentView own n sizes costs .pair j u v ≤ 60000
+  pub lent-pair-most : (j u v : ℕ) → lentView own n sizes costs .pair j u v ≤ pairLimit
   unfolding lentView
   lent-pair-most j u v =
-      cond-most (not (eqb j (pred own)) && ltb j n && isValue (domIn n sizes j) u && isValue (domIn n sizes (pred own)) v) _ 60000
+      cond-most (not (eqb j (pred own)) && ltb j n && isValue (domIn n sizes j) u && isValue (domIn n sizes (pred own)) v) _ pairLimit
       (lent-number-most _)
