@@ -12,7 +12,7 @@ use lib.Dec.{ltb, leb, eqb, eqb·suc-zero}
 use lib.ListN.{length, getD, set, take, length-set}
 use lib.Seq.{getD-set-same, getD-take}
 use borrow.Author.Tests.{eqb-true}
-use Rattle.costs.specs.Instance.{Instance, View, viewOf}
+use Rattle.costs.specs.Instance.{Instance, viewOf}
 use Rattle.costs.specs.Bounds.{costWith, h}
 use Rattle.costs.specs.Laws.{against, costOf, lookaheadOf, problemOf}
 use Rattle.costs.specs.Laws.Prefix.{pre, pre-set, pre-set-next, cost-with-prefix, cost-next, lookahead-next}
@@ -100,9 +100,6 @@ module _ (I : Instance) where
   -- ---- a value written
 
   module _ (k : ℕ) (k16 : k < 16) where
-    w : View
-    w = viewOf I k
-
     next-cost : (v : ℕ) (s : UnitState) (u : Agent) → OwnOff I k v s u → s .cost + costWith (viewOf I k) (s .values) k (suc v) ≡ costOf I (suc (u .own) ∷ u .prefix)
     next-cost v s u b =
         ap (λ z. z + costWith (viewOf I k) (s .values) k (suc v)) (b .cost)
