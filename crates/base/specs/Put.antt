@@ -3,8 +3,11 @@
 use Prim.Native.Nat.{ℕ, suc, _+_, _≤_, _<_}
 use native.Mathlib.Numerals.{add-one}
 use native.Mathlib.Omega.{arith}
+use mathlib.Core.Bool.{cond}
 use mathlib.Core.List.{List, [], _∷_, _++_, append-assoc}
 use mathlib.Core.Path.{_≡_, sym, _∙_}
+use lib.Dec.{leb}
+use borrow.Author.Tests.{le-leb, lt-leb}
 use lib.ListN.{length, getD, set, take, drop, length-append}
 use lib.Seq.{take-at, take-suc, take-length, drop-cons, drop-drop, drop-append-add, length-take-le, paste, paste-suc, set-at, sets-eq}
 
@@ -12,8 +15,18 @@ use lib.Seq.{take-at, take-suc, take-length, drop-cons, drop-drop, drop-append-a
 abbrev pub putAt : List ℕ → ℕ → List ℕ → List ℕ
 putAt l at m = take at l ++ m ++ drop (at + length m) l
 
+-- the same where it fits; else l as it was
+abbrev pub putWithin : List ℕ → ℕ → List ℕ → List ℕ
+putWithin l at m = cond (leb (at + length m) (length l)) (putAt l at m) l
+
 -- ------------------------------------------------------------------------------------------------------------------
 -- Laws.
+
+pub put-fits : (l m : List ℕ) (at : ℕ) → at + length m ≤ length l → putWithin l at m ≡ putAt l at m
+put-fits l m at h = rw (le-leb (at + length m) (length l) h)
+
+pub put-lost : (l m : List ℕ) (at : ℕ) → length l < at + length m → putWithin l at m ≡ l
+put-lost l m at h = rw (lt-leb (at + length m) (length l) h)
 
 -- written behind p
 pub put-next : (p q m : List ℕ) (at : ℕ) → length p ≡ at → putAt (p ++ q) at m ≡ p ++ m ++ drop (length m) q
@@ -37,6 +50,12 @@ paste-more l at m i h b = rw add-one (paste-suc l at m i 0 h b)
 
 pub put-end : (l m : List ℕ) (at i : ℕ) → i ≡ length m → paste l at m i ≡ putAt l at m
 put-end l m at i e = rw (e, take-length m)
+
+-- the first k bytes of m
+pub put-first : (l m : List ℕ) (at i k : ℕ) → i ≡ k → k ≤ length m → at + k ≤ length l → putWithin l at (take i m) ≡ paste l at m k
+put-first l m at i k e h f =
+    let n : length (take i m) ≡ k = length-take-le i m (omega arith) ∙ e in
+    put-fits l (take i m) at (omega arith) ∙ rw (n, e)
 
 -- a turn of a loop that copies s to the front of t
 pub copy-more : (i : ℕ) (s t : List ℕ) → i < length s → i < length t → set (take i s ++ drop i t) i (getD s i 0) ≡ take (i + 1) s ++ drop (i + 1) t

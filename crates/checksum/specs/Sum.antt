@@ -41,7 +41,7 @@ unfolding sumOf
 sum-none s = refl
 
 -- one byte more
-pub sum-more : (s : List ℕ) (i t : ℕ) → i < length s → t % 65521 ≡ sumOf (take i s)
+pub sum-more : (s : List ℕ) (i t : ℕ) → i < length s → t ≡ sumOf (take i s)
     → (t + (i % 65521 + 1) * getD s i 0) % 65521 ≡ sumOf (take (i + 1) s)
 unfolding sumOf
 sum-more s i t h e =

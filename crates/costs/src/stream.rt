@@ -148,9 +148,6 @@ fn copy_part(source: &[u8], from: usize, count: usize, out: &mut [u8], at: usize
     requires { ⌜ (from + count ≤ length (now source)) × (at + count ≤ length (now out)) ⌝ }
     ensures { λ r. ⌜ now (out .exit) ≡ paste (now (out .entry)) at (drop from (now (source .entry))) count ⌝ }
 {
-    let mut i = 0;
-    while i < count {
-        out[at + i] = source[from + i];
-        i += 1;
-    }
+    let to = from + count;
+    base::put(out, at, &source[from..to]);
 }

@@ -81,14 +81,10 @@ fn with_number(r: [u8; 64], at: usize, x: u32) -> [u8; 64]
     q
 }
 
-// Bytes laid at `at` of the lent ones.
+// Bytes laid at `at` of the lent ones, where they fit.
 fn lay(bytes: &[u8], out: &mut [u8], at: usize)
     requires { ⌜ at + length (now bytes) ≤ length (now out) ⌝ }
     ensures { λ r. ⌜ now (out .exit) ≡ putAt (now (out .entry)) at (now (bytes .entry)) ⌝ }
 {
-    let mut i = 0;
-    while i < bytes.len() {
-        out[at + i] = bytes[i];
-        i += 1;
-    }
+    base::put(out, at, bytes);
 }

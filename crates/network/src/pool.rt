@@ -24,9 +24,5 @@ pub(crate) fn copy_in(pool: &mut [u8], at: usize, source: &[u8], n: usize)
     requires { ⌜ (at + n ≤ length (now pool)) × (n ≤ length (now source)) ⌝ }
     ensures { λ r. ⌜ now (pool .exit) ≡ paste (now (pool .entry)) at (now (source .entry)) n ⌝ }
 {
-    let mut j = 0;
-    while j < n {
-        pool[at + j] = source[j];
-        j += 1;
-    }
+    base::put(pool, at, &source[0..n]);
 }

@@ -1,67 +1,20 @@
--- `lay` meets its contract. The loop's invariant: the first i bytes are laid; the measure is how many are left.
--- Assumes nothing.
-use Prim.Native.Nat.{_-_, _≤_}
-use mathlib.Core.Path.{_≡_, refl, _∙_}
-use native.Mathlib.Omega.{arith}
-use lib.ListN.{length, length-set}
-use lib.Seq.{paste, paste-zero}
+-- `lay` meets its contract: what fits is put. Assumes nothing.
+use mathlib.Core.Path.{_≡_, _∙_}
 use borrow.Author.Needs.{needs}
-use Rattle.base.specs.Put.{paste-more, put-end}
+use Rattle.base.specs.Put.{put-fits}
 use Rattle.message.proofs.encode.lay.Statement.{statement}
 use Rattle.message.proofs.encode.lay.Tie as tie
 
-abbrev Inv-loop : tie.InvT-loop
-Inv-loop bytes out₀ at i₀ out i = (i ≤ length bytes) × (length out ≡ length out₀) × (out ≡ paste out₀ at bytes i)
+put-requires : tie.Need-put-requires
+put-requires c κs = search needs
 
-abbrev μ-loop : tie.MeasureT-loop
-μ-loop bytes out₀ at i₀ out i = length bytes - i
-
-loop-holds : tie.Need-loop-holds Inv-loop μ-loop
-loop-holds c = let a = c .args in (search needs, refl, paste-zero (a .out .now) (a .at) (a .bytes .now))
-
-shared-slice-read-out : tie.Need-shared-slice-read-out Inv-loop μ-loop
-shared-slice-read-out c = search needs
-
-add-out : tie.Need-add-out Inv-loop μ-loop
-add-out c = search needs
-
-slice-write-out : tie.Need-slice-write-out Inv-loop μ-loop
-slice-write-out c = search needs
-
-add-i : tie.Need-add-i Inv-loop μ-loop
-add-i c = search needs
-
-loop-less : tie.Need-loop-less Inv-loop μ-loop
-loop-less c = search needs
-
-loop-again : tie.Need-loop-again Inv-loop μ-loop
-loop-again c =
-    let a = c .before .before .before .args in
-    let l = c .before .before .loop in
-    (omega arith, simp length-set (omega arith), rw (l .inv .2) (paste-more (a .out .now) (a .at) (a .bytes .now) (l .i) (omega arith) (omega arith)))
-
-same-length : tie.Need-same-length Inv-loop μ-loop
+same-length : tie.Need-same-length
 same-length c = search needs
 
-returns : tie.Need-returns Inv-loop μ-loop
+returns : tie.Need-returns
 returns c =
-    let a = c .before .before .args in
-    let l = c .before .loop in
-    let e : l .i ≡ length (a .bytes .now) = omega arith in
-    l .inv .2 ∙ put-end (a .out .now) (a .bytes .now) (a .at) (l .i) e
+    let st = c .before .before .before .before .before .before in
+    c .before .before .put .ensures ∙ put-fits (st .args .out .now) (st .args .bytes .now) (st .args .at) (st .pre)
 
 pub lay-spec : {M : Type 1} → statement M
-lay-spec =
-    tie.close
-    (tie.spec
-    Inv-loop
-    μ-loop
-    loop-holds
-    shared-slice-read-out
-    add-out
-    slice-write-out
-    add-i
-    loop-less
-    loop-again
-    same-length
-    returns)
+lay-spec = tie.close (tie.spec put-requires same-length returns)
