@@ -5,7 +5,7 @@ use mathlib.Core.Bool.{cond}
 use mathlib.Core.List.{List, [], _∷_, _++_}
 use lib.Dec.{leb}
 use lib.ListN.{length}
-pub use Rattle.base.specs.Put.{putAt}
+use Rattle.base.specs.Put.{putAt}
 use Rattle.base.specs.Limits.{messageSize}
 use Rattle.base.specs.Bytes.{le16, le32}
 use Rattle.checksum.specs.Sum.{sumOf}

@@ -1,5 +1,5 @@
 -- Laws of a message's fields: what a filled stamp or assignment holds place by place, and the parts of checks 9 and 10.
---     every-at, every-by, every-not     `every`, index by index
+--     every-more, every-at, every-by, every-not     `every`, index by index
 --     filled-at, filled-past, filled-by     `filledTo`, place by place
 --     bound-by, bound-parts, not-none-is, no-bound-by, blank-filled     a bound with its best assignment
 --     address-by, addressed; formed-by, formed     checks 10 and 9 from their parts, and their parts
@@ -15,11 +15,11 @@ use native.Mathlib.Numerals.{add-one}
 use borrow.Author.Tests.{leb-true, le-leb, ltb-true, ltb-false, lt-ltb, le-ltb, eqb-true, eq-eqb, ne-eqb}
 use lib.Dec.{ltb, leb, eqb}
 use lib.ListN.{getD, replicate}
-use Rattle.base.specs.Limits.{places}
+use Rattle.base.specs.Limits.{places, totalLimit, NONE}
 use Rattle.base.specs.Shape.{and-left, and-right, isValue, value-range, range-value}
 use Rattle.message.specs.declared.Kind.{Kind}
 use Rattle.message.specs.declared.Message.{Message}
-use Rattle.message.specs.Message.{NONE, totalLimit, every, placeGood, placeAt, filledTo, boundGood, noneOrBound, noBound, carriedOf, boundFits, directionGood, isUnit, addressGood, wellFormed}
+use Rattle.message.specs.Message.{every, placeGood, placeAt, filledTo, boundGood, noneOrBound, noBound, carriedOf, boundFits, directionGood, isUnit, addressGood, wellFormed}
 
 -- ------------------------------------------------------------------------------------------------------------------
 -- `every`, index by index.
@@ -89,7 +89,7 @@ unfolding noBound
 no-bound-by sizes bound best h e = rw (eq-eqb bound 0 h) e
 
 -- an empty assignment fills nothing
-pub blank-filled : (sizes : List ℕ) → filledTo 0 sizes (replicate 16 0) ≡ true
+pub blank-filled : (sizes : List ℕ) → filledTo 0 sizes (replicate places 0) ≡ true
 unfolding filledTo
 blank-filled sizes = refl
 

@@ -6,14 +6,13 @@
 --     carriedOf, boundFits, directionGood     what each kind carries, from whom to whom
 --     addressGood, wellFormed           01's checks 10 and 9 on the fields
 -- Assumes nothing.
-use Prim.Native.Nat.{ℕ, zero, suc, _+_, _-_, _<_}
+use Prim.Native.Nat.{ℕ, zero, suc, _+_, _-_, _^_, _<_}
 use mathlib.Core.Path.{_≡_}
 use mathlib.Core.Bool.{Bool, true, false, cond, not, _&&_, _||_}
 use mathlib.Core.List.{List}
 use lib.Dec.{ltb, leb, eqb}
 use lib.ListN.{length, getD, replicate}
-pub use Rattle.base.specs.Limits.{totalLimit, prefixLimit, NONE}
-use Rattle.base.specs.Limits.{places, estimateLimit}
+use Rattle.base.specs.Limits.{places, totalLimit, estimateLimit, prefixLimit, NONE}
 use Rattle.base.specs.Shape.{isValue}
 use Rattle.message.specs.declared.Kind.{Kind}
 use Rattle.message.specs.declared.Kind.the-variants.{Cpa, Request, Estimate, Solution, Stop}
@@ -53,8 +52,8 @@ pub record Sized (m : Message) : Type 0 where
   pub stamp : length (m .stamp) ≡ places
   pub values : length (m .values) ≡ places
   pub best : length (m .best) ≡ places
-  pub cost : m .cost < 4294967296
-  pub bound : m .bound < 4294967296
+  pub cost : m .cost < 2 ^ 32
+  pub bound : m .bound < 2 ^ 32
 
 -- whether p holds of 0, 1, .., m - 1
 abbrev pub every : (ℕ → Bool) → ℕ → Bool

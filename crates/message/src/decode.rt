@@ -9,7 +9,7 @@ use crate::well_formed;
 ghost use mathlib.Core.Path.{_≡_};
 ghost use Prim.Native.Nat.{_+_, _≤_};
 ghost use lib.ListN.{length, take, drop, getD};
-ghost use Rattle.base.specs.Limits.{messageSize};
+ghost use Rattle.base.specs.Limits.{places, messageSize};
 ghost use Rattle.message.specs.Message.{kindOf};
 ghost use Rattle.message.specs.Decode.{messageIn, checkGood, restZero, refused, parseKind};
 
@@ -89,8 +89,8 @@ pub(crate) fn message_in(bytes: &[u8]) -> Message
 
 // 16 bytes from `at` on.
 fn bytes16(bytes: &[u8], at: usize) -> [u8; 16]
-    requires { ⌜ at + 16 ≤ length (now bytes) ⌝ }
-    ensures { λ r. ⌜ r ≡ take 16 (drop at (now (bytes .entry))) ⌝ }
+    requires { ⌜ at + places ≤ length (now bytes) ⌝ }
+    ensures { λ r. ⌜ r ≡ take places (drop at (now (bytes .entry))) ⌝ }
 {
     let mut r = [0u8; 16];
     let mut i = 0;

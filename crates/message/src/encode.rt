@@ -8,6 +8,7 @@ ghost use Prim.Native.Nat.{_+_, _≤_};
 ghost use mathlib.Core.List.{_++_, _∷_, []};
 ghost use lib.ListN.{length};
 ghost use Rattle.base.specs.Bytes.{le32};
+ghost use Rattle.base.specs.Limits.{places, messageSize};
 ghost use Rattle.base.specs.Put.{putAt};
 ghost use Rattle.message.specs.Encode.{body, encode, putRefusal, putInto};
 
@@ -56,18 +57,18 @@ fn body(kind: Kind, m: Message) -> [u8; 64]
 }
 
 // 16 places laid at `at`.
-fn with_places(r: [u8; 64], at: usize, places: [u8; 16]) -> [u8; 64]
-    requires { ⌜ at + 16 ≤ 64 ⌝ }
-    ensures { λ q. ⌜ q ≡ putAt r at places ⌝ }
+fn with_places(r: [u8; 64], at: usize, field: [u8; 16]) -> [u8; 64]
+    requires { ⌜ at + places ≤ messageSize ⌝ }
+    ensures { λ q. ⌜ q ≡ putAt r at field ⌝ }
 {
     let mut q = r;
-    lay(&places, &mut q, at);
+    lay(&field, &mut q, at);
     q
 }
 
 // A number laid at `at`, as four bytes.
 fn with_number(r: [u8; 64], at: usize, x: u32) -> [u8; 64]
-    requires { ⌜ at + 4 ≤ 64 ⌝ }
+    requires { ⌜ at + 4 ≤ messageSize ⌝ }
     ensures { λ q. ⌜ q ≡ putAt r at (le32 x) ⌝ }
 {
     let bytes = [

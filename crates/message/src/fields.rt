@@ -4,7 +4,8 @@ use crate::Carried;
 use crate::Kind;
 use crate::Message;
 ghost use mathlib.Core.Path.{_≡_};
-ghost use Rattle.message.specs.Message.{prefixLimit, placeGood, filledTo, boundGood, noneOrBound, noBound, cpaCount, prefixOf, carriedOf, boundFits, beside, fromTo, directionGood, isUnit, addressGood, wellFormed};
+ghost use Rattle.base.specs.Limits.{prefixLimit};
+ghost use Rattle.message.specs.Message.{placeGood, filledTo, boundGood, noneOrBound, noBound, cpaCount, prefixOf, carriedOf, boundFits, beside, fromTo, directionGood, isUnit, addressGood, wellFormed};
 
 // Check 10: sender and receiver are units.
 pub fn address_good(n: u8, m: Message) -> bool
