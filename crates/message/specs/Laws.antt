@@ -1,46 +1,22 @@
 -- Laws of a message's fields: what a filled stamp or assignment holds place by place, and the parts of checks 9 and 10.
---     every-more, every-at, every-by, every-not     `every`, index by index
 --     filled-at, filled-past, filled-by     `filledTo`, place by place
 --     bound-by, bound-parts, not-none-is, no-bound-by, blank-filled     a bound with its best assignment
 --     address-by, addressed; formed-by, formed     checks 10 and 9 from their parts, and their parts
 -- Assumes nothing.
-use Prim.Native.Nat.{ℕ, zero, suc, _+_, _≤_, _<_}
-use mathlib.Core.Logic.{⊎-elim}
-use mathlib.Core.Path.{_≡_, refl, sym, ap, _∙_}
-use mathlib.Core.Bool.{Bool, true, false, _&&_, false≢true}
+use Prim.Native.Nat.{ℕ, _≤_, _<_}
+use mathlib.Core.Path.{_≡_, refl}
+use mathlib.Core.Bool.{Bool, true, false, _&&_}
 use mathlib.Core.List.{List}
 use native.Mathlib.Omega.{arith}
-use native.Mathlib.Nat.{not-suc-le-zero, eq-or-lt-of-le, le-of-suc-le-suc}
-use native.Mathlib.Numerals.{add-one}
 use borrow.Author.Tests.{leb-true, le-leb, ltb-true, ltb-false, lt-ltb, le-ltb, eqb-true, eq-eqb, ne-eqb}
 use lib.Dec.{ltb, leb, eqb}
 use lib.ListN.{getD, replicate}
+use Rattle.base.specs.Every.{every-at, every-by}
 use Rattle.base.specs.Limits.{places, totalLimit, NONE}
 use Rattle.base.specs.Shape.{and-left, and-right, isValue, value-range, range-value}
 use Rattle.message.specs.declared.Kind.{Kind}
 use Rattle.message.specs.declared.Message.{Message}
-use Rattle.message.specs.Message.{every, placeGood, placeAt, filledTo, boundGood, noneOrBound, noBound, carriedOf, boundFits, directionGood, isUnit, addressGood, wellFormed}
-
--- ------------------------------------------------------------------------------------------------------------------
--- `every`, index by index.
-
-pub every-more : (p : ℕ → Bool) (i : ℕ) → every p i ≡ true → p i ≡ true → every p (i + 1) ≡ true
-every-more p i e h = rw (add-one, e, h)
-
-pub every-at : (p : ℕ → Bool) (m : ℕ) → every p m ≡ true → (i : ℕ) → i < m → p i ≡ true
-every-at p zero e i h = absurd (not-suc-le-zero h)
-every-at p (suc m) e i h = ⊎-elim (λ q. ap p q ∙ and-right (every p m) _ e) (λ l. every-at p m (and-left _ _ e) i l) (eq-or-lt-of-le (le-of-suc-le-suc h))
-
-pub every-by : (p : ℕ → Bool) (m : ℕ) → ((i : ℕ) → i < m → p i ≡ true) → every p m ≡ true
-every-by p zero f = refl
-every-by p (suc m) f = rw (every-by p m (λ i h. f i (omega arith)), f m (omega arith))
-
-pub every-not : (p : ℕ → Bool) (m i : ℕ) → i < m → p i ≡ false → every p m ≡ false
-every-not p m i h e = go (every p m) refl
-  where
-    go : (b : Bool) → every p m ≡ b → every p m ≡ false
-    go true q = absurd (false≢true (sym e ∙ every-at p m q i h))
-    go false q = q
+use Rattle.message.specs.Message.{placeGood, placeAt, filledTo, boundGood, noneOrBound, noBound, carriedOf, boundFits, directionGood, isUnit, addressGood, wellFormed}
 
 -- ------------------------------------------------------------------------------------------------------------------
 -- `filledTo`, place by place.

@@ -6,7 +6,7 @@
 --     carriedOf, boundFits, directionGood     what each kind carries, from whom to whom
 --     addressGood, wellFormed           01's checks 10 and 9 on the fields
 -- Assumes nothing.
-use Prim.Native.Nat.{ℕ, zero, suc, _+_, _-_, _^_, _<_}
+use Prim.Native.Nat.{ℕ, _+_, _-_, _^_, _<_}
 use mathlib.Core.Path.{_≡_}
 use mathlib.Core.Bool.{Bool, true, false, cond, not, _&&_, _||_}
 use mathlib.Core.List.{List}
@@ -14,6 +14,7 @@ use lib.Dec.{ltb, leb, eqb}
 use lib.ListN.{length, getD, replicate}
 use Rattle.base.specs.Limits.{places, totalLimit, estimateLimit, prefixLimit, NONE}
 use Rattle.base.specs.Shape.{isValue}
+use Rattle.base.specs.Every.{every}
 use Rattle.message.specs.declared.Kind.{Kind}
 use Rattle.message.specs.declared.Kind.the-variants.{Cpa, Request, Estimate, Solution, Stop}
 use Rattle.message.specs.declared.Read.{Read}
@@ -54,11 +55,6 @@ pub record Sized (m : Message) : Type 0 where
   pub best : length (m .best) ≡ places
   pub cost : m .cost < 2 ^ 32
   pub bound : m .bound < 2 ^ 32
-
--- whether p holds of 0, 1, .., m - 1
-abbrev pub every : (ℕ → Bool) → ℕ → Bool
-every p zero = true
-every p (suc m) = every p m && p m
 
 -- 01: "Filled stamp and value bytes are 1 to d(k), others 0"
 abbrev pub placeGood : Bool → ℕ → ℕ → Bool
