@@ -11,7 +11,8 @@ use Rattle.base.specs.Refusal.{orElse}
 use Rattle.table.specs.Stream.{unitsOf, streamRefusal}
 use Rattle.costs.specs.Instance.{viewOf, instanceOf}
 use Rattle.costs.specs.Gather.{sizesIn}
-use Rattle.message.specs.Message.{isUnit, every}
+use Rattle.base.specs.Every.{every}
+use Rattle.message.specs.Message.{isUnit}
 use Rattle.message.specs.Decode.{parseFor}
 use Rattle.unit.specs.declared.Unit.{Unit}
 use Rattle.unit.specs.State.{noUnit, fresh, inRange}

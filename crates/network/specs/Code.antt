@@ -26,9 +26,9 @@ use Rattle.costs.specs.Gather.{sizesIn, gathered, gatherOf, gatherInto}
 use Rattle.costs.specs.Gather.Sizes.{length-sizes, accepted-sizes-first, accepted-sizes-good}
 use Rattle.costs.specs.Gather.Laws.{gathered-view, gathered-good, gathered-most, gather-enough, gather-front}
 use Rattle.message.specs.Decode.{parseFor}
-use Rattle.message.specs.Message.{Packet, isUnit, every}
-use Rattle.message.specs.Laws.{every-at}
-use Rattle.message.specs.RoundTrip.{AllBytes}
+use Rattle.base.specs.Every.{every, every-at}
+use Rattle.message.specs.Message.{Packet, isUnit}
+use Rattle.base.specs.Bytes.{AllBytes}
 use Rattle.unit.specs.declared.Unit.{Unit as UnitState}
 use Rattle.unit.specs.declared.Outcome.{Outcome}
 use Rattle.unit.specs.State.{noUnit, fresh, paidInRange, inRange}

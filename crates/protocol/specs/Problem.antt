@@ -10,7 +10,7 @@ use mathlib.Core.Logic.{_⊎_, inl, inr}
 use mathlib.Core.List.{List, []}
 use native.Mathlib.Omega.{arith}
 use Rattle.base.specs.Sums.{sumTo}
-pub use Rattle.message.specs.Message.{NONE}
+pub use Rattle.base.specs.Limits.{NONE}
 use Rattle.costs.specs.Instance.{Instance}
 use Rattle.costs.specs.Bounds as Bounds
 use Rattle.costs.specs.Laws.{problemOf}

@@ -12,7 +12,8 @@ use lib.ListN.{getD, replicate}
 use Rattle.base.specs.Limits.{NONE, estimateLimit, prefixLimit}
 use Rattle.costs.specs.Instance.{View}
 use Rattle.costs.specs.Bounds.{costWith}
-use Rattle.message.specs.Message.{every, isUnit, filledTo, noneOrBound}
+use Rattle.base.specs.Every.{every}
+use Rattle.message.specs.Message.{isUnit, filledTo, noneOrBound}
 use Rattle.unit.specs.declared.Unit.{Unit}
 use Rattle.unit.specs.declared.Ordering.{Ordering}
 use Rattle.unit.specs.declared.Ordering.the-variants.{Less, Equal, Greater}

@@ -9,7 +9,7 @@ ghost use mathlib.Core.Path.{_≡_};
 ghost use mathlib.Core.Bool.{Bool};
 ghost use Prim.Native.Nat.{_+_, _*_, _-_, _≤_};
 ghost use lib.ListN.{length};
-ghost use Rattle.message.specs.Encode.{putAt};
+ghost use Rattle.base.specs.Put.{putAt};
 ghost use Rattle.unit.specs.declared.Plan.the-variants.{Forward, Back};
 ghost use Rattle.unit.specs.Send.{withReceiver, sentTo, noBound, boundOnly, each, handBack, byPlan, packets, encodeAll, laid};
 ghost use Rattle.unit.specs.Laying.{Room};

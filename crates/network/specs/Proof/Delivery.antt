@@ -18,8 +18,8 @@ use Rattle.costs.specs.Instance.{instanceOf}
 use Rattle.costs.specs.Laws.{problemOf}
 use Rattle.costs.specs.Laws.Stream.{sound-of}
 use Rattle.costs.specs.Gather.{sizesIn}
-use Rattle.message.specs.Message.{Packet, every}
-use Rattle.message.specs.Laws.{every-by}
+use Rattle.base.specs.Every.{every, every-by}
+use Rattle.message.specs.Message.{Packet}
 use Rattle.message.specs.Encode.{encode}
 use Rattle.unit.specs.declared.Unit.{Unit as UnitState}
 use Rattle.unit.specs.declared.Sending.{Sending}

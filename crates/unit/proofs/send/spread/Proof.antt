@@ -6,7 +6,7 @@ use native.Mathlib.Omega.{arith}
 use lib.ListN.{length}
 use borrow.Author.Needs.{needs}
 use Rattle.message.specs.Message.{Sized}
-use Rattle.message.specs.Encode.{putAt}
+use Rattle.base.specs.Put.{putAt}
 use Rattle.unit.specs.Send.{sentTo, each, encodeAll}
 use Rattle.unit.specs.Laying.{spread-none, spread-more}
 use Rattle.unit.proofs.send.spread.Statement.{statement}
