@@ -7,7 +7,7 @@ use mathlib.Core.Bool.{Bool, true, false, _&&_, false≢true}
 use native.Mathlib.Omega.{arith}
 use native.Mathlib.Nat.{not-suc-le-zero, eq-or-lt-of-le, le-of-suc-le-suc}
 use native.Mathlib.Numerals.{add-one}
-use Rattle.base.specs.Shape.{and-left, and-right}
+use Rattle.base.specs.Shape.Laws.{and-left, and-right}
 
 -- whether p holds of 0, 1, .., m - 1
 abbrev pub every : (ℕ → Bool) → ℕ → Bool

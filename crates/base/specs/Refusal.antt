@@ -1,25 +1,9 @@
 -- Refusals by number, 0 for none, and the first of two in 01's order.
 -- Assumes nothing.
 use Prim.Native.Nat.{ℕ, zero, suc}
-use mathlib.Core.Path.{_≡_, refl}
-use native.Mathlib.Omega.{arith}
+pub mod Laws
 
 -- a, or b where a is 0
 abbrev pub orElse : ℕ → ℕ → ℕ
 orElse zero b = b
 orElse (suc a) b = suc a
-
--- ------------------------------------------------------------------------------------------------------------------
--- Laws.
-
-pub or-left : (a b : ℕ) → orElse a b ≡ 0 → a ≡ 0
-or-left zero b e = refl
-or-left (suc a) b e = e
-
-pub or-right : (a b : ℕ) → orElse a b ≡ 0 → b ≡ 0
-or-right zero b e = e
-or-right (suc a) b e = absurd (omega arith)
-
-pub or-first : (a b : ℕ) → (a ≡ 0 → ⊥) → orElse a b ≡ a
-or-first zero b h = absurd (h refl)
-or-first (suc a) b h = refl

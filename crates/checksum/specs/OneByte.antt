@@ -12,8 +12,9 @@ use borrow.Author.Tests.{ltb-true}
 use lib.Dec.{ltb}
 use lib.ListN.{getD, length, take, drop, set}
 use lib.Seq.{length-take-le, set-split, split-at}
-use Rattle.base.specs.Shape.{and-left, and-right}
-use Rattle.checksum.specs.Sum.{weigh, sumOf, weigh-append}
+use Rattle.base.specs.Shape.Laws.{and-left, and-right}
+use Rattle.checksum.specs.Sum.{weigh, sumOf}
+use Rattle.checksum.specs.Sum.Laws.{weigh-append}
 
 -- none of 2, .., n + 1 divides 65,521
 unfoldable undivided : ℕ → Bool

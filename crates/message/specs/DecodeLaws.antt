@@ -10,7 +10,8 @@ use lib.Dec.{leb}
 use lib.ListN.{length, getD}
 use Rattle.base.specs.Limits.{messageSize}
 use Rattle.base.specs.Put.{putAt}
-use Rattle.base.specs.Shape.{shapeGood, and-left}
+use Rattle.base.specs.Shape.{shapeGood}
+use Rattle.base.specs.Shape.Laws.{and-left}
 use Rattle.message.specs.declared.Kind.{Kind}
 use Rattle.message.specs.declared.Read.{Read}
 use Rattle.message.specs.declared.Read.the-variants.{Good, Refused}

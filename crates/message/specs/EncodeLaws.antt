@@ -13,7 +13,8 @@ use lib.ListN.{length, drop, set, replicate, length-append}
 use lib.Seq.{sets-eq}
 use Rattle.base.specs.Bytes.{le16, le32}
 use Rattle.base.specs.Limits.{messageSize}
-use Rattle.base.specs.Put.{putAt, put-next}
+use Rattle.base.specs.Put.{putAt}
+use Rattle.base.specs.Put.Laws.{put-next}
 use Rattle.message.specs.declared.Kind.{Kind}
 use Rattle.message.specs.declared.Message.{Message}
 use Rattle.message.specs.Message.{kindCode, Sized}

@@ -13,7 +13,8 @@ use lib.Dec.{ltb, leb, eqb}
 use lib.ListN.{getD, replicate}
 use Rattle.base.specs.Every.{every-at, every-by}
 use Rattle.base.specs.Limits.{places, totalLimit, NONE}
-use Rattle.base.specs.Shape.{and-left, and-right, isValue, value-range, range-value}
+use Rattle.base.specs.Shape.{isValue}
+use Rattle.base.specs.Shape.Laws.{and-left, and-right, value-range, range-value}
 use Rattle.message.specs.declared.Kind.{Kind}
 use Rattle.message.specs.declared.Message.{Message}
 use Rattle.message.specs.Message.{placeGood, placeAt, filledTo, boundGood, noneOrBound, noBound, carriedOf, boundFits, directionGood, isUnit, addressGood, wellFormed}

@@ -17,10 +17,13 @@ use borrow.Author.Tests.{eq-eqb, ne-eqb, eqb-true, eqb-false, ltb-true, ltb-fals
 use lib.Dec.{ltb, leb, eqb}
 use lib.ListN.{length, take, drop, getD, set, length-append, length-take, length-drop, length-set}
 use lib.Seq.{take-at, drop-at, take-all, take-add, take-set-lt, take-set-le, length-take-le, getD-take, getD-append-add, getD-set-same, getD-set-other}
-use Rattle.base.specs.Bytes.{AllBytes, u16At, u32At, le16, le32, u16-of-le16, u32-of-le32, four-bytes, le16-again, le32-again}
+use Rattle.base.specs.Bytes.{AllBytes, u16At, u32At, le16, le32}
+use Rattle.base.specs.Bytes.Laws.{u16-of-le16, u32-of-le32, four-bytes, le16-again, le32-again}
 use Rattle.base.specs.Limits.{messageSize}
-use Rattle.base.specs.Shape.{shapeGood, and-left, and-right}
-use Rattle.checksum.specs.Sum.{sumOf, sum-small}
+use Rattle.base.specs.Shape.{shapeGood}
+use Rattle.base.specs.Shape.Laws.{and-left, and-right}
+use Rattle.checksum.specs.Sum.{sumOf}
+use Rattle.checksum.specs.Sum.Laws.{sum-small}
 use Rattle.checksum.specs.OneByte.{one-byte}
 use Rattle.message.specs.declared.Kind.{Kind}
 use Rattle.message.specs.declared.Kind.the-variants.{Cpa, Request, Estimate, Solution, Stop}

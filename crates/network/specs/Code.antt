@@ -15,8 +15,8 @@ use lib.Dec.{ltb, leb}
 use lib.ListN.{length, getD, set, take, drop, replicate}
 use lib.Seq.{paste}
 use borrow.Author.Tests.{lt-ltb, le-ltb, ltb-false, le-leb, lt-leb, leb-true, leb-false}
-use Rattle.base.specs.Shape.{and-left, and-right}
-use Rattle.base.specs.Refusal.{or-left, or-right, or-first}
+use Rattle.base.specs.Shape.Laws.{and-left, and-right}
+use Rattle.base.specs.Refusal.Laws.{or-left, or-right, or-first}
 use Rattle.table.specs.Stream.{unitsOf, streamRefusal, Accepted}
 use Rattle.table.specs.StreamLaws.{accepted-units}
 use Rattle.costs.specs.Instance.{viewOf, instanceOf}

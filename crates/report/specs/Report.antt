@@ -10,7 +10,8 @@ use lib.Seq.{take-at}
 use borrow.Author.Tests.{eq-eqb}
 use Rattle.base.specs.declared.Length.{Length}
 use Rattle.base.specs.Limits.{poolSize, streamSize}
-use Rattle.base.specs.Refusal.{orElse, or-first}
+use Rattle.base.specs.Refusal.{orElse}
+use Rattle.base.specs.Refusal.Laws.{or-first}
 use Rattle.table.specs.File.{streamOf, readRefusal, readOf, readInto}
 use Rattle.table.specs.FileLaws.{read-most}
 use Rattle.search.specs.declared.Found.{Found}

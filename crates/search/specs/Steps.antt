@@ -20,7 +20,7 @@ use Rattle.table.specs.StreamLaws.{accepted-units, accepted-length, accepted-mo
 use Rattle.costs.specs.Instance.{Instance, instanceOf, viewOf, pairStart, inPair, domOf}
 use Rattle.costs.specs.Bounds.{costWith, total, prefixCount}
 use Rattle.costs.specs.Gather.Steps.{size-some}
-use Rattle.base.specs.Shape.{range-value}
+use Rattle.base.specs.Shape.Laws.{range-value}
 use Rattle.costs.specs.Lent.Steps.{cost-more}
 use Rattle.costs.specs.Laws.{costOf, full-limit}
 use Rattle.base.specs.Sums.Laws.{sumFrom-last}

@@ -12,10 +12,13 @@ use lib.Dec.{eqb, leb}
 use lib.ListN.{length, getD, take, drop, replicate, length-take, length-drop, length-append, length-replicate, drop-of-length-le, take-append-drop}
 use lib.Seq.{drop-cons, length-take-le, getD-take, take-add, take-all, take-take, take-at, drop-at, drop-drop, getD-append-add}
 use borrow.Author.Tests.{eqb-true, leb-true, eq-eqb, ne-eqb}
-use Rattle.base.specs.Bytes.{u16At, le16, AllBytes, u16-of-le16, le16-again}
-use Rattle.base.specs.Shape.{and-left, and-right}
-use Rattle.checksum.specs.Sum.{sumOf, sum-small}
-use Rattle.base.specs.Put.{putAt, put-next}
+use Rattle.base.specs.Bytes.{u16At, le16, AllBytes}
+use Rattle.base.specs.Bytes.Laws.{u16-of-le16, le16-again}
+use Rattle.base.specs.Shape.Laws.{and-left, and-right}
+use Rattle.checksum.specs.Sum.{sumOf}
+use Rattle.checksum.specs.Sum.Laws.{sum-small}
+use Rattle.base.specs.Put.{putAt}
+use Rattle.base.specs.Put.Laws.{put-next}
 use Rattle.table.specs.Block.{blockNumber, payloadCount, payloadOf, unusedOf, checkOf, countGood, allZero, blockRefusal, readBlockOf, bodyOf, blockOf}
 
 -- ---- unused bytes: a turn of a loop from place i to place m, and its end

@@ -16,8 +16,10 @@ use borrow.Author.Tests.{eqb-true, eqb-false, leb-true, leb-false, eq-eqb, ne-eq
 use Rattle.base.specs.declared.Length.{Length}
 use Rattle.base.specs.Limits.{fileSize, streamSize}
 use Rattle.base.specs.Bytes.{u16At}
-use Rattle.base.specs.Put.{putAt, put-next, put-behind}
-use Rattle.base.specs.Refusal.{orElse, or-left, or-right, or-first}
+use Rattle.base.specs.Put.{putAt}
+use Rattle.base.specs.Put.Laws.{put-next, put-behind}
+use Rattle.base.specs.Refusal.{orElse}
+use Rattle.base.specs.Refusal.Laws.{or-left, or-right, or-first}
 use Rattle.table.specs.Stream.{costsGood, streamRefusal, Accepted}
 use Rattle.table.specs.StreamLaws.{costs-same, accepted-most}
 use Rattle.table.specs.Block.{payloadCount, payloadOf, blockRefusal, readBlockOf, blockOf}

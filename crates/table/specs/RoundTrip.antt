@@ -13,8 +13,9 @@ use lib.ListN.{length, take, drop, length-take, length-drop, length-append, take
 use lib.Seq.{take-at, drop-at, take-all}
 use borrow.Author.Tests.{leb-true, eq-eqb, ne-eqb, le-leb}
 use Rattle.base.specs.Limits.{fileSize, streamSize}
-use Rattle.base.specs.Bytes.{AllBytes, bytes-take, bytes-drop}
-use Rattle.base.specs.Shape.{and-left}
+use Rattle.base.specs.Bytes.{AllBytes}
+use Rattle.base.specs.Bytes.Laws.{bytes-take, bytes-drop}
+use Rattle.base.specs.Shape.Laws.{and-left}
 use Rattle.table.specs.Stream.{streamRefusal, Accepted}
 use Rattle.table.specs.StreamLaws.{accepted-most, accepted-length}
 use Rattle.table.specs.Block.{payloadCount, payloadOf, countGood, blockOf}

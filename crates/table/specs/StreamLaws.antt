@@ -13,8 +13,10 @@ use lib.ListN.{length, getD, take, drop, length-take, length-drop}
 use lib.Seq.{take-suc, length-take-le, getD-take, getD-drop}
 use borrow.Author.Tests.{eqb-true, leb-true, eq-eqb, ne-eqb, le-leb, lt-leb}
 use Rattle.base.specs.Limits.{pairLimit, streamSize}
-use Rattle.base.specs.Bytes.{u16At, u16-past}
-use Rattle.base.specs.Shape.{inSixteen, allInSixteen, shapeGood, and-left, and-right, in-range, shape-n, shape-size, all-step, all-none}
+use Rattle.base.specs.Bytes.{u16At}
+use Rattle.base.specs.Bytes.Laws.{u16-past}
+use Rattle.base.specs.Shape.{inSixteen, allInSixteen, shapeGood}
+use Rattle.base.specs.Shape.Laws.{and-left, and-right, in-range, shape-n, shape-size, all-step, all-none}
 use Rattle.table.specs.Stream.{unitsOf, sizesOf, sumList, pairsIn, needed, costAt, costsGood, streamRefusal, Accepted}
 
 -- ---- how pairsIn and costsGood grow

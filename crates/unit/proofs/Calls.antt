@@ -7,8 +7,9 @@ use mathlib.Core.Bool.{true, false}
 use mathlib.Core.List.{List}
 use lib.ListN.{length}
 use borrow.Author.Tests.{lt-ltb, le-ltb}
-use Rattle.base.specs.Refusal.{or-first}
-use Rattle.base.specs.Shape.{shapeGood, shape-n}
+use Rattle.base.specs.Refusal.Laws.{or-first}
+use Rattle.base.specs.Shape.{shapeGood}
+use Rattle.base.specs.Shape.Laws.{shape-n}
 use Rattle.costs.specs.declared.Seat.{Seat}
 use Rattle.costs.specs.Instance.{View, lentView, viewFrom}
 use Rattle.costs.specs.Lent.{lentRefusal}

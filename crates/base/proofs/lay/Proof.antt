@@ -6,7 +6,7 @@ use native.Mathlib.Omega.{arith}
 use borrow.Author.Needs.{needs}
 use lib.ListN.{length, length-set}
 use lib.Seq.{paste, paste-zero}
-use Rattle.base.specs.Put.{paste-more, put-end}
+use Rattle.base.specs.Put.Laws.{paste-more, put-end}
 use Rattle.base.proofs.lay.Statement.{statement}
 use Rattle.base.proofs.lay.Tie as tie
 

@@ -1,8 +1,8 @@
 -- `put` meets its contract: what doesn't fit leaves the buffer as it was. Assumes nothing.
-use mathlib.Core.Path.{_≡_, sym, _∙_}
+use mathlib.Core.Path.{sym, _∙_}
 use native.Mathlib.Omega.{arith}
 use borrow.Author.Needs.{needs}
-use Rattle.base.specs.Put.{put-fits, put-lost}
+use Rattle.base.specs.Put.Laws.{put-fits, put-lost}
 use Rattle.base.proofs.put.Statement.{statement}
 use Rattle.base.proofs.put.Tie as tie
 

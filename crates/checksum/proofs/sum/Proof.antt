@@ -7,7 +7,8 @@ use native.Mathlib.Omega.{arith}
 use borrow.Author.Needs.{needs}
 use lib.ListN.{getD, length, take}
 use lib.Seq.{take-all}
-use Rattle.checksum.specs.Sum.{sumOf, sum-none, sum-more}
+use Rattle.checksum.specs.Sum.{sumOf}
+use Rattle.checksum.specs.Sum.Laws.{sum-none, sum-more}
 use Rattle.checksum.proofs.sum.Statement.{statement}
 use Rattle.checksum.proofs.sum.Tie as tie
 

@@ -11,7 +11,7 @@ use Rattle.base.specs.Shape.{isValue}
 use Rattle.costs.specs.Instance.{viewFrom}
 use Rattle.costs.specs.Bounds.{h}
 use Rattle.costs.specs.Lent.Parts.{othersBefore, laterFrom}
-use Rattle.base.specs.Shape.{value-range}
+use Rattle.base.specs.Shape.Laws.{value-range}
 use Rattle.costs.specs.Lent.Steps.{others-later, later-start, later-step, later-done, later-no-value}
 use Rattle.costs.proofs.later_cost.Statement.{statement}
 use Rattle.costs.proofs.later_cost.Tie as tie

@@ -6,7 +6,7 @@ use native.Mathlib.Nat.{mul-le-mul}
 use native.Mathlib.Omega.{arith}
 use borrow.Author.Needs.{needs}
 use borrow.Author.Tests.{not-true, not-false}
-use Rattle.base.specs.Shape.{value-range}
+use Rattle.base.specs.Shape.Laws.{value-range}
 use Rattle.costs.specs.Lent.Steps.{pair-self, pair-no-other, pair-no-own, pair-lower, pair-higher}
 use Rattle.costs.proofs.pair_cost.Statement.{statement}
 use Rattle.costs.proofs.pair_cost.Tie as tie

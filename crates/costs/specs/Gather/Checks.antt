@@ -8,8 +8,10 @@ use native.Mathlib.Omega.{arith}
 use lib.Dec.{ltb, eqb}
 use lib.ListN.{length, drop}
 use borrow.Author.Tests.{ltb-false, lt-ltb, le-ltb, eq-eqb, ne-eqb}
-use Rattle.base.specs.Shape.{isValue, value-range}
-use Rattle.base.specs.Refusal.{orElse, or-left, or-right, or-first}
+use Rattle.base.specs.Shape.{isValue}
+use Rattle.base.specs.Shape.Laws.{value-range}
+use Rattle.base.specs.Refusal.{orElse}
+use Rattle.base.specs.Refusal.Laws.{or-left, or-right, or-first}
 use Rattle.table.specs.Stream.{unitsOf, streamRefusal, Accepted}
 use Rattle.table.specs.StreamLaws.{accepted-units}
 use Rattle.costs.specs.declared.Seat.{Seat}

@@ -16,12 +16,13 @@ use Rattle.base.specs.Limits.{pairLimit}
 use Rattle.base.specs.Sums.{sumTo}
 use Rattle.table.specs.Stream.{unitsOf, sizesOf, needed, costAt, costsGood, Accepted}
 use Rattle.table.specs.StreamLaws.{accepted-units, accepted-cost}
-use Rattle.base.specs.Shape.{isValue, range-value}
+use Rattle.base.specs.Shape.{isValue}
+use Rattle.base.specs.Shape.Laws.{range-value}
 use Rattle.costs.specs.Instance.{View, viewOf, pairStart, inPair, costNumber, instanceOf, otherStart, lentCost, lentView, domOf, costsOf}
 use Rattle.costs.specs.Lent.{lentCount, lentRefusal}
 use Rattle.costs.specs.Lent.Checks.{refusal-costs}
 use Rattle.base.specs.Sums.Laws.{sumTo-le}
-use Rattle.base.specs.Shape.{value-range}
+use Rattle.base.specs.Shape.Laws.{value-range}
 use Rattle.costs.specs.Laws.Stream.{in-pair-lt, cost-number-at, pair-costs, accepted-fit, dom-most}
 use Rattle.costs.specs.Gather.{pairBytes, withOther, gatherTo, gathered, gatherRefusal, gatherOf, gatherInto}
 

@@ -8,7 +8,8 @@ use native.Mathlib.Omega.{arith}
 use lib.ListN.{length, getD, take, drop, set, length-drop, drop-of-length-le}
 use lib.Seq.{take-all, getD-take, getD-drop, paste, paste-zero}
 use Rattle.base.specs.Sums.{sumFrom}
-use Rattle.base.specs.Put.{putAt, paste-more}
+use Rattle.base.specs.Put.{putAt}
+use Rattle.base.specs.Put.Laws.{paste-more}
 use Rattle.table.specs.Stream.{unitsOf, needed}
 use Rattle.costs.specs.declared.Seat.{Seat}
 use Rattle.costs.specs.Lent.Parts.{domFrom}

@@ -15,7 +15,8 @@ use Rattle.base.specs.Limits.{pairLimit}
 use Rattle.base.specs.Sums.{sumFrom}
 use Rattle.table.specs.Stream.{unitsOf, sizesOf, sumList, pairsIn, needed, costAt, Accepted}
 use Rattle.table.specs.StreamLaws.{accepted-units, accepted-size, accepted-length, accepted-cost}
-use Rattle.base.specs.Shape.{isValue, value-range}
+use Rattle.base.specs.Shape.{isValue}
+use Rattle.base.specs.Shape.Laws.{value-range}
 use Rattle.costs.specs.Instance.{rowStart, pairStart, inPair, costNumber, tableCost, instanceOf, domOf, costsOf}
 use Rattle.base.specs.Sums.Laws.{sumTo-mono, sumTo-sumFrom, sumFrom-last, sumFrom-split}
 use Rattle.costs.specs.Lent.Steps.{dom-past-count}

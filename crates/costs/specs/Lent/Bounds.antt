@@ -11,7 +11,7 @@ use lib.Dec.{ltb, eqb}
 use lib.ListN.{length, getD}
 use borrow.Author.Tests.{ltb-true, ltb-false, eqb-true}
 use Rattle.base.specs.Limits.{pairLimit}
-use Rattle.base.specs.Bytes.{u16-past}
+use Rattle.base.specs.Bytes.Laws.{u16-past}
 use Rattle.base.specs.Sums.{least}
 use Rattle.base.specs.Shape.{isValue}
 use Rattle.table.specs.Stream.{costsGood}

@@ -14,7 +14,8 @@ use lib.Seq.{getD-take}
 use borrow.Author.Tests.{lt-ltb, le-ltb, lt-leb, ltb-true, ltb-false, eq-eqb, ne-eqb}
 use Rattle.base.specs.Sums.{sumFrom, sumTo, least}
 use Rattle.base.specs.Sums.Laws.{sumTo-cong, sumTo-sumFrom}
-use Rattle.base.specs.Shape.{isValue, range-value}
+use Rattle.base.specs.Shape.{isValue}
+use Rattle.base.specs.Shape.Laws.{range-value}
 use Rattle.costs.specs.Instance.{View, domIn, inPair, costNumber, lentCost, lentView, viewFrom}
 use Rattle.costs.specs.declared.Seat.{Seat}
 use Rattle.costs.specs.Bounds.{costWith, h, estimate}

@@ -6,7 +6,7 @@ use mathlib.Core.List.{List, _++_, append-assoc}
 use native.Mathlib.Omega.{arith}
 use lib.ListN.{length, getD, take, drop, set, length-append, length-drop}
 use lib.Seq.{paste, length-paste-head, getD-append-add, getD-drop, length-take-le, take-at, drop-append-add, drop-drop}
-use Rattle.base.specs.Put.{paste-more}
+use Rattle.base.specs.Put.Laws.{paste-more}
 use Rattle.message.specs.Message.{Packet}
 use Rattle.unit.specs.Send.{encodeAll, laid}
 use Rattle.network.specs.Pool.{laterCells, poolAfter, closeGap}

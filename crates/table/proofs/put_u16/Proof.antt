@@ -3,7 +3,7 @@
 use Prim.Native.Nat.{_%_, _/_}
 use native.Mathlib.Omega.{arith}
 use lib.ListN.{length-set}
-use Rattle.base.specs.Put.{put-two}
+use Rattle.base.specs.Put.Laws.{put-two}
 use borrow.Author.Needs.{needs}
 use Rattle.table.proofs.put_u16.Statement.{statement}
 use Rattle.table.proofs.put_u16.Tie as tie

@@ -6,7 +6,7 @@ use native.Mathlib.Omega.{arith}
 use borrow.Author.Needs.{needs}
 use lib.ListN.{length, getD, set, replicate, length-set, length-replicate, getD-replicate}
 use lib.Seq.{paste, paste-zero}
-use Rattle.base.specs.Put.{paste-more, put-end}
+use Rattle.base.specs.Put.Laws.{paste-more, put-end}
 use Rattle.table.proofs.put_zeros.Statement.{statement}
 use Rattle.table.proofs.put_zeros.Tie as tie
 

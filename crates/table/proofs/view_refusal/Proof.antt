@@ -4,7 +4,7 @@ use mathlib.Core.Path.{sym, _∙_}
 use native.Mathlib.Omega.{arith}
 use borrow.Author.Needs.{needs}
 use borrow.Author.Tests.{not-true, not-false}
-use Rattle.base.specs.Shape.{in-range}
+use Rattle.base.specs.Shape.Laws.{in-range}
 use Rattle.table.specs.View.{streamIn}
 use Rattle.table.specs.StreamLaws.{nonempty, refused-empty, refused-units, refused-sizes, refused-length, refused-cost, accepted-by-tests}
 use Rattle.table.proofs.view_refusal.Statement.{statement}

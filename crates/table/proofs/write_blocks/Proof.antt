@@ -8,7 +8,7 @@ use borrow.Author.Needs.{needs}
 use lib.ListN.{length, take, drop}
 use Rattle.table.specs.File.{fileFrom}
 use Rattle.table.specs.FileLaws.{file-more, carried, block-long}
-use Rattle.base.specs.Put.{put-part}
+use Rattle.base.specs.Put.Laws.{put-part}
 use Rattle.table.specs.Block.{blockOf}
 use Rattle.table.proofs.write_blocks.Statement.{statement}
 use Rattle.table.proofs.write_blocks.Tie as tie

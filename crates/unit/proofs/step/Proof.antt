@@ -4,7 +4,7 @@ use Prim.Native.Nat.{pred, _≤_}
 use mathlib.Core.Path.{_≡_, sym, _∙_}
 use native.Mathlib.Omega.{arith}
 use lib.ListN.{length}
-use Rattle.base.specs.Shape.{shape-n}
+use Rattle.base.specs.Shape.Laws.{shape-n}
 use Rattle.costs.specs.Instance.{lentView}
 use Rattle.message.specs.declared.Parsed.{Parsed}
 use Rattle.message.specs.Message.{Sized}

@@ -8,7 +8,7 @@ use native.Mathlib.Omega.{arith}
 use lib.Dec.{ltb, leb}
 use lib.ListN.{getD, replicate}
 use borrow.Author.Tests.{ltb-true}
-use Rattle.base.specs.Shape.{and-left}
+use Rattle.base.specs.Shape.Laws.{and-left}
 use Rattle.costs.specs.Instance.{View}
 use Rattle.costs.specs.Bounds.{costWith, h}
 use Rattle.message.specs.declared.Message.{Message}

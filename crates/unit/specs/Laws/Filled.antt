@@ -12,7 +12,7 @@ use lib.ListN.{length, getD, set, getD-replicate}
 use lib.Seq.{getD-set-same, getD-set-other}
 use borrow.Author.Tests.{leb-true, le-leb, ltb-true, ltb-false, eqb-true, eqb-false}
 use Rattle.base.specs.Limits.{NONE, totalLimit, prefixLimit}
-use Rattle.base.specs.Shape.{and-left}
+use Rattle.base.specs.Shape.Laws.{and-left}
 use Rattle.message.specs.Message.{filledTo, boundGood, noneOrBound}
 use Rattle.base.specs.Every.{every-at, every-by}
 use Rattle.message.specs.Laws.{bound-parts, not-none-is, filled-at, filled-past, filled-by}

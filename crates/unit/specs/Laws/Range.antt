@@ -10,7 +10,7 @@ use lib.Dec.{eqb}
 use lib.ListN.{length, getD}
 use borrow.Author.Tests.{leb-true, le-leb, eqb-true, eqb-false, eq-eqb, ne-eqb}
 use Rattle.base.specs.Limits.{estimateLimit, prefixLimit}
-use Rattle.base.specs.Shape.{and-left, and-right}
+use Rattle.base.specs.Shape.Laws.{and-left, and-right}
 use Rattle.costs.specs.Instance.{View}
 use Rattle.costs.specs.Bounds.{costWith}
 use Rattle.message.specs.Message.{filledTo, noneOrBound}

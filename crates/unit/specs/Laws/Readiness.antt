@@ -8,7 +8,8 @@ use mathlib.Core.List.{List}
 use lib.Dec.{ltb}
 use lib.ListN.{getD, length}
 use borrow.Author.Tests.{lt-ltb}
-use Rattle.base.specs.Shape.{shapeGood, shape-n, shape-size}
+use Rattle.base.specs.Shape.{shapeGood}
+use Rattle.base.specs.Shape.Laws.{shape-n, shape-size}
 use Rattle.costs.specs.declared.Seat.{Seat}
 use Rattle.costs.specs.Instance.{lentView, viewFrom}
 use Rattle.message.specs.declared.Message.{Message}

@@ -10,7 +10,7 @@ use native.Mathlib.Nat.{not-suc-le-zero, eq-or-lt-of-le, le-of-suc-le-suc}
 use lib.Dec.{ltb}
 use lib.ListN.{getD}
 use borrow.Author.Tests.{ltb-true, ltb-false, lt-ltb, le-ltb, eqb-true}
-use Rattle.base.specs.Shape.{and-left, and-right}
+use Rattle.base.specs.Shape.Laws.{and-left, and-right}
 use Rattle.unit.specs.declared.Ordering.{Ordering}
 use Rattle.unit.specs.declared.Ordering.the-variants.{Less, Equal, Greater}
 use Rattle.unit.specs.State.{orderOf, followed, compareOn, sameOn, notLess}

@@ -11,7 +11,7 @@ use lib.Dec.{ltb, leb}
 use lib.ListN.{length, getD, set, length-set}
 use borrow.Author.Tests.{ltb-true, lt-ltb}
 use Rattle.base.specs.Limits.{estimateLimit, prefixLimit}
-use Rattle.base.specs.Shape.{and-left, and-right}
+use Rattle.base.specs.Shape.Laws.{and-left, and-right}
 use Rattle.costs.specs.Instance.{View}
 use Rattle.costs.specs.Bounds.{estimate}
 use Rattle.costs.specs.Lent.Bounds.{estimate-most}

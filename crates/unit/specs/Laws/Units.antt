@@ -11,7 +11,7 @@ use lib.Dec.{eqb}
 use lib.ListN.{length, set, replicate, length-set, getD-replicate}
 use lib.Seq.{getD-set-same, getD-set-other}
 use borrow.Author.Tests.{eqb-true, eqb-false}
-use Rattle.base.specs.Shape.{and-right}
+use Rattle.base.specs.Shape.Laws.{and-right}
 use Rattle.costs.specs.Instance.{Instance, viewOf}
 use Rattle.message.specs.Message.{Packet, isUnit, addressGood}
 use Rattle.unit.specs.declared.Unit.{Unit as State}

@@ -9,7 +9,8 @@ use lib.Dec.{ltb, leb}
 use lib.ListN.{length, getD}
 use lib.Seq.{getD-take}
 use borrow.Author.Tests.{leb-true}
-use Rattle.base.specs.Shape.{shapeGood, shape-n, shape-size, and-left, and-right}
+use Rattle.base.specs.Shape.{shapeGood}
+use Rattle.base.specs.Shape.Laws.{shape-n, shape-size, and-left, and-right}
 use Rattle.costs.specs.Instance.{Instance, View, viewOf, lentView}
 use Rattle.costs.specs.Laws.{Sound}
 use Rattle.costs.specs.Lent.{lentRefusal}

@@ -5,7 +5,8 @@ use mathlib.Core.Path.{_≡_, sym, ap, _∙_}
 use native.Mathlib.Omega.{arith}
 use borrow.Author.Needs.{needs}
 use Rattle.base.specs.Sums.{sumFrom}
-use Rattle.base.specs.Shape.{isValue, value-range}
+use Rattle.base.specs.Shape.{isValue}
+use Rattle.base.specs.Shape.Laws.{value-range}
 use Rattle.table.specs.Stream.{unitsOf}
 use Rattle.costs.specs.Instance.{viewOf, instanceOf, domOf}
 use Rattle.costs.specs.Bounds.{costWith}

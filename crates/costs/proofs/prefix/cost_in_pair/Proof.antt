@@ -8,7 +8,7 @@ use native.Mathlib.Omega.{arith}
 use borrow.Author.Needs.{needs}
 use borrow.Author.Tests.{not-true, not-false}
 use Rattle.base.specs.Shape.{isValue}
-use Rattle.base.specs.Shape.{value-range}
+use Rattle.base.specs.Shape.Laws.{value-range}
 use Rattle.costs.proofs.prefix.cost_in_pair.Statement.{statement}
 use Rattle.costs.proofs.prefix.cost_in_pair.Tie as tie
 

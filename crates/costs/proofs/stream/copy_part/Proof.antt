@@ -4,7 +4,7 @@ use mathlib.Core.Path.{_≡_, _∙_}
 use native.Mathlib.Omega.{arith}
 use lib.ListN.{drop, length-drop}
 use borrow.Author.Needs.{needs}
-use Rattle.base.specs.Put.{put-first}
+use Rattle.base.specs.Put.Laws.{put-first}
 use Rattle.costs.proofs.stream.copy_part.Statement.{statement}
 use Rattle.costs.proofs.stream.copy_part.Tie as tie
 

@@ -5,7 +5,8 @@ use Prim.Native.Nat.{_+_, _-_, _≤_, pred}
 use mathlib.Core.Path.{_≡_, refl, sym, ap, _∙_}
 use mathlib.Core.List.{_++_}
 use lib.ListN.{length, drop, length-append}
-use Rattle.base.specs.Put.{putAt, put-behind}
+use Rattle.base.specs.Put.{putAt}
+use Rattle.base.specs.Put.Laws.{put-behind}
 use Rattle.table.specs.Stream.{unitsOf}
 use Rattle.costs.specs.Gather.{gatherTo, gathered, withOther}
 use Rattle.costs.specs.Gather.Laws.{gather-room}

@@ -6,7 +6,8 @@ use native.Mathlib.Omega.{arith}
 use borrow.Author.Needs.{needs}
 use borrow.Author.Tests.{not-true, not-false}
 use lib.ListN.{length}
-use Rattle.base.specs.Shape.{isValue, value-range}
+use Rattle.base.specs.Shape.{isValue}
+use Rattle.base.specs.Shape.Laws.{value-range}
 use Rattle.table.specs.Stream.{unitsOf, streamRefusal, Accepted}
 use Rattle.costs.specs.Gather.{gathered}
 use Rattle.costs.specs.Gather.Checks.{refused-5, refused-10, refused-stream, refused-13, refused-none, gathered-count}

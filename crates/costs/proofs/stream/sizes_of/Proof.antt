@@ -7,7 +7,7 @@ use native.Mathlib.Omega.{arith}
 use lib.ListN.{getD, take, drop, replicate}
 use Rattle.costs.specs.Gather.{sizesIn}
 use Rattle.costs.specs.Gather.Sizes.{length-sizes, sizes-at}
-use Rattle.base.specs.Put.{copy-more}
+use Rattle.base.specs.Put.Laws.{copy-more}
 use Rattle.costs.specs.Gather.Steps.{fill-done}
 use borrow.Author.Needs.{needs}
 use Rattle.costs.proofs.stream.sizes_of.Statement.{statement}

@@ -7,7 +7,7 @@ use native.Mathlib.Omega.{arith}
 use lib.ListN.{length, take, drop, replicate, length-drop}
 use lib.Seq.{getD-drop}
 use borrow.Author.Needs.{needs}
-use Rattle.base.specs.Put.{copy-more}
+use Rattle.base.specs.Put.Laws.{copy-more}
 use Rattle.message.proofs.decode.bytes16.Statement.{statement}
 use Rattle.message.proofs.decode.bytes16.Tie as tie
 

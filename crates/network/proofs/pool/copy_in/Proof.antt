@@ -3,7 +3,7 @@ use Prim.Native.Nat.{_-_}
 use mathlib.Core.Path.{_∙_}
 use native.Mathlib.Omega.{arith}
 use borrow.Author.Needs.{needs}
-use Rattle.base.specs.Put.{put-first}
+use Rattle.base.specs.Put.Laws.{put-first}
 use Rattle.network.proofs.pool.copy_in.Statement.{statement}
 use Rattle.network.proofs.pool.copy_in.Tie as tie
 

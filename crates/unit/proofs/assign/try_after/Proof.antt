@@ -6,7 +6,7 @@ use native.Mathlib.Omega.{arith}
 use mathlib.Core.Path.{_≡_, sym, _∙_}
 use mathlib.Core.Bool.{false}
 use lib.ListN.{length, getD}
-use Rattle.base.specs.Shape.{shape-n, shape-size}
+use Rattle.base.specs.Shape.Laws.{shape-n, shape-size}
 use Rattle.costs.specs.Instance.{viewFrom}
 use Rattle.costs.specs.Bounds.{h}
 use Rattle.unit.specs.Step.{tryAfter, write}

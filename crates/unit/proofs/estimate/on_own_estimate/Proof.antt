@@ -4,7 +4,7 @@ use Prim.Native.Nat.{_+_, _≤_, _<_}
 use native.Mathlib.Omega.{arith}
 use mathlib.Core.Path.{sym, ap, _∙_}
 use borrow.Author.Tests.{not-true, not-false}
-use Rattle.base.specs.Shape.{shape-n}
+use Rattle.base.specs.Shape.Laws.{shape-n}
 use Rattle.costs.specs.Instance.{viewFrom}
 use Rattle.unit.specs.Step.{Decision, sumLater}
 use Rattle.unit.specs.Ready.{decidedOf}
