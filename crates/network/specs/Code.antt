@@ -17,6 +17,7 @@ use lib.Seq.{paste}
 use borrow.Author.Tests.{lt-ltb, le-ltb, ltb-false, le-leb, lt-leb, leb-true, leb-false}
 use Rattle.base.specs.Shape.Laws.{and-left, and-right}
 use Rattle.base.specs.Refusal.Laws.{or-left, or-right, or-first}
+use Rattle.base.specs.Limits.{poolCells, poolSize, sendingSize}
 use Rattle.table.specs.Stream.{unitsOf, streamRefusal, Accepted}
 use Rattle.table.specs.StreamLaws.{accepted-units}
 use Rattle.costs.specs.Instance.{viewOf, instanceOf}
@@ -75,56 +76,56 @@ if-not false r e = absurd (omega arith)
 
 -- what they say together
 pub record Open (net : Network) (s pool : List ℕ) (cell : ℕ) : Type 0 where
-  pub room : 65536 ≤ length pool
+  pub room : poolSize ≤ length pool
   pub table : Accepted s
   pub states : (k : ℕ) → k < unitsOf s → unitInRange s (net .core .units) k ≡ true
-  pub few : net .used ≤ 1024
+  pub few : net .used ≤ poolCells
   pub here : cell < net .used
 
 module _ (net : Network) (s pool : List ℕ) (cell : ℕ) where
-  pub check-room : length pool < 65536 → 13 ≡ deliverRefusal net s pool cell
+  pub check-room : length pool < poolSize → 13 ≡ deliverRefusal net s pool cell
   unfolding deliverRefusal networkRefusal
-  check-room l = rw (lt-ltb (length pool) 65536 l)
+  check-room l = rw (lt-ltb (length pool) poolSize l)
 
-  module _ (room : 65536 ≤ length pool) where
+  module _ (room : poolSize ≤ length pool) where
     pub check-table : (r : ℕ) → r ≡ streamRefusal s → (r ≡ 0 → ⊥) → r ≡ deliverRefusal net s pool cell
     unfolding deliverRefusal networkRefusal
-    check-table r e z = rw (le-ltb (length pool) 65536 room, ← e, or-first r _ z, or-first r _ z)
+    check-table r e z = rw (le-ltb (length pool) poolSize room, ← e, or-first r _ z, or-first r _ z)
 
     module _ (table : streamRefusal s ≡ 0) where
       pub check-states : every (unitInRange s (net .core .units)) (unitsOf s) ≡ false → 5 ≡ deliverRefusal net s pool cell
       unfolding deliverRefusal networkRefusal networkInRange
-      check-states e = rw (le-ltb (length pool) 65536 room, table, e)
+      check-states e = rw (le-ltb (length pool) poolSize room, table, e)
 
       module _ (states : every (unitInRange s (net .core .units)) (unitsOf s) ≡ true) where
-        pub check-count : 1024 < net .used → 5 ≡ deliverRefusal net s pool cell
+        pub check-count : poolCells < net .used → 5 ≡ deliverRefusal net s pool cell
         unfolding deliverRefusal networkRefusal networkInRange
-        check-count l = rw (le-ltb (length pool) 65536 room, table, states, lt-leb (net .used) 1024 l)
+        check-count l = rw (le-ltb (length pool) poolSize room, table, states, lt-leb (net .used) poolCells l)
 
-        module _ (few : net .used ≤ 1024) where
+        module _ (few : net .used ≤ poolCells) where
           pub check-stopped : unitAt (net .core .units) 0 .stopped ≡ true → 12 ≡ deliverRefusal net s pool cell
           unfolding deliverRefusal networkRefusal networkInRange
-          check-stopped e = rw (le-ltb (length pool) 65536 room, table, states, le-leb (net .used) 1024 few, e)
+          check-stopped e = rw (le-ltb (length pool) poolSize room, table, states, le-leb (net .used) poolCells few, e)
 
           pub check-cell : unitAt (net .core .units) 0 .stopped ≡ false → net .used ≤ cell → 15 ≡ deliverRefusal net s pool cell
           unfolding deliverRefusal networkRefusal networkInRange
-          check-cell e l = rw (le-ltb (length pool) 65536 room, table, states, le-leb (net .used) 1024 few, e, le-leb (net .used) cell l)
+          check-cell e l = rw (le-ltb (length pool) poolSize room, table, states, le-leb (net .used) poolCells few, e, le-leb (net .used) cell l)
 
           pub check-none : unitAt (net .core .units) 0 .stopped ≡ false → cell < net .used → 0 ≡ deliverRefusal net s pool cell
           unfolding deliverRefusal networkRefusal networkInRange
-          check-none e l = rw (le-ltb (length pool) 65536 room, table, states, le-leb (net .used) 1024 few, e, lt-leb (net .used) cell l)
+          check-none e l = rw (le-ltb (length pool) poolSize room, table, states, le-leb (net .used) poolCells few, e, lt-leb (net .used) cell l)
 
   pub opened : deliverRefusal net s pool cell ≡ 0 → Open net s pool cell
   unfolding deliverRefusal networkRefusal networkInRange Accepted
   opened z =
       let a = or-left (networkRefusal net s pool) _ z in
-      let b = or-right (cond (ltb (length pool) 65536) 13 0) _ a in
-      let c = if-not _ 4 (or-left (cond (every (unitInRange s (net .core .units)) (unitsOf s) && leb (net .used) 1024) 0 5) _ (or-right (streamRefusal s) _ b)) in
+      let b = or-right (cond (ltb (length pool) poolSize) 13 0) _ a in
+      let c = if-not _ 4 (or-left (cond (every (unitInRange s (net .core .units)) (unitsOf s) && leb (net .used) poolCells) 0 5) _ (or-right (streamRefusal s) _ b)) in
       record {
-        room = ltb-false (length pool) 65536 (if-so _ 12 (or-left (cond (ltb (length pool) 65536) 13 0) _ a));
+        room = ltb-false (length pool) poolSize (if-so _ 12 (or-left (cond (ltb (length pool) poolSize) 13 0) _ a));
         table = or-left (streamRefusal s) _ b;
         states = every-at (unitInRange s (net .core .units)) (unitsOf s) (and-left _ _ c);
-        few = leb-true (net .used) 1024 (and-right (every (unitInRange s (net .core .units)) (unitsOf s)) _ c);
+        few = leb-true (net .used) poolCells (and-right (every (unitInRange s (net .core .units)) (unitsOf s)) _ c);
         here = leb-false (net .used) cell (if-so _ 14 (or-right (networkRefusal net s pool) _ z));
       }
 
@@ -173,7 +174,7 @@ pub record Stepped (s : List ℕ) (own : ℕ) (u : UnitState) (bytes before : Li
   pub outcome : (us : List UnitState) → unitAt us (pred own) ≡ u → r ≡ outcomeOf (unitsOf s) (pred own) u (stepFrom8 s us own bytes)
   pub buffer : (us : List UnitState) → unitAt us (pred own) ≡ u → after ≡ bytesOf (unitsOf s) (pred own) before (stepFrom8 s us own bytes)
 
-module _ (s : List ℕ) (ok : Accepted s) (us : List UnitState) (own : ℕ) (first : 1 ≤ own) (last : own ≤ unitsOf s) (state : unitInRange s us (pred own) ≡ true) (bytes : List ℕ) (room : ℕ) (fits : 1024 ≤ room) where
+module _ (s : List ℕ) (ok : Accepted s) (us : List UnitState) (own : ℕ) (first : 1 ≤ own) (last : own ≤ unitsOf s) (state : unitInRange s us (pred own) ≡ true) (bytes : List ℕ) (room : ℕ) (fits : sendingSize ≤ room) where
   passes : Passed (unitAt us (pred own)) own (unitsOf s) (sizesIn s) (gathered s own) room
   passes = record {
     shape = accepted-sizes-good s ok;
@@ -204,7 +205,7 @@ step-numbered s us own bytes =
 
 -- the step of `unit`, lent what the stream says
 pub step-told : (s : List ℕ) (own : ℕ) (u : UnitState) → Stepping s own u → (n : ℕ) (sizes costs bytes before after : List ℕ) (r : Outcome) → n ≡ unitsOf s → sizes ≡ sizesIn s → costs ≡ gathered s own
-    → 1024 ≤ length before → r ≡ outcomeOf n (pred own) u (stepOut u own n sizes costs bytes (length before)) → after ≡ bytesOf n (pred own) before (stepOut u own n sizes costs bytes (length before))
+    → sendingSize ≤ length before → r ≡ outcomeOf n (pred own) u (stepOut u own n sizes costs bytes (length before)) → after ≡ bytesOf n (pred own) before (stepOut u own n sizes costs bytes (length before))
     → Stepped s own u bytes before r after
 step-told s own u g n sizes costs bytes before after r units array lent fits e f = record {
   outcome = λ us at. e ∙ rw (units, array, lent) (ap (λ (o : Decision). outcomeOf (unitsOf s) (pred own) u o) (same us at));
@@ -221,21 +222,21 @@ step-told s own u g n sizes costs bytes before after r units array lent fits e f
 -- what storing asks: the message is there, and what was sent stands in front of the buffer
 pub record Storing (net : Network) (cell own : ℕ) (r : Outcome) (pool out : List ℕ) : Type 0 where
   pub here : cell < net .used
-  pub few : net .used ≤ 1024
-  pub room : 65536 ≤ length pool
+  pub few : net .used ≤ poolCells
+  pub room : poolSize ≤ length pool
   pub first : 1 ≤ own
   pub last : own ≤ 16
   pub sent : r .sent ≤ 16
-  pub buffer : 1024 ≤ length out
+  pub buffer : sendingSize ≤ length out
 
 -- the answer and the pool's bytes, by the outcome r of the step and the bytes it sent
 abbrev pub storedAnswer : Network → ℕ → Outcome → Answer
 storedAnswer net own r =
-    cond (leb (net .used - 1 + r .sent) 1024) (record { refusal = 0; network = stepped net own (r .unit) (r .sent) (r .records) }) (record { refusal = 14; network = net })
+    cond (leb (net .used - 1 + r .sent) poolCells) (record { refusal = 0; network = stepped net own (r .unit) (r .sent) (r .records) }) (record { refusal = 14; network = net })
 
 abbrev pub storedPool : Network → ℕ → Outcome → List ℕ → List ℕ → List ℕ
 storedPool net cell r out pool =
-    cond (leb (net .used - 1 + r .sent) 1024) (paste (closeGap pool (64 * cell) (64 * net .used)) (64 * (net .used - 1)) out (64 * r .sent)) pool
+    cond (leb (net .used - 1 + r .sent) poolCells) (paste (closeGap pool (64 * cell) (64 * net .used)) (64 * (net .used - 1)) out (64 * r .sent)) pool
 
 module _ (net : Network) (s pool : List ℕ) (cell own : ℕ) (was : UnitState) (o : Decision) (r : Outcome) (told : r ≡ outcomeOf (unitsOf s) (pred own) was o) where
   -- a step never sends more than 16 packets
@@ -263,7 +264,7 @@ module _ (net : Network) (s pool : List ℕ) (cell own : ℕ) (was : UnitState) 
       go : (o : Decision) → r ≡ outcomeOf (unitsOf s) (pred own) was o → Numbered o → Whenever (GoodDecision (unitsOf s) (sizesIn s) (viewOf (instanceOf s) (pred own)) 16) o → out ≡ bytesOf (unitsOf s) (pred own) was-out o
           → (storedAnswer net own r ≡ onOut net pool cell (unitsOf s) own o .answer) × (storedPool net cell r out pool ≡ onOut net pool cell (unitsOf s) own o .pool)
       go (U.refused x) e number k sent = let q : x ≡ 0 = sym (ap (λ (y : Outcome). y .refusal) e) ∙ z in absurd (omega arith)
-      go (U.accepted u m ws) e number k sent = rw e (by-room (leb (net .used - 1 + length (packets (unitsOf s) (pred own) m)) 1024))
+      go (U.accepted u m ws) e number k sent = rw e (by-room (leb (net .used - 1 + length (packets (unitsOf s) (pred own) m)) poolCells))
         where
           ps : List Packet
           ps = packets (unitsOf s) (pred own) m
@@ -322,7 +323,7 @@ module _ (net : Network) (s pool : List ℕ) (cell : ℕ) (checks : Open net s p
 
       keeps : Whenever (GoodDecision (unitsOf s) (sizesIn s) (viewOf (instanceOf s) (pred own)) 16) (stepFrom8 s (net .core .units) own (cellOf pool cell))
       keeps =
-          step-keeps s (checks .table) (net .core .units) own own-first own-last in-range (cellOf pool cell) 1024 (omega arith) (subst (λ (x : UnitState). SizedUnit x) (sym at-place) arrays)
+          step-keeps s (checks .table) (net .core .units) own own-first own-last in-range (cellOf pool cell) sendingSize (omega arith) (subst (λ (x : UnitState). SizedUnit x) (sym at-place) arrays)
           (rw size at all)
 
       pub hand-sent : r .sent ≤ 16
@@ -343,17 +344,17 @@ module _ (s pool : List ℕ) where
   unfolding makeRefusal
   make-table r e z = rw (← e, or-first r _ z)
 
-  pub make-room : streamRefusal s ≡ 0 → length pool < 65536 → 13 ≡ makeRefusal s pool
+  pub make-room : streamRefusal s ≡ 0 → length pool < poolSize → 13 ≡ makeRefusal s pool
   unfolding makeRefusal
-  make-room e l = rw (e, lt-ltb (length pool) 65536 l)
+  make-room e l = rw (e, lt-ltb (length pool) poolSize l)
 
-  pub make-none : streamRefusal s ≡ 0 → 65536 ≤ length pool → 0 ≡ makeRefusal s pool
+  pub make-none : streamRefusal s ≡ 0 → poolSize ≤ length pool → 0 ≡ makeRefusal s pool
   unfolding makeRefusal
-  make-none e l = rw (e, le-ltb (length pool) 65536 l)
+  make-none e l = rw (e, le-ltb (length pool) poolSize l)
 
-  pub makeable : makeRefusal s pool ≡ 0 → Accepted s × (65536 ≤ length pool)
+  pub makeable : makeRefusal s pool ≡ 0 → Accepted s × (poolSize ≤ length pool)
   unfolding makeRefusal Accepted
-  makeable z = (or-left (streamRefusal s) _ z, ltb-false (length pool) 65536 (if-so _ 12 (or-right (streamRefusal s) _ z)))
+  makeable z = (or-left (streamRefusal s) _ z, ltb-false (length pool) poolSize (if-so _ 12 (or-right (streamRefusal s) _ z)))
 
   pub make-refuses : (r : ℕ) → r ≡ makeRefusal s pool → (r ≡ 0 → ⊥) → (record { refusal = r; network = noNetwork } ≡ makeOf s pool .answer) × (pool ≡ makeOf s pool .pool)
   unfolding makeOf
@@ -361,12 +362,12 @@ module _ (s pool : List ℕ) where
   make-refuses (suc r) e z = rw (← e) (refl, refl)
 
   -- unit 1 assigns
-  pub first-step : Accepted s → (room : ℕ) → 1024 ≤ room → makeOut 1 (unitsOf s) (sizesIn s) (gathered s 1) room ≡ assign (viewOf (instanceOf s) 0) fresh
+  pub first-step : Accepted s → (room : ℕ) → sendingSize ≤ room → makeOut 1 (unitsOf s) (sizesIn s) (gathered s 1) room ≡ assign (viewOf (instanceOf s) 0) fresh
   unfolding makeOut UC.makeRefusal UC.seatRefusal
   first-step ok room fits =
       let last : 1 ≤ unitsOf s = accepted-units s ok .0 in
       let lent = gathered-good s ok 1 (omega arith) last (sizesIn s) (accepted-sizes-first s ok) in
-      rw (accepted-sizes-good s ok, le-leb 1 (unitsOf s) last, lent, le-ltb room 1024 fits, gathered-view s ok 1 (omega arith) last (sizesIn s) (accepted-sizes-first s ok))
+      rw (accepted-sizes-good s ok, le-leb 1 (unitsOf s) last, lent, le-ltb room sendingSize fits, gathered-view s ok 1 (omega arith) last (sizesIn s) (accepted-sizes-first s ok))
 
 -- the network as making leaves it, by the outcome of unit 1's making
 abbrev pub begunAnswer : Outcome → Answer

@@ -11,6 +11,7 @@ ghost use mathlib.Core.Path.{_≡_};
 ghost use mathlib.Core.List.{List};
 ghost use Prim.Native.Nat.{ℕ, suc, _≤_, _<_};
 ghost use lib.ListN.{length, getD};
+ghost use Rattle.base.specs.Limits.{poolCells, sendingSize};
 ghost use Rattle.table.specs.Stream.{unitsOf, Accepted};
 ghost use Rattle.base.specs.Every.{every};
 ghost use Rattle.base.specs.Bytes.{AllBytes};
@@ -40,7 +41,7 @@ pub fn deliver(net: Network, stream: &[u8], pool: &mut [u8], cell: u64) -> Answe
 fn deliver_refusal(net: Network, stream: &[u8], room: usize, cell: u64) -> u8
     ensures { λ r. ⌜ ((pool : List ℕ) → length pool ≡ room → r ≡ deliverRefusal net (now (stream .entry)) pool cell) ⌝ }
 {
-    if room < 65536 {
+    if room < base::POOL_SIZE {
         return 13;
     }
     let refusal = table::stream_refusal(stream);
@@ -52,7 +53,7 @@ fn deliver_refusal(net: Network, stream: &[u8], room: usize, cell: u64) -> u8
     if !units_in_range(units, stream) {
         return 5;
     }
-    if 1024 < net.used {
+    if base::POOL_CELLS < net.used {
         return 5;
     }
     let first = units[0];
@@ -105,7 +106,7 @@ fn hand_over(net: Network, stream: &[u8], pool: &mut [u8], cell: usize) -> Answe
     let core = net.core;
     let units = core.units;
     let u = units[(own - 1) as usize];
-    let mut out = [0u8; 1024];
+    let mut out = [0u8; base::SENDING_SIZE];
     let r = step(u, stream, own, &pool[at..end], &mut out);
     let refusal = r.refusal;
     if refusal != 0 {
@@ -130,7 +131,7 @@ fn receiver(n: u8, packet: &[u8]) -> u8
 
 // The step of unit `own` on a packet, with the costs gathered from the stream.
 fn step(u: Unit, stream: &[u8], own: u8, packet: &[u8], out: &mut [u8]) -> Outcome
-    requires { ⌜ Stepping (now stream) own u × (1024 ≤ length (now out)) ⌝ }
+    requires { ⌜ Stepping (now stream) own u × (sendingSize ≤ length (now out)) ⌝ }
     ensures { λ r. ⌜ Stepped (now (stream .entry)) own u (now (packet .entry)) (now (out .entry)) r (now (out .exit)) × SizedUnit u ⌝ }
 {
     let n = base::byte_at(stream, 0);
@@ -164,7 +165,7 @@ fn store(net: Network, pool: &mut [u8], cell: usize, own: u8, r: Outcome, out: &
 
 // The network once unit `own` has stepped.
 fn advance(net: Network, own: u8, r: Outcome) -> Network
-    requires { ⌜ (1 ≤ own) × (own ≤ 16) × (1 ≤ net .used) × (net .used ≤ 1024) ⌝ }
+    requires { ⌜ (1 ≤ own) × (own ≤ 16) × (1 ≤ net .used) × (net .used ≤ poolCells) ⌝ }
     ensures { λ x. ⌜ x ≡ stepped net own (r .unit) (r .sent) (r .records) ⌝ }
 {
     let mut core = net.core;

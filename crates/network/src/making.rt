@@ -10,6 +10,7 @@ ghost use mathlib.Core.Path.{_≡_};
 ghost use mathlib.Core.List.{List};
 ghost use Prim.Native.Nat.{ℕ, _≤_};
 ghost use lib.ListN.{length};
+ghost use Rattle.base.specs.Limits.{poolSize};
 ghost use Rattle.table.specs.Stream.{unitsOf, Accepted};
 ghost use Rattle.costs.specs.Instance.{viewOf, instanceOf};
 ghost use Rattle.unit.specs.State.{noUnit, fresh};
@@ -39,7 +40,7 @@ fn make_refusal(stream: &[u8], room: usize) -> u8
     if refusal != 0 {
         return refusal;
     }
-    if room < 65536 {
+    if room < base::POOL_SIZE {
         return 13;
     }
     0
@@ -47,7 +48,7 @@ fn make_refusal(stream: &[u8], room: usize) -> u8
 
 // Unit 1 is made, and what it sends is laid at the front of the pool.
 fn first_step(stream: &[u8], pool: &mut [u8]) -> Outcome
-    requires { ⌜ Accepted (now stream) × (65536 ≤ length (now pool)) ⌝ }
+    requires { ⌜ Accepted (now stream) × (poolSize ≤ length (now pool)) ⌝ }
     ensures { λ r. ⌜ (r ≡ outcomeOf (unitsOf (now (stream .entry))) 0 noUnit (assign (viewOf (instanceOf (now (stream .entry))) 0) fresh)) × (now (pool .exit) ≡ bytesOf (unitsOf (now (stream .entry))) 0 (now (pool .entry)) (assign (viewOf (instanceOf (now (stream .entry))) 0) fresh)) ⌝ }
 {
     let n = base::byte_at(stream, 0);

@@ -10,7 +10,7 @@ use mathlib.Core.Option.{none, some, Option·some-injective, Option·some-ne-non
 use native.Mathlib.Omega.{arith}
 use lib.ListN.{length, take, drop, take-append-drop, length-append, length-drop}
 use lib.Seq.{take-at, drop-at}
-use Rattle.base.specs.Limits.{poolCells}
+use Rattle.base.specs.Limits.{poolCells, poolSize}
 use Rattle.message.specs.Message.{Packet, Sized}
 use Rattle.message.specs.Encode.{encode}
 use Rattle.message.specs.EncodeLaws.{length-encode}
@@ -101,10 +101,10 @@ some-room false ms w e = absurd (Option·some-ne-none w (sym e))
 pub record Stored (ms : List Packet) (used : ℕ) (pool : List ℕ) : Type 0 where
   pub count : used ≡ length ms
   pub front : take (64 * length ms) pool ≡ encodeAll ms
-  pub room : 65536 ≤ length pool
+  pub room : poolSize ≤ length pool
 
 -- m packets in front, and then what lies past them
-front-stored : (ms : List Packet) (pool : List ℕ) → AllSized ms → length ms ≤ poolCells → 65536 ≤ length pool → (n : ℕ) → n ≡ length ms
+front-stored : (ms : List Packet) (pool : List ℕ) → AllSized ms → length ms ≤ poolCells → poolSize ≤ length pool → (n : ℕ) → n ≡ length ms
     → Stored ms n (encodeAll ms ++ drop (64 * n) pool)
 front-stored ms pool z few long n e =
     record {
@@ -114,7 +114,7 @@ front-stored ms pool z few long n e =
     }
 
 -- making lays what it sends in front
-pub start-stored : (ps : List Packet) (pool : List ℕ) → AllSized ps → length ps ≤ poolCells → 65536 ≤ length pool → Stored (cells .start ps) (length ps) (laid ps pool)
+pub start-stored : (ps : List Packet) (pool : List ℕ) → AllSized ps → length ps ≤ poolCells → poolSize ≤ length pool → Stored (cells .start ps) (length ps) (laid ps pool)
 unfolding laid
 start-stored ps pool z few long = front-stored ps pool z few long (length ps) refl
 

@@ -107,7 +107,7 @@ module _ (s : List ℕ) (ok : Accepted s) (S : Shed) (H : History) (A : Network)
   unfolding instanceOf
   units-pass = every-by (unitInRange s (S .network .core .units)) (unitsOf s) (λ k l. subst (λ us. unitInRange s us k ≡ true) (sym (i .core .same)) (i .core .units .states k l))
 
-  in-use : S .network .used ≤ 1024
+  in-use : S .network .used ≤ poolCells
   in-use = omega (arith, i .stored .count, i .few)
 
   stop-is : unitAt (S .network .core .units) 0 .stopped ≡ stopped H
