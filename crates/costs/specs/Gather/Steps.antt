@@ -5,11 +5,10 @@ use mathlib.Core.Path.{_≡_, refl, sym, ap, _∙_}
 use mathlib.Core.List.{List, [], _++_, append-nil}
 use native.Mathlib.Numerals.{add-one}
 use native.Mathlib.Omega.{arith}
-use lib.ListN.{length, getD, take, drop, set, length-drop, drop-of-length-le}
+use lib.ListN.{length, getD, take, drop, drop-of-length-le}
 use lib.Seq.{take-all, getD-take, getD-drop, paste, paste-zero}
 use Rattle.base.specs.Sums.{sumFrom}
 use Rattle.base.specs.Put.{putAt}
-use Rattle.base.specs.Put.Laws.{paste-more}
 use Rattle.table.specs.Stream.{unitsOf, needed}
 use Rattle.costs.specs.declared.Seat.{Seat}
 use Rattle.costs.specs.Lent.Parts.{domFrom}
@@ -44,14 +43,6 @@ sum-more f lo i = rw add-one (sumFrom-last f lo i)
 -- an array filled from the front, to its end
 pub fill-done : (i : ℕ) (s t : List ℕ) → length s ≤ i → length t ≤ i → take i s ++ drop i t ≡ s
 fill-done i s t hs ht = rw (take-all i s hs, drop-of-length-le t ht, append-nil)
-
--- a byte of a part copied
-pub paste-next : (d : List ℕ) (at : ℕ) (s : List ℕ) (from j : ℕ) → at + j < length d → from + j < length s
-    → set (paste d at (drop from s) j) (at + j) (getD s (from + j) 0) ≡ paste d at (drop from s) (j + 1)
-paste-next d at s from j hd hs =
-    let e : getD (drop from s) j 0 ≡ getD s (from + j) 0 = getD-drop from s j 0 in
-    let l : j < length (drop from s) = simp length-drop (omega arith) in
-    rw (← e) (paste-more d at (drop from s) j hd l)
 
 -- ---- parts put behind one another
 

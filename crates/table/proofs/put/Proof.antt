@@ -1,5 +1,5 @@
 -- `put` meets its contract: what fits is put. Assumes nothing.
-use mathlib.Core.Path.{_≡_, _∙_}
+use mathlib.Core.Path.{_∙_}
 use borrow.Author.Needs.{needs}
 use Rattle.base.specs.Put.Laws.{put-fits}
 use Rattle.table.proofs.put.Statement.{statement}
