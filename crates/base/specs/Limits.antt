@@ -21,8 +21,11 @@ abbrev pub estimateLimit : ℕ
 estimateLimit = 7200000
 
 -- 01: "A paper or copy with k filled units costs at most 30,000 × k × (k-1)"
+abbrev pub prefixFactor : ℕ
+prefixFactor = 30000
+
 abbrev pub prefixLimit : ℕ → ℕ
-prefixLimit k = 30000 * k * (k - 1)
+prefixLimit k = prefixFactor * k * (k - 1)
 
 -- 01: "None as a bound is 4,294,967,295"
 abbrev pub NONE : ℕ
@@ -63,3 +66,7 @@ poolSize = 65536
 
 abbrev pub streamSize : ℕ
 streamSize = 61457
+
+-- the most bytes of the costs that touch one unit: 15 others of 16 values, with 16 own values, two bytes each
+abbrev pub costsSize : ℕ
+costsSize = 7680

@@ -1,8 +1,6 @@
 // Prints what the bench prints of each sample table of data/, after its name.
+use base::FILE_ROOM;
 use libc::STDOUT_FILENO;
-
-// Room for one block more than a table may have.
-const FILE: usize = 62976;
 
 fn main() {
     // table T; one unit of three values; four units whose totals tie; random ones
@@ -24,7 +22,7 @@ fn main() {
 }
 
 fn show(name: &[u8]) {
-    let mut file = [0u8; FILE];
+    let mut file = [0u8; FILE_ROOM];
     let fd = os::open_read(name);
     if fd < 0 {
         os::fail(name);

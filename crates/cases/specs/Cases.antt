@@ -8,6 +8,7 @@ use mathlib.Core.Path.{_≡_, refl}
 use mathlib.Core.Bool.{cond}
 use mathlib.Core.List.{List, [], _∷_, _++_, map}
 use lib.ListN.{length, getD, take, drop, replicate}
+use Rattle.base.specs.Limits.{streamSize}
 use Rattle.base.specs.Shape.{allInSixteen, shapeGood}
 use Rattle.checksum.specs.Sum.{sumOf}
 use Rattle.table.specs.Stream.{sumList, pairsIn, costsGood, streamRefusal}
@@ -44,7 +45,7 @@ count k f s = row k (numbers f) (numbers s)
 
 -- the number that reading the table of stream s gives
 abbrev reading : List ℕ → ℕ
-reading s = readRefusal (fileOf s) 61457
+reading s = readRefusal (fileOf s) streamSize
 
 -- T's instance, and that of one unit of three values
 abbrev instanceT : Instance

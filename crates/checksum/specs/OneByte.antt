@@ -13,50 +13,50 @@ use lib.Dec.{ltb}
 use lib.ListN.{getD, length, take, drop, set}
 use lib.Seq.{length-take-le, set-split, split-at}
 use Rattle.base.specs.Shape.Laws.{and-left, and-right}
-use Rattle.checksum.specs.Sum.{weigh, sumOf}
+use Rattle.checksum.specs.Sum.{modulus, weigh, sumOf}
 use Rattle.checksum.specs.Sum.Laws.{weigh-append}
 
 -- none of 2, .., n + 1 divides 65,521
 unfoldable undivided : ℕ → Bool
 undivided zero = true
-undivided (suc n) = ltb 0 (65521 % (n + 2)) && undivided n
+undivided (suc n) = ltb 0 (modulus % (n + 2)) && undivided n
 
-undivided-at : (n d : ℕ) → undivided n ≡ true → d < n → 0 < 65521 % (d + 2)
+undivided-at : (n d : ℕ) → undivided n ≡ true → d < n → 0 < modulus % (d + 2)
 unfolding undivided
 undivided-at zero d e h = absurd (not-suc-le-zero h)
 undivided-at (suc n) d e h =
     let le : d ≤ n = omega arith in
     ⊎-elim
-    (λ (f : d ≡ n). rw f (ltb-true 0 (65521 % (n + 2)) (and-left _ _ e)))
-    (λ (l : d < n). undivided-at n d (and-right (ltb 0 (65521 % (n + 2))) (undivided n) e) l)
+    (λ (f : d ≡ n). rw f (ltb-true 0 (modulus % (n + 2)) (and-left _ _ e)))
+    (λ (l : d < n). undivided-at n d (and-right (ltb 0 (modulus % (n + 2))) (undivided n) e) l)
     (eq-or-lt-of-le le)
 
-no-divisor : (d : ℕ) → 2 ≤ d → d < 256 → 0 < 65521 % d
+no-divisor : (d : ℕ) → 2 ≤ d → d < 256 → 0 < modulus % d
 unfolding undivided
 no-divisor d l h = let f : d - 2 + 2 ≡ d = omega arith in rw f at (undivided-at 254 (d - 2) refl (omega arith))
 
 -- w × d is no multiple of 65,521, for weights w and differences d of bytes; the fuel bounds d
-descend : (fuel w d q : ℕ) → d ≤ fuel → 0 < d → d < 256 → 0 < w → w < 65521 → w * d ≡ 65521 * q → ⊥
+descend : (fuel w d q : ℕ) → d ≤ fuel → 0 < d → d < 256 → 0 < w → w < modulus → w * d ≡ modulus * q → ⊥
 descend zero w d q f a b h l e = omega arith
 descend (suc fuel) w d q f a b h l e =
     ⊎-elim
-    (λ (one : 1 ≡ d). let g : w * 1 ≡ 65521 * q = rw (← one) at e in omega (arith, mul-one w))
+    (λ (one : 1 ≡ d). let g : w * 1 ≡ modulus * q = rw (← one) at e in omega (arith, mul-one w))
     (λ (two : 1 < d).
-    let t : ℕ = 65521 / d in
-    let r : ℕ = 65521 % d in
-    let m : t * d + r ≡ 65521 = div-add-mod' 65521 d in
-    let less : r < d = mod-lt 65521 a in
-    let p : 65521 * (q * t) + w * r ≡ 65521 * w =
-    rw (← mul-assoc 65521 q t, ← e, mul-assoc w d t, mul-comm d t, ← mul-add w (t * d) r, m, mul-comm w 65521) in
+    let t : ℕ = modulus / d in
+    let r : ℕ = modulus % d in
+    let m : t * d + r ≡ modulus = div-add-mod' modulus d in
+    let less : r < d = mod-lt modulus a in
+    let p : modulus * (q * t) + w * r ≡ modulus * w =
+    rw (← mul-assoc modulus q t, ← e, mul-assoc w d t, mul-comm d t, ← mul-add w (t * d) r, m, mul-comm w modulus) in
     descend fuel w r (w - q * t) (omega arith) (no-divisor d two b) (omega arith) h l (omega arith))
     (eq-or-lt-of-le a)
 
 -- the sum with y + 1 more at a place of weight w is another one
-moved : (w x y a b : ℕ) → y < 255 → 0 < w → w < 65521 → (a + (w * (x + (y + 1)) + b)) % 65521 ≡ (a + (w * x + b)) % 65521 → ⊥
+moved : (w x y a b : ℕ) → y < 255 → 0 < w → w < modulus → (a + (w * (x + (y + 1)) + b)) % modulus ≡ (a + (w * x + b)) % modulus → ⊥
 moved w x y a b hy h l e =
     let f : w * (x + (y + 1)) ≡ w * x + w * (y + 1) = mul-add w x (y + 1) in
-    let g : w * (y + 1) ≡ 65521 * (w * (y + 1) / 65521) = omega arith in
-    descend 255 w (y + 1) (w * (y + 1) / 65521) (omega arith) (omega arith) (omega arith) h l g
+    let g : w * (y + 1) ≡ modulus * (w * (y + 1) / modulus) = omega arith in
+    descend 255 w (y + 1) (w * (y + 1) / modulus) (omega arith) (omega arith) (omega arith) h l g
 
 order : (x y : ℕ) → (x ≤ y) ⊎ (y ≤ x)
 order zero y = inl (omega arith)
@@ -80,8 +80,8 @@ one-byte s k x hs hk hy hx differ e =
     let b : ℕ = weigh (k + 1) (drop (suc k) s) in
     let new : weigh 0 (set s k x) ≡ a + ((k + 1) * x + b) = rw (set-split s k x hk) (weigh-at s k x hk) in
     let old : weigh 0 s ≡ a + ((k + 1) * y + b) = ap (weigh 0) (split-at s k 0 hk) ∙ weigh-at s k y hk in
-    let same : (a + ((k + 1) * x + b)) % 65521 ≡ (a + ((k + 1) * y + b)) % 65521 =
-    ap (λ (z : ℕ). z % 65521) (sym new) ∙ e ∙ ap (λ (z : ℕ). z % 65521) old in
+    let same : (a + ((k + 1) * x + b)) % modulus ≡ (a + ((k + 1) * y + b)) % modulus =
+    ap (λ (z : ℕ). z % modulus) (sym new) ∙ e ∙ ap (λ (z : ℕ). z % modulus) old in
     ⊎-elim
     (λ (up : x ≤ y).
     let f : x + (y - x - 1 + 1) ≡ y = omega arith in

@@ -5,6 +5,9 @@ use Prim.Native.Nat.{ℕ, _+_, _*_, _%_}
 use mathlib.Core.List.{List, [], _∷_}
 pub mod Laws
 
+abbrev pub modulus : ℕ
+modulus = 65521
+
 -- the sum of (k + 1) × byte k, where the first byte of the list is byte k
 abbrev pub weigh : ℕ → List ℕ → ℕ
 weigh k [] = 0
@@ -12,4 +15,4 @@ weigh k (x ∷ l) = (k + 1) * x + weigh (k + 1) l
 
 -- 01: "check"
 unfoldable pub sumOf : List ℕ → ℕ
-sumOf s = weigh 0 s % 65521
+sumOf s = weigh 0 s % modulus

@@ -9,7 +9,7 @@ use mathlib.Core.List.{List, [], _∷_}
 use native.Mathlib.Omega.{arith}
 use native.Mathlib.Nat.{mul-le-mul, le-refl}
 use lib.ListN.{length}
-use Rattle.base.specs.Limits.{pairLimit, totalLimit}
+use Rattle.base.specs.Limits.{pairLimit, totalLimit, prefixFactor}
 use Rattle.base.specs.Sums.{sumFrom, least}
 use Rattle.costs.specs.Instance.{Instance}
 use Rattle.costs.specs.Problem.{Problem, InDomains, Full, ClosedBy, Closed, Laws, closed-least}
@@ -103,7 +103,7 @@ module _ (I : Instance) (s : Sound I) where
   against-limit j v [] = omega arith
   against-limit j v (u ∷ b) = omega (arith, s .small (length b) u j v, against-limit j v b)
 
-  cost-and-more : (b : List ℕ) → costOf I b + 30000 * length b ≤ 30000 * (length b * length b)
+  cost-and-more : (b : List ℕ) → costOf I b + prefixFactor * length b ≤ prefixFactor * (length b * length b)
   cost-and-more [] = omega arith
   cost-and-more (v ∷ b) = omega (arith, cost-and-more b, against-limit (length b) v b)
 

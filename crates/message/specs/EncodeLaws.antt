@@ -59,7 +59,7 @@ fields-laid k m z =
 -- the two bytes after the body
 pub sum-laid : (p : List ℕ) (x : ℕ) → length p ≡ 62 → set (set (p ++ 0 ∷ 0 ∷ []) 62 (x % 256)) 63 (x / 256 % 256) ≡ p ++ le16 x
 sum-laid p x e =
-    let g : length (p ++ 0 ∷ 0 ∷ []) ≡ 64 = simp length-append (omega arith) in
+    let g : length (p ++ 0 ∷ 0 ∷ []) ≡ messageSize = simp length-append (omega arith) in
     sets-eq (le16 x) (p ++ 0 ∷ 0 ∷ []) 62 (omega arith) ∙ field-next p (replicate 2 0) (le16 x) 62 2 e refl ∙ append-nil (p ++ le16 x)
 
 -- ------------------------------------------------------------------------------------------------------------------

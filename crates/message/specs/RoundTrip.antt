@@ -97,9 +97,9 @@ module _ (k : Kind) (m : Message) (z : Sized m) where
       let b : List ℕ = body k m in
       let x : ℕ = sumOf b in
       let h : length b ≡ 62 = length-body k m z in
-      let l : length (b ++ le16 x) ≡ 64 = length-encode k m z in
+      let l : length (b ++ le16 x) ≡ messageSize = length-encode k m z in
       let u : u16At (b ++ le16 x) 62 ≡ x = u16-after b (le16 x) 62 h ∙ u16-of-le16 x (omega (arith, sum-small b)) in
-      rw (eq-eqb (length (b ++ le16 x)) 64 l, take-at b (le16 x) 62 h) (eq-eqb (u16At (b ++ le16 x) 62) x u)
+      rw (eq-eqb (length (b ++ le16 x)) messageSize l, take-at b (le16 x) 62 h) (eq-eqb (u16At (b ++ le16 x) 62) x u)
 
   -- each field is read where it was laid
   stamp-of-encode : take 16 (drop 4 (encode k m)) ≡ m .stamp
@@ -208,7 +208,7 @@ pub parse-written : (n : ℕ) (sizes : List ℕ) (k : Kind) (m : Message) (out :
     → parseOf n sizes (take messageSize (packetInto n sizes k m out)) ≡ record { answer = Good k; message = m }
 parse-written n sizes k m out z e =
     let a : Writable n sizes k m (length out) = writable n sizes k m (length out) e in
-    let g : take messageSize (packetInto n sizes k m out) ≡ encode k m = ap (λ (l : List ℕ). take 64 l) (write-done n sizes k m out e) ∙ take-at (encode k m) (drop (0 + length (encode k m)) out) 64 (length-encode k m z) in
+    let g : take messageSize (packetInto n sizes k m out) ≡ encode k m = ap (λ (l : List ℕ). take messageSize l) (write-done n sizes k m out e) ∙ take-at (encode k m) (drop (0 + length (encode k m)) out) messageSize (length-encode k m z) in
     rw (g, receiver-of-encode k m z) (parse-encode n sizes k m (a .shape) (a .address) (a .formed) z)
 
 -- ------------------------------------------------------------------------------------------------------------------
@@ -312,7 +312,7 @@ module _ (s : List ℕ) (l : length s ≡ messageSize) (bytes : AllBytes s) (k :
   encode-again =
       let c : u16At s 62 ≡ sumOf (take 62 s) = eqb-true (u16At s 62) (sumOf (take 62 s)) (and-right (eqb (length s) messageSize) _ check) in
       let e : le16 (sumOf (body k (messageIn s))) ≡ take 2 (drop 62 s) = ap (λ (b : List ℕ). le16 (sumOf b)) body-again ∙ ap le16 (sym c) ∙ le16-again s 62 (omega arith) bytes in
-      ap (λ (b : List ℕ). b ++ le16 (sumOf (body k (messageIn s)))) body-again ∙ ap (λ (w : List ℕ). take 62 s ++ w) e ∙ sym (take-add 62 2 s) ∙ take-all 64 s (omega arith)
+      ap (λ (b : List ℕ). b ++ le16 (sumOf (body k (messageIn s)))) body-again ∙ ap (λ (w : List ℕ). take 62 s ++ w) e ∙ sym (take-add 62 2 s) ∙ take-all messageSize s (omega arith)
 
 -- the fields of 64 bytes are sized as the types of the code say
 pub sized-in : (s : List ℕ) → length s ≡ messageSize → AllBytes s → Sized (messageIn s)

@@ -3,6 +3,7 @@
 use crate::Kind;
 use crate::Message;
 use crate::kind_code;
+use base::MESSAGE_SIZE;
 ghost use mathlib.Core.Path.{_≡_};
 ghost use Prim.Native.Nat.{_+_, _≤_};
 ghost use mathlib.Core.List.{_++_, _∷_, []};
@@ -16,10 +17,10 @@ ghost use Rattle.message.specs.Encode.{body, encode, putRefusal, putInto
 pub fn put(kind: Kind, m: Message, out: &mut [u8], at: usize) -> u8
     ensures { λ r. ⌜ (r ≡ putRefusal (length (now (out .entry))) at) × (now (out .exit) ≡ putInto kind m (now (out .entry)) at) ⌝ }
 {
-    if out.len() < base::MESSAGE_SIZE {
+    if out.len() < MESSAGE_SIZE {
         return 13;
     }
-    if out.len() - base::MESSAGE_SIZE < at {
+    if out.len() - MESSAGE_SIZE < at {
         return 13;
     }
     let bytes = encode(kind, m);
@@ -28,7 +29,7 @@ pub fn put(kind: Kind, m: Message, out: &mut [u8], at: usize) -> u8
 }
 
 // The 64 bytes.
-fn encode(kind: Kind, m: Message) -> [u8; 64]
+fn encode(kind: Kind, m: Message) -> [u8; MESSAGE_SIZE]
     ensures { λ r. ⌜ r ≡ encode kind m ⌝ }
 {
     let mut r = body(kind, m);
@@ -39,10 +40,10 @@ fn encode(kind: Kind, m: Message) -> [u8; 64]
 }
 
 // Bytes 0 to 61, and zeros for the checksum.
-fn body(kind: Kind, m: Message) -> [u8; 64]
+fn body(kind: Kind, m: Message) -> [u8; MESSAGE_SIZE]
     ensures { λ r. ⌜ r ≡ body kind m ++ 0 ∷ 0 ∷ [] ⌝ }
 {
-    let mut r0 = [0u8; 64];
+    let mut r0 = [0u8; MESSAGE_SIZE];
     r0[0] = kind_code(kind);
     r0[1] = m.sender;
     r0[2] = m.receiver;
@@ -57,7 +58,7 @@ fn body(kind: Kind, m: Message) -> [u8; 64]
 }
 
 // 16 places laid at `at`.
-fn with_places(r: [u8; 64], at: usize, field: [u8; 16]) -> [u8; 64]
+fn with_places(r: [u8; MESSAGE_SIZE], at: usize, field: [u8; 16]) -> [u8; MESSAGE_SIZE]
     requires { ⌜ at + places ≤ messageSize ⌝ }
     ensures { λ q. ⌜ q ≡ putAt r at field ⌝ }
 {
@@ -67,7 +68,7 @@ fn with_places(r: [u8; 64], at: usize, field: [u8; 16]) -> [u8; 64]
 }
 
 // A number laid at `at`, as four bytes.
-fn with_number(r: [u8; 64], at: usize, x: u32) -> [u8; 64]
+fn with_number(r: [u8; MESSAGE_SIZE], at: usize, x: u32) -> [u8; MESSAGE_SIZE]
     requires { ⌜ at + 4 ≤ messageSize ⌝ }
     ensures { λ q. ⌜ q ≡ putAt r at (le32 x) ⌝ }
 {

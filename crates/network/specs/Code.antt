@@ -17,7 +17,7 @@ use lib.Seq.{paste}
 use borrow.Author.Tests.{lt-ltb, le-ltb, ltb-false, le-leb, lt-leb, leb-true, leb-false}
 use Rattle.base.specs.Shape.Laws.{and-left, and-right}
 use Rattle.base.specs.Refusal.Laws.{or-left, or-right, or-first}
-use Rattle.base.specs.Limits.{poolCells, poolSize, sendingSize}
+use Rattle.base.specs.Limits.{poolCells, poolSize, sendingSize, messageSize, costsSize}
 use Rattle.table.specs.Stream.{unitsOf, streamRefusal, Accepted}
 use Rattle.table.specs.StreamLaws.{accepted-units}
 use Rattle.costs.specs.Instance.{viewOf, instanceOf}
@@ -154,10 +154,10 @@ receiver-range n bytes l = go (isUnit n (getD bytes 2 0)) refl
 -- ---- the gathered costs, in front of a buffer of 7,680 bytes or more
 
 module _ (s : List ℕ) (ok : Accepted s) (own : ℕ) (first : 1 ≤ own) (last : own ≤ unitsOf s) where
-  pub lent-count : (room : ℕ) (g : Length) → 7680 ≤ room → g ≡ gatherOf s own room → g .length ≤ 7680
+  pub lent-count : (room : ℕ) (g : Length) → costsSize ≤ room → g ≡ gatherOf s own room → g .length ≤ costsSize
   lent-count room g h e = rw (e, gather-enough s ok own first last room h) (gathered-most s ok own first last)
 
-  pub lent-front : (l out : List ℕ) (g : Length) → 7680 ≤ length l → g ≡ gatherOf s own (length l) → out ≡ gatherInto s own l → take (g .length - 0) (drop 0 out) ≡ gathered s own
+  pub lent-front : (l out : List ℕ) (g : Length) → costsSize ≤ length l → g ≡ gatherOf s own (length l) → out ≡ gatherInto s own l → take (g .length - 0) (drop 0 out) ≡ gathered s own
   lent-front l out g h e f = rw (sub-zero, e, f) (gather-front s ok own first last l h)
 
 -- ---- the step
@@ -236,7 +236,7 @@ storedAnswer net own r =
 
 abbrev pub storedPool : Network → ℕ → Outcome → List ℕ → List ℕ → List ℕ
 storedPool net cell r out pool =
-    cond (leb (net .used - 1 + r .sent) poolCells) (paste (closeGap pool (64 * cell) (64 * net .used)) (64 * (net .used - 1)) out (64 * r .sent)) pool
+    cond (leb (net .used - 1 + r .sent) poolCells) (paste (closeGap pool (messageSize * cell) (messageSize * net .used)) (messageSize * (net .used - 1)) out (messageSize * r .sent)) pool
 
 module _ (net : Network) (s pool : List ℕ) (cell own : ℕ) (was : UnitState) (o : Decision) (r : Outcome) (told : r ≡ outcomeOf (unitsOf s) (pred own) was o) where
   -- a step never sends more than 16 packets
@@ -256,7 +256,7 @@ module _ (net : Network) (s pool : List ℕ) (cell own : ℕ) (was : UnitState) 
       go (U.refused x) e = (rw e, refl)
       go (U.accepted u m ws) e = absurd (z (rw e))
 
-  pub deliver-stores : r .refusal ≡ 0 → Numbered o → Whenever (GoodDecision (unitsOf s) (sizesIn s) (viewOf (instanceOf s) (pred own)) 16) o → cell < net .used → 64 * net .used ≤ length pool
+  pub deliver-stores : r .refusal ≡ 0 → Numbered o → Whenever (GoodDecision (unitsOf s) (sizesIn s) (viewOf (instanceOf s) (pred own)) 16) o → cell < net .used → messageSize * net .used ≤ length pool
       → (out was-out : List ℕ) → out ≡ bytesOf (unitsOf s) (pred own) was-out o
       → (storedAnswer net own r ≡ onOut net pool cell (unitsOf s) own o .answer) × (storedPool net cell r out pool ≡ onOut net pool cell (unitsOf s) own o .pool)
   deliver-stores z number k inside fits out was-out sent = go o told number k sent
@@ -269,9 +269,9 @@ module _ (net : Network) (s pool : List ℕ) (cell own : ℕ) (was : UnitState) 
           ps : List Packet
           ps = packets (unitsOf s) (pred own) m
 
-          bytes : take (64 * length (packets (unitsOf s) (pred own) m)) out ≡ encodeAll (packets (unitsOf s) (pred own) m)
+          bytes : take (messageSize * length (packets (unitsOf s) (pred own) m)) out ≡ encodeAll (packets (unitsOf s) (pred own) m)
           bytes =
-              ap (take (64 * length (packets (unitsOf s) (pred own) m))) sent
+              ap (take (messageSize * length (packets (unitsOf s) (pred own) m))) sent
               ∙ sent-front (packets (unitsOf s) (pred own) m) was-out (encode-all-length (packets (unitsOf s) (pred own) m) (λ p i. each-of-all _ (packets (unitsOf s) (pred own) m) (k .sent) p i .arrays))
 
           next : Result
@@ -282,13 +282,13 @@ module _ (net : Network) (s pool : List ℕ) (cell own : ℕ) (was : UnitState) 
 
           by-room : (t : Bool)
               → (cond t (record { refusal = 0; network = stepped net own u (length (packets (unitsOf s) (pred own) m)) (length ws) }) (record { refusal = 14; network = net }) ≡ ifFits t net pool next .answer)
-              × (cond t (paste (closeGap pool (64 * cell) (64 * net .used)) (64 * (net .used - 1)) out (64 * length (packets (unitsOf s) (pred own) m))) pool ≡ ifFits t net pool next .pool)
+              × (cond t (paste (closeGap pool (messageSize * cell) (messageSize * net .used)) (messageSize * (net .used - 1)) out (messageSize * length (packets (unitsOf s) (pred own) m))) pool ≡ ifFits t net pool next .pool)
           by-room true = (refl, pool-stored pool (net .used) cell inside fits (packets (unitsOf s) (pred own) m) out bytes)
           by-room false = (refl, refl)
 
 -- ---- a delivery whose checks have passed: n and own as its code has them, and the cell's m bytes
 
-module _ (net : Network) (s pool : List ℕ) (cell : ℕ) (checks : Open net s pool cell) (n own m : ℕ) (units : n ≡ unitsOf s) (size : m ≡ 64) (named : own ≡ receiverOf n (take m (drop (64 * cell) pool))) where
+module _ (net : Network) (s pool : List ℕ) (cell : ℕ) (checks : Open net s pool cell) (n own m : ℕ) (units : n ≡ unitsOf s) (size : m ≡ messageSize) (named : own ≡ receiverOf n (take m (drop (messageSize * cell) pool))) where
   own-is : own ≡ receiverOf (unitsOf s) (cellOf pool cell)
   own-is = named ∙ rw (units, size)
 
@@ -311,7 +311,7 @@ module _ (net : Network) (s pool : List ℕ) (cell : ℕ) (checks : Open net s p
     pub stepping : Stepping s own u
     stepping = record { table = checks .table; first = own-first; last = own-last; state = rw at-place at in-range }
 
-    module _ (before out : List ℕ) (r : Outcome) (told : Stepped s own u (take m (drop (64 * cell) pool)) before r out) (arrays : SizedUnit u) (all : AllBytes (take m (drop (64 * cell) pool))) where
+    module _ (before out : List ℕ) (r : Outcome) (told : Stepped s own u (take m (drop (messageSize * cell) pool)) before r out) (arrays : SizedUnit u) (all : AllBytes (take m (drop (messageSize * cell) pool))) where
       abbrev o : Decision
       o = stepFrom8 s (net .core .units) own (cellOf pool cell)
 

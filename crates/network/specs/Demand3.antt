@@ -14,6 +14,7 @@ use mathlib.Core.Bool.{Bool, true, false, cond}
 use mathlib.Core.List.{List, [], _∷_, _++_, map}
 use lib.Dec.{eqb}
 use lib.ListN.{length, take}
+use Rattle.base.specs.Limits.{messageSize}
 use Rattle.costs.specs.Instance.{Instance, instanceOf}
 use Rattle.costs.specs.Bounds.{Assignment, total, N}
 use Rattle.message.specs.Message.{Packet}
@@ -110,7 +111,7 @@ Honest ended r = ((r ≡ 12) × (ended ≡ true)) ⊎ ((r ≡ 14) ⊎ (r ≡ 15)
 pub record Follows (S : Shed) (H : History) : Type 0 where
   pub units : S .network .core .units ≡ H .units
   pub used : S .network .used ≡ length (H .waiting)
-  pub cells : take (64 * length (H .waiting)) (S .pool) ≡ encodeAll (H .waiting)
+  pub cells : take (messageSize * length (H .waiting)) (S .pool) ≡ encodeAll (H .waiting)
 
 -- ---- one run
 

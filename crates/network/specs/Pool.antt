@@ -3,6 +3,7 @@
 use Prim.Native.Nat.{ℕ, suc, _+_, _*_, _-_}
 use mathlib.Core.List.{List, _++_}
 use lib.ListN.{length, take, drop}
+use Rattle.base.specs.Limits.{messageSize}
 use Rattle.message.specs.Message.{Packet}
 use Rattle.unit.specs.Send.{encodeAll}
 pub mod Laws
@@ -10,16 +11,16 @@ pub mod Stored
 
 -- the bytes of a cell
 abbrev pub cellOf : List ℕ → ℕ → List ℕ
-cellOf pool cell = take 64 (drop (64 * cell) pool)
+cellOf pool cell = take messageSize (drop (messageSize * cell) pool)
 
 -- the cells behind one, up to those in use
 abbrev pub laterCells : List ℕ → ℕ → ℕ → List ℕ
-laterCells pool used cell = take (64 * (used - suc cell)) (drop (64 * suc cell) pool)
+laterCells pool used cell = take (messageSize * (used - suc cell)) (drop (messageSize * suc cell) pool)
 
 -- 01: "closes the gap by moving later cells down one, and adds what the step sends at the end; bytes past the last cell then in use stay"
 unfoldable pub poolAfter : ℕ → ℕ → List Packet → List ℕ → List ℕ
-poolAfter used cell ps pool = take (64 * cell) pool ++ laterCells pool used cell ++ encodeAll ps ++ drop (64 * (used - 1 + length ps)) pool
+poolAfter used cell ps pool = take (messageSize * cell) pool ++ laterCells pool used cell ++ encodeAll ps ++ drop (messageSize * (used - 1 + length ps)) pool
 
 -- the 64 bytes at `at` taken out: what lies up to `end` moves down, and the rest stays
 abbrev pub closeGap : List ℕ → ℕ → ℕ → List ℕ
-closeGap pool at end = take at pool ++ take (end - (at + 64)) (drop (at + 64) pool) ++ drop (end - 64) pool
+closeGap pool at end = take at pool ++ take (end - (at + messageSize)) (drop (at + messageSize) pool) ++ drop (end - messageSize) pool

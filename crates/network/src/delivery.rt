@@ -5,6 +5,7 @@ use crate::Network;
 use crate::counting::plus;
 use crate::pool::close;
 use crate::pool::copy_in;
+use base::MESSAGE_SIZE;
 use unit::Outcome;
 use unit::Unit;
 ghost use mathlib.Core.Path.{_≡_};
@@ -21,6 +22,9 @@ ghost use Rattle.unit.specs.State.{paidInRange};
 ghost use Rattle.unit.specs.Laws.Range.{SizedUnit};
 ghost use Rattle.network.specs.Calls.{deliverRefusal, receiverOf, stepped, deliverBy, deliverOf};
 ghost use Rattle.network.specs.Code.{unitInRange, Open, Stepping, Stepped, Storing, storedAnswer, storedPool};
+
+// The cells of the pool, as a number of places.
+const CELLS: usize = base::POOL_CELLS as usize;
 
 // The message at a cell is delivered: the network and pool after it, or a refusal with both as lent. Refusals 13, 5, 6, 7, 5, 12, 15, then
 // the step's from 8 on, then 14.
@@ -100,8 +104,8 @@ fn hand_over(net: Network, stream: &[u8], pool: &mut [u8], cell: usize) -> Answe
     requires { ⌜ Open net (now stream) (now pool) cell ⌝ }
     ensures { λ r. ⌜ (r ≡ deliverBy 0 net (now (stream .entry)) (now (pool .entry)) cell .answer) × (now (pool .exit) ≡ deliverBy 0 net (now (stream .entry)) (now (pool .entry)) cell .pool) ⌝ }
 {
-    let at = 64 * cell;
-    let end = at + 64;
+    let at = MESSAGE_SIZE * cell;
+    let end = at + MESSAGE_SIZE;
     let own = receiver(base::byte_at(stream, 0), &pool[at..end]);
     let core = net.core;
     let units = core.units;
@@ -136,7 +140,7 @@ fn step(u: Unit, stream: &[u8], own: u8, packet: &[u8], out: &mut [u8]) -> Outco
 {
     let n = base::byte_at(stream, 0);
     let sizes = costs::sizes_of(stream);
-    let mut costs = [0u8; 7680];
+    let mut costs = [0u8; base::COSTS_SIZE];
     let gathered = costs::gather(stream, own, &mut costs);
     let count = gathered.length;
     unit::step(u, own, n, sizes, &costs[0..count], packet, out)
@@ -149,14 +153,14 @@ fn store(net: Network, pool: &mut [u8], cell: usize, own: u8, r: Outcome, out: &
 {
     let used = net.used as usize;
     let sent = r.sent as usize;
-    if 1024 < used - 1 + sent {
+    if CELLS < used - 1 + sent {
         return Answer {
             refusal: 14,
             network: net,
         };
     }
-    close(pool, 64 * cell, 64 * used);
-    copy_in(pool, 64 * (used - 1), out, 64 * sent);
+    close(pool, MESSAGE_SIZE * cell, MESSAGE_SIZE * used);
+    copy_in(pool, MESSAGE_SIZE * (used - 1), out, MESSAGE_SIZE * sent);
     Answer {
         refusal: 0,
         network: advance(net, own, r),

@@ -53,7 +53,7 @@ fn first_step(stream: &[u8], pool: &mut [u8]) -> Outcome
 {
     let n = base::byte_at(stream, 0);
     let sizes = costs::sizes_of(stream);
-    let mut costs = [0u8; 7680];
+    let mut costs = [0u8; base::COSTS_SIZE];
     let gathered = costs::gather(stream, 1, &mut costs);
     let count = gathered.length;
     unit::make(1, n, sizes, &costs[0..count], pool)

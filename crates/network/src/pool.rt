@@ -1,20 +1,22 @@
 // Cells of the pool moved and written.
 
+use base::MESSAGE_SIZE;
 ghost use mathlib.Core.Path.{_≡_};
 ghost use Prim.Native.Nat.{_+_, _≤_};
 ghost use lib.ListN.{length};
 ghost use lib.Seq.{paste};
+ghost use Rattle.base.specs.Limits.{messageSize};
 ghost use Rattle.network.specs.Pool.{closeGap};
 
 // The bytes from `at` + 64 to `end` move down by 64; those from `end` - 64 on stay as they were.
 pub(crate) fn close(pool: &mut [u8], at: usize, end: usize)
-    requires { ⌜ (at + 64 ≤ end) × (end ≤ length (now pool)) ⌝ }
+    requires { ⌜ (at + messageSize ≤ end) × (end ≤ length (now pool)) ⌝ }
     ensures { λ r. ⌜ now (pool .exit) ≡ closeGap (now (pool .entry)) at end ⌝ }
 {
-    let n = end - at - 64;
+    let n = end - at - MESSAGE_SIZE;
     let mut j = 0;
     while j < n {
-        pool[at + j] = pool[at + 64 + j];
+        pool[at + j] = pool[at + MESSAGE_SIZE + j];
         j += 1;
     }
 }

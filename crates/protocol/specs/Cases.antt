@@ -6,6 +6,7 @@ use mathlib.Core.Path.{_≡_, refl}
 use mathlib.Core.Bool.{Bool, true, false}
 use mathlib.Core.List.{List, [], _∷_, map}
 use lib.ListN.{length, getD}
+use Rattle.base.specs.Limits.{poolCells}
 use Rattle.costs.specs.Instance.{Instance}
 use Rattle.costs.specs.Laws.{problemOf}
 use Rattle.protocol.specs.Machine.{make, deliver, run}
@@ -14,7 +15,7 @@ use Rattle.protocol.specs.Demand3.{written, most}
 -- what is seen of a run: whether unit 1 has stopped, its bound and best assignment (the last unit's value first), records, accepted deliveries
 abbrev after : Instance → List ℕ → Bool × ℕ × List ℕ × ℕ × ℕ
 after I cells =
-    let S = run (problemOf I) 1024 (make (problemOf I)) cells in
+    let S = run (problemOf I) poolCells (make (problemOf I)) cells in
     (S .units 0 .stopped, S .units 0 .bound, S .units 0 .best, length (written (S .units) (I .n)), S .accepted)
 
 -- 01: "Table T: n = 2, sizes 2 and 2, costs 5, 3, 2, 4"

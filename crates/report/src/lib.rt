@@ -27,7 +27,7 @@ pub fn print_settled(file: &[u8]) -> u8
 fn print_file(file: &[u8], settled: bool) -> u8
     ensures { λ r. ⌜ r ≡ fileRefusal (refusalBy settled) (now (file .entry)) ⌝ }
 {
-    let mut stream = [0u8; 61457];
+    let mut stream = [0u8; base::STREAM_SIZE];
     let r = table::read(file, &mut stream);
     let refusal = r.refusal;
     if refusal != 0 {
@@ -70,7 +70,7 @@ fn print_found(stream: &[u8]) -> u8
 fn print_run(stream: &[u8]) -> u8
     ensures { λ r. ⌜ r ≡ settleRefusal (now (stream .entry)) ⌝ }
 {
-    let mut pool = [0u8; 65536];
+    let mut pool = [0u8; base::POOL_SIZE];
     let answer = network::settle(stream, &mut pool);
     let refusal = answer.refusal;
     if refusal != 0 {

@@ -1,12 +1,10 @@
 // Prints the listings of the sample sheds of data/, each after its name; then that of T with the newest message delivered each time,
 // and with counts past one word.
+use base::FILE_ROOM;
 use libc::STDOUT_FILENO;
 use network::Core;
 use network::Count;
 use network::Network;
-
-// Room for one block more than a table may have.
-const FILE: usize = 62976;
 
 fn main() {
     // 1 to 6 units; equal totals; no costs; all costs equal; 16 values; 8, 12 and 16 units
@@ -33,7 +31,7 @@ fn main() {
 }
 
 fn show(name: &[u8]) {
-    let mut file = [0u8; FILE];
+    let mut file = [0u8; FILE_ROOM];
     let fd = os::open_read(name);
     if fd < 0 {
         os::fail(name);
@@ -49,7 +47,7 @@ fn show(name: &[u8]) {
 // The run of T that delivers the last cell each time, 10 times.
 fn newest_first() -> Network {
     let stream = [2u8, 2, 2, 5, 0, 3, 0, 2, 0, 4, 0];
-    let mut pool = [0u8; 65536];
+    let mut pool = [0u8; base::POOL_SIZE];
     let made = network::make(&stream, &mut pool);
     let mut net = made.network;
     let mut k: usize = 0;

@@ -12,6 +12,7 @@ use lib.Dec.{eqb, leb}
 use lib.ListN.{length, getD, take, drop, replicate, length-take, length-drop, length-append, length-replicate, drop-of-length-le, take-append-drop}
 use lib.Seq.{drop-cons, length-take-le, getD-take, take-add, take-all, take-take, take-at, drop-at, drop-drop, getD-append-add}
 use borrow.Author.Tests.{eqb-true, leb-true, eq-eqb, ne-eqb}
+use Rattle.base.specs.Limits.{blockSize, payloadSize, checkedSize}
 use Rattle.base.specs.Bytes.{u16At, le16, AllBytes}
 use Rattle.base.specs.Bytes.Laws.{u16-of-le16, le16-again}
 use Rattle.base.specs.Shape.Laws.{and-left, and-right}
@@ -44,41 +45,41 @@ module _ {w : Bool} (b : List ℕ) (i m : ℕ) (most : m ≤ length b) (inv : w 
 
 -- ---- the answers of blockRefusal, in their order
 
-pub count-most : (last : Bool) (c : ℕ) → countGood last c ≡ true → c ≤ 506
-count-most true c e = leb-true c 506 (and-right (leb 1 c) (leb c 506) e)
-count-most false c e = omega (arith, eqb-true c 506 e)
+pub count-most : (last : Bool) (c : ℕ) → countGood last c ≡ true → c ≤ payloadSize
+count-most true c e = leb-true c payloadSize (and-right (leb 1 c) (leb c payloadSize) e)
+count-most false c e = omega (arith, eqb-true c payloadSize e)
 
 module _ (k : ℕ) (last : Bool) (b : List ℕ) where
-  pub refused-size : (length b ≡ 512 → ⊥) → 1 ≡ blockRefusal k last b
+  pub refused-size : (length b ≡ blockSize → ⊥) → 1 ≡ blockRefusal k last b
   unfolding blockRefusal
-  refused-size h = rw (ne-eqb (length b) 512 h)
+  refused-size h = rw (ne-eqb (length b) blockSize h)
 
-  module _ (l : length b ≡ 512) where
-    pub refused-check : (checkOf b ≡ sumOf (take 510 b) → ⊥) → 4 ≡ blockRefusal k last b
+  module _ (l : length b ≡ blockSize) where
+    pub refused-check : (checkOf b ≡ sumOf (take checkedSize b) → ⊥) → 4 ≡ blockRefusal k last b
     unfolding blockRefusal
-    refused-check h = simp (eq-eqb (length b) 512 l, ne-eqb (checkOf b) (sumOf (take 510 b)) h)
+    refused-check h = simp (eq-eqb (length b) blockSize l, ne-eqb (checkOf b) (sumOf (take checkedSize b)) h)
 
-    module _ (s : checkOf b ≡ sumOf (take 510 b)) where
+    module _ (s : checkOf b ≡ sumOf (take checkedSize b)) where
       pub refused-number : (blockNumber b ≡ k → ⊥) → 2 ≡ blockRefusal k last b
       unfolding blockRefusal
-      refused-number h = simp (eq-eqb (length b) 512 l, eq-eqb (checkOf b) (sumOf (take 510 b)) s, ne-eqb (blockNumber b) k h)
+      refused-number h = simp (eq-eqb (length b) blockSize l, eq-eqb (checkOf b) (sumOf (take checkedSize b)) s, ne-eqb (blockNumber b) k h)
 
       module _ (n : blockNumber b ≡ k) (c : ℕ) (e : c ≡ payloadCount b) where
         by-payload : (x : Bool) → (countGood last (payloadCount b) && allZero (unusedOf b)) ≡ x → cond x 0 3 ≡ blockRefusal k last b
         unfolding blockRefusal
-        by-payload x h = simp (eq-eqb (length b) 512 l, eq-eqb (checkOf b) (sumOf (take 510 b)) s, eq-eqb (blockNumber b) k n, h)
+        by-payload x h = simp (eq-eqb (length b) blockSize l, eq-eqb (checkOf b) (sumOf (take checkedSize b)) s, eq-eqb (blockNumber b) k n, h)
 
         pub refused-count : countGood last c ≡ false → 3 ≡ blockRefusal k last b
         refused-count h = let g : countGood last (payloadCount b) ≡ false = rw e at h in by-payload false (rw g)
 
         module _ (h : countGood last c ≡ true) where
-          pub refused-unused : allZero (drop (4 + c) (take 510 b)) ≡ false → 3 ≡ blockRefusal k last b
+          pub refused-unused : allZero (drop (4 + c) (take checkedSize b)) ≡ false → 3 ≡ blockRefusal k last b
           refused-unused u =
               let g : countGood last (payloadCount b) ≡ true = rw e at h in
               let z : allZero (unusedOf b) ≡ false = rw e at u in
               by-payload false (rw (g, z))
 
-          pub accepted-of : allZero (drop (4 + c) (take 510 b)) ≡ true → 0 ≡ blockRefusal k last b
+          pub accepted-of : allZero (drop (4 + c) (take checkedSize b)) ≡ true → 0 ≡ blockRefusal k last b
           accepted-of u =
               let g : countGood last (payloadCount b) ≡ true = rw e at h in
               let z : allZero (unusedOf b) ≡ true = rw e at u in
@@ -94,15 +95,15 @@ passed true true true false h = absurd (omega arith)
 passed true true true true h = (refl, refl, refl, refl)
 
 module _ (k : ℕ) (last : Bool) (b : List ℕ) (ok : blockRefusal k last b ≡ 0) where
-  tests : (eqb (length b) 512 ≡ true) × (eqb (checkOf b) (sumOf (take 510 b)) ≡ true) × (eqb (blockNumber b) k ≡ true) × ((countGood last (payloadCount b) && allZero (unusedOf b)) ≡ true)
+  tests : (eqb (length b) blockSize ≡ true) × (eqb (checkOf b) (sumOf (take checkedSize b)) ≡ true) × (eqb (blockNumber b) k ≡ true) × ((countGood last (payloadCount b) && allZero (unusedOf b)) ≡ true)
   unfolding blockRefusal
-  tests = passed (eqb (length b) 512) (eqb (checkOf b) (sumOf (take 510 b))) (eqb (blockNumber b) k) (countGood last (payloadCount b) && allZero (unusedOf b)) ok
+  tests = passed (eqb (length b) blockSize) (eqb (checkOf b) (sumOf (take checkedSize b))) (eqb (blockNumber b) k) (countGood last (payloadCount b) && allZero (unusedOf b)) ok
 
-  pub block-size : length b ≡ 512
-  block-size = eqb-true (length b) 512 (tests .0)
+  pub block-size : length b ≡ blockSize
+  block-size = eqb-true (length b) blockSize (tests .0)
 
-  pub block-check : checkOf b ≡ sumOf (take 510 b)
-  block-check = eqb-true (checkOf b) (sumOf (take 510 b)) (tests .1)
+  pub block-check : checkOf b ≡ sumOf (take checkedSize b)
+  block-check = eqb-true (checkOf b) (sumOf (take checkedSize b)) (tests .1)
 
   pub block-number : blockNumber b ≡ k
   block-number = eqb-true (blockNumber b) k (tests .2)
@@ -113,7 +114,7 @@ module _ (k : ℕ) (last : Bool) (b : List ℕ) (ok : blockRefusal k last b ≡ 
   pub block-unused : allZero (unusedOf b) ≡ true
   block-unused = and-right (countGood last (payloadCount b)) (allZero (unusedOf b)) (tests .3)
 
-  pub block-most : payloadCount b ≤ 506
+  pub block-most : payloadCount b ≤ payloadSize
   block-most = count-most last (payloadCount b) block-count
 
   pub block-payload-length : length (payloadOf b) ≡ payloadCount b
@@ -137,25 +138,25 @@ zeros zero = refl
 zeros (suc n) = zeros n
 
 -- the two bytes behind a body
-check-back : (a : List ℕ) (x : ℕ) → length a ≡ 510 → x < 65536 → u16At (a ++ le16 x) 510 ≡ x
+check-back : (a : List ℕ) (x : ℕ) → length a ≡ checkedSize → x < 65536 → u16At (a ++ le16 x) checkedSize ≡ x
 check-back a x e h =
-    let i : 510 ≡ length a + 0 = omega arith in
+    let i : checkedSize ≡ length a + 0 = omega arith in
     let j : 511 ≡ length a + 1 = omega arith in
-    let u : getD (a ++ le16 x) 510 0 ≡ x % 256 = ap (λ (n : ℕ). getD (a ++ le16 x) n 0) i ∙ getD-append-add a (le16 x) 0 0 in
+    let u : getD (a ++ le16 x) checkedSize 0 ≡ x % 256 = ap (λ (n : ℕ). getD (a ++ le16 x) n 0) i ∙ getD-append-add a (le16 x) 0 0 in
     let v : getD (a ++ le16 x) 511 0 ≡ x / 256 % 256 = ap (λ (n : ℕ). getD (a ++ le16 x) n 0) j ∙ getD-append-add a (le16 x) 1 0 in
     rw (u, v) (u16-of-le16 x h)
 
-module _ (k : ℕ) (p : List ℕ) (h : length p ≤ 506) where
-  pub body-length : length (bodyOf k p) ≡ 510
+module _ (k : ℕ) (p : List ℕ) (h : length p ≤ payloadSize) where
+  pub body-length : length (bodyOf k p) ≡ checkedSize
   body-length = simp (length-append, length-replicate) (omega arith)
 
-  pub written-size : length (blockOf k p) ≡ 512
+  pub written-size : length (blockOf k p) ≡ blockSize
   unfolding blockOf
   written-size = length-append (bodyOf k p) (le16 (sumOf (bodyOf k p))) ∙ rw body-length
 
-  written-body : take 510 (blockOf k p) ≡ bodyOf k p
+  written-body : take checkedSize (blockOf k p) ≡ bodyOf k p
   unfolding blockOf
-  written-body = take-at (bodyOf k p) (le16 (sumOf (bodyOf k p))) 510 body-length
+  written-body = take-at (bodyOf k p) (le16 (sumOf (bodyOf k p))) checkedSize body-length
 
   written-count : payloadCount (blockOf k p) ≡ length p
   unfolding blockOf
@@ -165,12 +166,12 @@ module _ (k : ℕ) (p : List ℕ) (h : length p ≤ 506) where
   unfolding blockOf
   written-payload =
       ap (λ (n : ℕ). take n (drop 4 (blockOf k p))) written-count
-      ∙ rw (append-assoc p (replicate (506 - length p) 0) (le16 (sumOf (bodyOf k p)))) (take-at p (replicate (506 - length p) 0 ++ le16 (sumOf (bodyOf k p))) (length p) refl)
+      ∙ rw (append-assoc p (replicate (payloadSize - length p) 0) (le16 (sumOf (bodyOf k p)))) (take-at p (replicate (payloadSize - length p) 0 ++ le16 (sumOf (bodyOf k p))) (length p) refl)
 
-  written-unused : unusedOf (blockOf k p) ≡ replicate (506 - length p) 0
+  written-unused : unusedOf (blockOf k p) ≡ replicate (payloadSize - length p) 0
   written-unused =
-      ap (λ (n : ℕ). drop (4 + n) (take 510 (blockOf k p))) written-count ∙ ap (λ (l : List ℕ). drop (4 + length p) l) written-body
-      ∙ sym (drop-drop (length p) 4 (bodyOf k p)) ∙ drop-at p (replicate (506 - length p) 0) (length p) refl
+      ap (λ (n : ℕ). drop (4 + n) (take checkedSize (blockOf k p))) written-count ∙ ap (λ (l : List ℕ). drop (4 + length p) l) written-body
+      ∙ sym (drop-drop (length p) 4 (bodyOf k p)) ∙ drop-at p (replicate (payloadSize - length p) 0) (length p) refl
 
   written-check : checkOf (blockOf k p) ≡ sumOf (bodyOf k p)
   unfolding blockOf
@@ -184,33 +185,33 @@ module _ (k : ℕ) (p : List ℕ) (h : length p ≤ 506) where
   pub written-good : k < 65536 → (last : Bool) → countGood last (length p) ≡ true → blockRefusal k last (blockOf k p) ≡ 0
   written-good l last c =
       sym (accepted-of k last (blockOf k p) written-size (written-check ∙ ap sumOf (sym written-body)) (written-number l) (length p) (sym written-count) c
-      (ap (λ (n : ℕ). allZero (drop (4 + n) (take 510 (blockOf k p)))) (sym written-count) ∙ ap allZero written-unused ∙ zeros (506 - length p)))
+      (ap (λ (n : ℕ). allZero (drop (4 + n) (take checkedSize (blockOf k p)))) (sym written-count) ∙ ap allZero written-unused ∙ zeros (payloadSize - length p)))
 
 pub sum-fits : (x : ℕ) (s : List ℕ) → x ≡ sumOf s → x < 65536
 sum-fits x s e = omega (arith, sum-small s)
 
-two-left : (n c : ℕ) → n ≡ 512 → c ≤ 506 → n - 2 - 2 - c - (506 - c) ≤ 2
+two-left : (n c : ℕ) → n ≡ blockSize → c ≤ payloadSize → n - 2 - 2 - c - (payloadSize - c) ≤ 2
 two-left n c e h = omega arith
 
 -- a block filled part by part in a buffer o of 512 bytes
-pub filled : (k : ℕ) (p o : List ℕ) → length o ≡ 512 → length p ≤ 506 → {b1 b2 b3 b4 b5 : List ℕ} {x : ℕ}
+pub filled : (k : ℕ) (p o : List ℕ) → length o ≡ blockSize → length p ≤ payloadSize → {b1 b2 b3 b4 b5 : List ℕ} {x : ℕ}
     → b1 ≡ putAt o 0 (le16 k) → b2 ≡ putAt b1 2 (le16 (length p)) → b3 ≡ putAt b2 4 p
-    → b4 ≡ putAt b3 (4 + length p) (replicate (510 - (4 + length p)) 0) → x ≡ sumOf (take 510 b4) → b5 ≡ putAt b4 510 (le16 x) → b5 ≡ blockOf k p
+    → b4 ≡ putAt b3 (4 + length p) (replicate (checkedSize - (4 + length p)) 0) → x ≡ sumOf (take checkedSize b4) → b5 ≡ putAt b4 checkedSize (le16 x) → b5 ≡ blockOf k p
 unfolding blockOf
 filled k p o l h {b1} {b2} {b3} {b4} {b5} {x} e1 e2 e3 e4 e5 e6 =
-    let z : List ℕ = replicate (506 - length p) 0 in
+    let z : List ℕ = replicate (payloadSize - length p) 0 in
     let q2 : List ℕ = drop 2 (drop 2 o) in
     let q3 : List ℕ = drop (length p) q2 in
     let q4 : List ℕ = drop (length z) q3 in
     let f1 : b1 ≡ le16 k ++ drop 2 o = e1 ∙ put-next [] o (le16 k) 0 refl in
     let f2 : b2 ≡ le16 k ++ le16 (length p) ++ q2 = e2 ∙ rw f1 (put-next (le16 k) (drop 2 o) (le16 (length p)) 2 refl) in
     let f3 : b3 ≡ le16 k ++ le16 (length p) ++ p ++ q3 = e3 ∙ rw f2 (put-next (le16 k ++ le16 (length p)) q2 p 4 refl) in
-    let n : 510 - (4 + length p) ≡ 506 - length p = omega arith in
+    let n : checkedSize - (4 + length p) ≡ payloadSize - length p = omega arith in
     let m : length (le16 k ++ le16 (length p) ++ p) ≡ 4 + length p = simp length-append (omega arith) in
     let f4 : b4 ≡ bodyOf k p ++ q4 = e4 ∙ rw (f3, n) (put-next (le16 k ++ le16 (length p) ++ p) q3 z (4 + length p) m) in
-    let s : x ≡ sumOf (bodyOf k p) = e5 ∙ ap sumOf (rw f4 (take-at (bodyOf k p) q4 510 (body-length k p h))) in
+    let s : x ≡ sumOf (bodyOf k p) = e5 ∙ ap sumOf (rw f4 (take-at (bodyOf k p) q4 checkedSize (body-length k p h))) in
     let r : length q4 ≤ 2 = simp (length-drop, length-replicate) (two-left (length o) (length p) l h) in
-    let f5 : b5 ≡ bodyOf k p ++ le16 (sumOf (bodyOf k p)) ++ drop 2 q4 = e6 ∙ rw (f4, s) (put-next (bodyOf k p) q4 (le16 (sumOf (bodyOf k p))) 510 (body-length k p h)) in
+    let f5 : b5 ≡ bodyOf k p ++ le16 (sumOf (bodyOf k p)) ++ drop 2 q4 = e6 ∙ rw (f4, s) (put-next (bodyOf k p) q4 (le16 (sumOf (bodyOf k p))) checkedSize (body-length k p h)) in
     f5 ∙ ap (λ (q : List ℕ). bodyOf k p ++ le16 (sumOf (bodyOf k p)) ++ q) (drop-of-length-le q4 r) ∙ append-nil (bodyOf k p ++ le16 (sumOf (bodyOf k p)))
 
 -- ---- a block written again is the same block
@@ -231,15 +232,15 @@ pub written-again : (k : ℕ) (last : Bool) (b : List ℕ) → blockRefusal k la
 unfolding blockOf
 written-again k last b ok bytes =
     let c : ℕ = payloadCount b in
-    let long : length b ≡ 512 = block-size k last b ok in
-    let most : c ≤ 506 = block-most k last b ok in
+    let long : length b ≡ blockSize = block-size k last b ok in
+    let most : c ≤ payloadSize = block-most k last b ok in
     let n : length (payloadOf b) ≡ c = block-payload-length k last b ok in
     let number : le16 k ≡ take 2 b = ap le16 (sym (block-number k last b ok)) ∙ le16-again b 0 (omega arith) bytes in
     let count : le16 (length (payloadOf b)) ≡ take 2 (drop 2 b) = ap le16 n ∙ le16-again b 2 (omega arith) bytes in
-    let l : length (unusedOf b) ≡ 506 - length (payloadOf b) = simp (length-drop, length-take) (omega arith) in
-    let unused : replicate (506 - length (payloadOf b)) 0 ≡ unusedOf b = zeros-are (unusedOf b) (506 - length (payloadOf b)) (block-unused k last b ok) l in
-    let front : take 2 b ++ take 2 (drop 2 b) ++ payloadOf b ≡ take (4 + c) (take 510 b) =
-    rw (← take-add 2 2 b, ← take-add 4 c b) (sym (take-take (4 + c) 510 b (omega arith))) in
-    let body : bodyOf k (payloadOf b) ≡ take 510 b = parts (payloadOf b) number count unused ∙ ap (λ (q : List ℕ). q ++ unusedOf b) front ∙ take-append-drop (4 + c) (take 510 b) in
-    let check : le16 (sumOf (take 510 b)) ≡ drop 510 b = ap le16 (sym (block-check k last b ok)) ∙ le16-again b 510 (omega arith) bytes ∙ take-all 2 (drop 510 b) (simp length-drop (omega arith)) in
-    ap (λ (q : List ℕ). q ++ le16 (sumOf q)) body ∙ ap (λ (q : List ℕ). take 510 b ++ q) check ∙ take-append-drop 510 b
+    let l : length (unusedOf b) ≡ payloadSize - length (payloadOf b) = simp (length-drop, length-take) (omega arith) in
+    let unused : replicate (payloadSize - length (payloadOf b)) 0 ≡ unusedOf b = zeros-are (unusedOf b) (payloadSize - length (payloadOf b)) (block-unused k last b ok) l in
+    let front : take 2 b ++ take 2 (drop 2 b) ++ payloadOf b ≡ take (4 + c) (take checkedSize b) =
+    rw (← take-add 2 2 b, ← take-add 4 c b) (sym (take-take (4 + c) checkedSize b (omega arith))) in
+    let body : bodyOf k (payloadOf b) ≡ take checkedSize b = parts (payloadOf b) number count unused ∙ ap (λ (q : List ℕ). q ++ unusedOf b) front ∙ take-append-drop (4 + c) (take checkedSize b) in
+    let check : le16 (sumOf (take checkedSize b)) ≡ drop checkedSize b = ap le16 (sym (block-check k last b ok)) ∙ le16-again b checkedSize (omega arith) bytes ∙ take-all 2 (drop checkedSize b) (simp length-drop (omega arith)) in
+    ap (λ (q : List ℕ). q ++ le16 (sumOf q)) body ∙ ap (λ (q : List ℕ). take checkedSize b ++ q) check ∙ take-append-drop checkedSize b

@@ -12,7 +12,7 @@ use lib.Dec.{eqb, leb, eqb·suc-zero}
 use lib.ListN.{length, take, drop, length-take, length-drop, length-append, take-append-drop}
 use lib.Seq.{take-at, drop-at, take-all}
 use borrow.Author.Tests.{leb-true, eq-eqb, ne-eqb, le-leb}
-use Rattle.base.specs.Limits.{fileSize, streamSize}
+use Rattle.base.specs.Limits.{fileSize, streamSize, blockSize, payloadSize}
 use Rattle.base.specs.Bytes.{AllBytes}
 use Rattle.base.specs.Bytes.Laws.{bytes-take, bytes-drop}
 use Rattle.base.specs.Shape.Laws.{and-left}
@@ -37,60 +37,60 @@ front-of refusal bytes out z = rw z (take-at bytes (drop (length bytes) out) (le
 -- ---- a stream written and read back
 
 -- the first block of the blocks of s, and the rest
-first-of : (k m : ℕ) (s : List ℕ) → take 512 (fileFrom k (suc m) s) ≡ blockOf k (take 506 s)
+first-of : (k m : ℕ) (s : List ℕ) → take blockSize (fileFrom k (suc m) s) ≡ blockOf k (take payloadSize s)
 unfolding fileFrom
-first-of k m s = take-at (blockOf k (take 506 s)) (fileFrom (suc k) m (drop 506 s)) 512 (block-long k s)
+first-of k m s = take-at (blockOf k (take payloadSize s)) (fileFrom (suc k) m (drop payloadSize s)) blockSize (block-long k s)
 
-rest-of : (k m : ℕ) (s : List ℕ) → drop 512 (fileFrom k (suc m) s) ≡ fileFrom (suc k) m (drop 506 s)
+rest-of : (k m : ℕ) (s : List ℕ) → drop blockSize (fileFrom k (suc m) s) ≡ fileFrom (suc k) m (drop payloadSize s)
 unfolding fileFrom
-rest-of k m s = drop-at (blockOf k (take 506 s)) (fileFrom (suc k) m (drop 506 s)) 512 (block-long k s)
+rest-of k m s = drop-at (blockOf k (take payloadSize s)) (fileFrom (suc k) m (drop payloadSize s)) blockSize (block-long k s)
 
 -- the count of the first of m + 1 blocks fits its place
-count-fits : (m : ℕ) (s : List ℕ) → 506 * m < length s → length s ≤ 506 * suc m → countGood (eqb m 0) (length (take 506 s)) ≡ true
+count-fits : (m : ℕ) (s : List ℕ) → payloadSize * m < length s → length s ≤ payloadSize * suc m → countGood (eqb m 0) (length (take payloadSize s)) ≡ true
 count-fits zero s l h =
-    let a : 1 ≤ length (take 506 s) = simp length-take (omega arith) in
-    simp (le-leb 1 (length (take 506 s)) a, le-leb (length (take 506 s)) 506 (take-most s))
+    let a : 1 ≤ length (take payloadSize s) = simp length-take (omega arith) in
+    simp (le-leb 1 (length (take payloadSize s)) a, le-leb (length (take payloadSize s)) payloadSize (take-most s))
 count-fits (suc m) s l h =
-    let a : length (take 506 s) ≡ 506 = simp length-take (omega arith) in
-    rw (eqb·suc-zero m, eq-eqb (length (take 506 s)) 506 a)
+    let a : length (take payloadSize s) ≡ payloadSize = simp length-take (omega arith) in
+    rw (eqb·suc-zero m, eq-eqb (length (take payloadSize s)) payloadSize a)
 
 -- m + 1 blocks that carry s are accepted
-blocks-accepted : (m k : ℕ) (s : List ℕ) → 506 * m < length s → length s ≤ 506 * suc m → k + m < 65536 → blocksRefusal k (suc m) (fileFrom k (suc m) s) ≡ 0
+blocks-accepted : (m k : ℕ) (s : List ℕ) → payloadSize * m < length s → length s ≤ payloadSize * suc m → k + m < 65536 → blocksRefusal k (suc m) (fileFrom k (suc m) s) ≡ 0
 unfolding blocksRefusal
 blocks-accepted zero k s l h b =
-    rw (first-of k zero s, written-good k (take 506 s) (take-most s) (omega arith) (eqb zero 0) (count-fits zero s l h))
+    rw (first-of k zero s, written-good k (take payloadSize s) (take-most s) (omega arith) (eqb zero 0) (count-fits zero s l h))
 blocks-accepted (suc m) k s l h b =
-    let d : length (drop 506 s) ≡ length s - 506 = length-drop 506 s in
-    rw (first-of k (suc m) s, written-good k (take 506 s) (take-most s) (omega arith) (eqb (suc m) 0) (count-fits (suc m) s l h), rest-of k (suc m) s)
-    (blocks-accepted m (suc k) (drop 506 s) (omega arith) (omega arith) (omega arith))
+    let d : length (drop payloadSize s) ≡ length s - payloadSize = length-drop payloadSize s in
+    rw (first-of k (suc m) s, written-good k (take payloadSize s) (take-most s) (omega arith) (eqb (suc m) 0) (count-fits (suc m) s l h), rest-of k (suc m) s)
+    (blocks-accepted m (suc k) (drop payloadSize s) (omega arith) (omega arith) (omega arith))
 
 -- and their payloads join to s
-joins-back : (m k : ℕ) (s : List ℕ) → length s ≤ 506 * m → joined m (fileFrom k m s) ≡ s
+joins-back : (m k : ℕ) (s : List ℕ) → length s ≤ payloadSize * m → joined m (fileFrom k m s) ≡ s
 unfolding joined
 joins-back zero k [] h = refl
 joins-back zero k (x ∷ s) h = absurd (omega arith)
 joins-back (suc m) k s h =
-    let d : length (drop 506 s) ≡ length s - 506 = length-drop 506 s in
-    rw (first-of k m s, written-payload k (take 506 s) (take-most s), rest-of k m s, joins-back m (suc k) (drop 506 s) (omega arith))
-    (take-append-drop 506 s)
+    let d : length (drop payloadSize s) ≡ length s - payloadSize = length-drop payloadSize s in
+    rw (first-of k m s, written-payload k (take payloadSize s) (take-most s), rest-of k m s, joins-back m (suc k) (drop payloadSize s) (omega arith))
+    (take-append-drop payloadSize s)
 
 module _ (s : List ℕ) (ok : Accepted s) where
   -- 1 to 122 blocks
   blocks : (1 ≤ blocksFor (length s)) × (blocksFor (length s) ≤ 122)
   blocks = let l = accepted-length s ok in let m = accepted-most s ok in (omega arith, omega arith)
 
-  written-blocks : length (fileOf s) / 512 ≡ blocksFor (length s)
+  written-blocks : length (fileOf s) / blockSize ≡ blocksFor (length s)
   written-blocks = rw (written-length s) (omega arith)
 
   written-bytes : sizeGood (length (fileOf s)) ≡ true
   written-bytes =
       let b = blocks in
       let l : length (fileOf s) ≡ 0 → ⊥ = λ e. omega (arith, written-length s) in
-      let m : length (fileOf s) % 512 ≡ 0 = omega (arith, written-length s) in
+      let m : length (fileOf s) % blockSize ≡ 0 = omega (arith, written-length s) in
       let h : length (fileOf s) ≤ fileSize = omega (arith, written-length s) in
-      simp (ne-eqb (length (fileOf s)) 0 l, eq-eqb (length (fileOf s) % 512) 0 m, le-leb (length (fileOf s)) fileSize h)
+      simp (ne-eqb (length (fileOf s)) 0 l, eq-eqb (length (fileOf s) % blockSize) 0 m, le-leb (length (fileOf s)) fileSize h)
 
-  written-passes : blocksRefusal 0 (length (fileOf s) / 512) (fileOf s) ≡ 0
+  written-passes : blocksRefusal 0 (length (fileOf s) / blockSize) (fileOf s) ≡ 0
   unfolding fileOf
   written-passes =
       let m : ℕ = blocksFor (length s) - 1 in
@@ -135,45 +135,45 @@ unfolding Accepted
 stream-passes f e = read-stream f streamSize e
 
 -- 506 bytes from the joined payloads on are the first payload, and behind them the others
-front : (m k : ℕ) (f : List ℕ) → blocksRefusal k (suc m) f ≡ 0 → take 506 (payloadOf (take 512 f) ++ joined m (drop 512 f)) ≡ payloadOf (take 512 f)
+front : (m k : ℕ) (f : List ℕ) → blocksRefusal k (suc m) f ≡ 0 → take payloadSize (payloadOf (take blockSize f) ++ joined m (drop blockSize f)) ≡ payloadOf (take blockSize f)
 unfolding joined
 front zero k f ok =
     let g = first-good k zero f ok in
-    let h : length (payloadOf (take 512 f)) ≤ 506 = omega (arith, block-payload-length k (eqb zero 0) (take 512 f) g, block-most k (eqb zero 0) (take 512 f) g) in
-    ap (λ (l : List ℕ). take 506 l) (append-nil (payloadOf (take 512 f))) ∙ take-all 506 (payloadOf (take 512 f)) h
-front (suc m) k f ok = take-at (payloadOf (take 512 f)) (joined (suc m) (drop 512 f)) 506 (full k m f ok)
+    let h : length (payloadOf (take blockSize f)) ≤ payloadSize = omega (arith, block-payload-length k (eqb zero 0) (take blockSize f) g, block-most k (eqb zero 0) (take blockSize f) g) in
+    ap (λ (l : List ℕ). take payloadSize l) (append-nil (payloadOf (take blockSize f))) ∙ take-all payloadSize (payloadOf (take blockSize f)) h
+front (suc m) k f ok = take-at (payloadOf (take blockSize f)) (joined (suc m) (drop blockSize f)) payloadSize (full k m f ok)
 
 behind : (m k : ℕ) (f : List ℕ) → blocksRefusal k (suc m) f ≡ 0
-    → fileFrom (suc k) m (drop 506 (payloadOf (take 512 f) ++ joined m (drop 512 f))) ≡ fileFrom (suc k) m (joined m (drop 512 f))
+    → fileFrom (suc k) m (drop payloadSize (payloadOf (take blockSize f) ++ joined m (drop blockSize f))) ≡ fileFrom (suc k) m (joined m (drop blockSize f))
 unfolding fileFrom
 behind zero k f ok = refl
-behind (suc m) k f ok = ap (λ (l : List ℕ). fileFrom (suc k) (suc m) l) (drop-at (payloadOf (take 512 f)) (joined (suc m) (drop 512 f)) 506 (full k m f ok))
+behind (suc m) k f ok = ap (λ (l : List ℕ). fileFrom (suc k) (suc m) l) (drop-at (payloadOf (take blockSize f)) (joined (suc m) (drop blockSize f)) payloadSize (full k m f ok))
 
-blocks-again : (m k : ℕ) (f : List ℕ) → length f ≡ 512 * m → blocksRefusal k m f ≡ 0 → AllBytes f → fileFrom k m (joined m f) ≡ f
+blocks-again : (m k : ℕ) (f : List ℕ) → length f ≡ blockSize * m → blocksRefusal k m f ≡ 0 → AllBytes f → fileFrom k m (joined m f) ≡ f
 unfolding fileFrom joined
 blocks-again zero k [] l ok bytes = refl
 blocks-again zero k (x ∷ f) l ok bytes = absurd (omega arith)
 blocks-again (suc m) k f l ok bytes =
-    let d : length (drop 512 f) ≡ 512 * m = length-drop 512 f ∙ omega arith in
-    let r = blocks-again m (suc k) (drop 512 f) d (rest-good k m f ok) (bytes-drop 512 f bytes) in
-    let w = written-again k (eqb m 0) (take 512 f) (first-good k m f ok) (bytes-take 512 f bytes) in
-    rw (front m k f ok, behind m k f ok, w, r) (take-append-drop 512 f)
+    let d : length (drop blockSize f) ≡ blockSize * m = length-drop blockSize f ∙ omega arith in
+    let r = blocks-again m (suc k) (drop blockSize f) d (rest-good k m f ok) (bytes-drop blockSize f bytes) in
+    let w = written-again k (eqb m 0) (take blockSize f) (first-good k m f ok) (bytes-take blockSize f bytes) in
+    rw (front m k f ok, behind m k f ok, w, r) (take-append-drop blockSize f)
 
 -- the joined payloads of m + 1 blocks need m + 1 blocks
-last-some : (k : ℕ) (f : List ℕ) → blocksRefusal k 1 f ≡ 0 → (1 ≤ length (payloadOf (take 512 f))) × (length (payloadOf (take 512 f)) ≤ 506)
+last-some : (k : ℕ) (f : List ℕ) → blocksRefusal k 1 f ≡ 0 → (1 ≤ length (payloadOf (take blockSize f))) × (length (payloadOf (take blockSize f)) ≤ payloadSize)
 last-some k f ok =
     let g = first-good k zero f ok in
-    let c = and-left (leb 1 (payloadCount (take 512 f))) (leb (payloadCount (take 512 f)) 506) (block-count k (eqb zero 0) (take 512 f) g) in
-    let l = block-payload-length k (eqb zero 0) (take 512 f) g in
-    let m = block-most k (eqb zero 0) (take 512 f) g in
-    (omega (arith, leb-true 1 (payloadCount (take 512 f)) c), omega arith)
+    let c = and-left (leb 1 (payloadCount (take blockSize f))) (leb (payloadCount (take blockSize f)) payloadSize) (block-count k (eqb zero 0) (take blockSize f) g) in
+    let l = block-payload-length k (eqb zero 0) (take blockSize f) g in
+    let m = block-most k (eqb zero 0) (take blockSize f) g in
+    (omega (arith, leb-true 1 (payloadCount (take blockSize f)) c), omega arith)
 
-joined-fits : (m k : ℕ) (f : List ℕ) → blocksRefusal k (suc m) f ≡ 0 → (506 * m < length (joined (suc m) f)) × (length (joined (suc m) f) ≤ 506 * suc m)
+joined-fits : (m k : ℕ) (f : List ℕ) → blocksRefusal k (suc m) f ≡ 0 → (payloadSize * m < length (joined (suc m) f)) × (length (joined (suc m) f) ≤ payloadSize * suc m)
 unfolding joined
-joined-fits zero k f ok = rw (append-nil (payloadOf (take 512 f))) (let s = last-some k f ok in (omega arith, omega arith))
+joined-fits zero k f ok = rw (append-nil (payloadOf (take blockSize f))) (let s = last-some k f ok in (omega arith, omega arith))
 joined-fits (suc m) k f ok =
-    let r = joined-fits m (suc k) (drop 512 f) (rest-good k (suc m) f ok) in
-    let e = length-append (payloadOf (take 512 f)) (joined (suc m) (drop 512 f)) in
+    let r = joined-fits m (suc k) (drop blockSize f) (rest-good k (suc m) f ok) in
+    let e = length-append (payloadOf (take blockSize f)) (joined (suc m) (drop blockSize f)) in
     let g = full k m f ok in
     (omega arith, omega arith)
 
@@ -182,14 +182,14 @@ module _ (f : List ℕ) (ok : AcceptedFile f) (bytes : AllBytes f) where
   unfolding AcceptedFile
   passes = ok
 
-  size : (length f ≡ 512 * (length f / 512)) × (1 ≤ length f / 512) × (length f / 512 ≤ 122)
+  size : (length f ≡ blockSize * (length f / blockSize)) × (1 ≤ length f / blockSize) × (length f / blockSize ≤ 122)
   size = good-size (length f) (read-size f streamSize passes)
 
-  same-blocks : blocksFor (length (streamOf f)) ≡ length f / 512
+  same-blocks : blocksFor (length (streamOf f)) ≡ length f / blockSize
   unfolding streamOf
   same-blocks =
-      let m : ℕ = length f / 512 - 1 in
-      let e : length f / 512 ≡ suc m = omega (arith, size) in
+      let m : ℕ = length f / blockSize - 1 in
+      let e : length f / blockSize ≡ suc m = omega (arith, size) in
       let g : blocksRefusal 0 (suc m) f ≡ 0 = rw e at (read-blocks f streamSize passes) in
       let h = joined-fits m 0 f g in
       rw e (omega (arith, h))
@@ -197,14 +197,14 @@ module _ (f : List ℕ) (ok : AcceptedFile f) (bytes : AllBytes f) where
   -- the file of the stream that was read is the file
   pub file-back : fileOf (streamOf f) ≡ f
   unfolding fileOf streamOf
-  file-back = rw same-blocks (blocks-again (length f / 512) 0 f (size .0) (read-blocks f streamSize passes) bytes)
+  file-back = rw same-blocks (blocks-again (length f / blockSize) 0 f (size .0) (read-blocks f streamSize passes) bytes)
 
   -- so writing that stream, into any buffer that is long enough, gives the same bytes in front of what was there
   pub writes-stream : (out : List ℕ) → length f ≤ length out
       → (storeOf (streamOf f) (length out) ≡ record { refusal = 0; length = length f }) × (storeInto (streamOf f) out ≡ f ++ drop (length f) out)
   unfolding storeOf storeInto
   writes-stream out h =
-      let l : 512 * blocksFor (length (streamOf f)) ≡ length f = rw same-blocks (sym (size .0)) in
+      let l : blockSize * blocksFor (length (streamOf f)) ≡ length f = rw same-blocks (sym (size .0)) in
       let r = write-accepted (streamOf f) (length out) (stream-passes f passes) (omega arith) in
       let g = gives-accepted (storeRefusal (streamOf f) (length out)) 0 r (length (fileOf (streamOf f))) (fileOf (streamOf f)) out refl in
       (sym (g .0) ∙ rw file-back, sym (g .1) ∙ rw file-back)

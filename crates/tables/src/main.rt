@@ -1,10 +1,8 @@
 // Reads the sample tables of data/ and says of each what reading it gives; an accepted one is written again and compared.
+use base::FILE_ROOM;
 use base::FILE_SIZE;
 use base::STREAM_SIZE;
 use libc::STDOUT_FILENO;
-
-// Room for one block more than a table may have.
-const FILE: usize = 62976;
 
 fn main() {
     // accepted: table T; two blocks; 16 units of 16 values, 122 blocks
@@ -37,7 +35,7 @@ fn main() {
 
 // Reads the named file as a table into a buffer that holds any stream.
 fn show(name: &[u8]) {
-    let mut file = [0u8; FILE];
+    let mut file = [0u8; FILE_ROOM];
     let n = load(name, &mut file);
     let mut stream = [0u8; STREAM_SIZE];
     show_read(name, front(&file, n), &mut stream);
@@ -45,7 +43,7 @@ fn show(name: &[u8]) {
 
 // The same with a buffer that is a byte short, for reading and then for writing.
 fn show_cramped(name: &[u8]) {
-    let mut file = [0u8; FILE];
+    let mut file = [0u8; FILE_ROOM];
     let n = load(name, &mut file);
     let mut cramped = [0u8; 61456];
     show_read(name, front(&file, n), &mut cramped);

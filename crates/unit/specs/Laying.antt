@@ -10,6 +10,7 @@ use native.Mathlib.Numerals.{add-one}
 use native.Mathlib.Nat.{zero-add}
 use lib.ListN.{length, take, drop, length-append}
 use lib.Seq.{take-at, drop-at, drop-drop, length-take-le, paste-zero}
+use Rattle.base.specs.Limits.{messageSize, sendingSize}
 use Rattle.costs.specs.declared.Seat.{Seat}
 use Rattle.message.specs.declared.Message.{Message}
 use Rattle.message.specs.declared.Kind.{Kind}
@@ -29,12 +30,12 @@ pub record Room (seat : Seat) (out : List ℕ) : Type 0 where
   pub first : 1 ≤ seat .own
   pub last : seat .own ≤ seat .n
   pub units : seat .n ≤ 16
-  pub bytes : 1024 ≤ length out
+  pub bytes : sendingSize ≤ length out
 
 -- ---- each message is 64 bytes
 
 abbrev pub Wide : List Packet → Type 0
-Wide ps = length (encodeAll ps) ≡ 64 * length ps
+Wide ps = length (encodeAll ps) ≡ messageSize * length ps
 
 pub encode-append : (ps qs : List Packet) → encodeAll (ps ++ qs) ≡ encodeAll ps ++ encodeAll qs
 unfolding encodeAll
@@ -79,43 +80,43 @@ put-more l a b at k e h =
 
 pub laid-first : (ps : List Packet) (l : List ℕ) → Wide ps → putAt l 0 (encodeAll ps) ≡ laid ps l
 unfolding laid
-laid-first ps l p = rw (p, zero-add (64 * length ps))
+laid-first ps l p = rw (p, zero-add (messageSize * length ps))
 
 -- messages put behind those laid are laid with them
-pub laid-more : (ps qs : List Packet) (l : List ℕ) → Wide ps → Wide qs → 64 * length ps ≤ length l → putAt (laid ps l) (64 * length ps) (encodeAll qs) ≡ laid (ps ++ qs) l
+pub laid-more : (ps qs : List Packet) (l : List ℕ) → Wide ps → Wide qs → messageSize * length ps ≤ length l → putAt (laid ps l) (messageSize * length ps) (encodeAll qs) ≡ laid (ps ++ qs) l
 laid-more ps qs l p q h =
-    let at : 0 + 64 * length ps ≡ 64 * length ps = omega arith in
+    let at : 0 + messageSize * length ps ≡ messageSize * length ps = omega arith in
     rw (← laid-first ps l p, ← laid-first (ps ++ qs) l (wide-append ps qs p q), encode-append ps qs)
-    (rw at at (put-more l (encodeAll ps) (encodeAll qs) 0 (64 * length ps) p (omega arith)))
+    (rw at at (put-more l (encodeAll ps) (encodeAll qs) 0 (messageSize * length ps) p (omega arith)))
 
 pub laid-none : (l : List ℕ) → laid [] l ≡ l
 unfolding laid encodeAll
 laid-none l = refl
 
-pub spread-none : (k : Kind) (m : Message) (l : List ℕ) (lo sent : ℕ) → l ≡ putAt l (64 * sent) (encodeAll (each (sentTo k m) lo 0))
+pub spread-none : (k : Kind) (m : Message) (l : List ℕ) (lo sent : ℕ) → l ≡ putAt l (messageSize * sent) (encodeAll (each (sentTo k m) lo 0))
 unfolding each encodeAll
-spread-none k m l lo sent = paste-zero l (64 * sent) []
+spread-none k m l lo sent = paste-zero l (messageSize * sent) []
 
 -- the next of several messages is put behind those put
-pub spread-more : (k : Kind) (m : Message) → Sized m → (l r : List ℕ) (lo sent i : ℕ) → r ≡ putAt l (64 * sent) (encodeAll (each (sentTo k m) lo i)) → length r ≡ length l → 64 * (sent + (i + 1)) ≤ length l
-    → putInto k (withReceiver (lo + i + 1) m) r (64 * (sent + i)) ≡ putAt l (64 * sent) (encodeAll (each (sentTo k m) lo (i + 1)))
+pub spread-more : (k : Kind) (m : Message) → Sized m → (l r : List ℕ) (lo sent i : ℕ) → r ≡ putAt l (messageSize * sent) (encodeAll (each (sentTo k m) lo i)) → length r ≡ length l → messageSize * (sent + (i + 1)) ≤ length l
+    → putInto k (withReceiver (lo + i + 1) m) r (messageSize * (sent + i)) ≡ putAt l (messageSize * sent) (encodeAll (each (sentTo k m) lo (i + 1)))
 unfolding encodeAll
 spread-more k m z l r lo sent i e len h =
     let g : ℕ → Packet = sentTo k m in
-    let at : 64 * (sent + i) ≡ 64 * sent + 64 * i = omega arith in
-    let w : length (encodeAll (each g lo i)) ≡ 64 * i = wide-each k m z lo i ∙ ap (λ (c : ℕ). 64 * c) (each-length g lo i) in
+    let at : messageSize * (sent + i) ≡ messageSize * sent + messageSize * i = omega arith in
+    let w : length (encodeAll (each g lo i)) ≡ messageSize * i = wide-each k m z lo i ∙ ap (λ (c : ℕ). messageSize * c) (each-length g lo i) in
     let one : encodeAll (g (lo + i) ∷ []) ≡ encode k (withReceiver (lo + i + 1) m) = rw add-one (append-nil (encode k (withReceiver (suc (lo + i)) m))) in
     let b : encodeAll (each g lo (i + 1)) ≡ encodeAll (each g lo i) ++ encode k (withReceiver (lo + i + 1) m) =
     ap (λ (c : ℕ). encodeAll (each g lo c)) (add-one i) ∙ ap encodeAll (each-more g lo i) ∙ encode-append (each g lo i) (g (lo + i) ∷ []) ∙ ap (λ (x : List ℕ). encodeAll (each g lo i) ++ x) one in
-    rw (put-fits k (withReceiver (lo + i + 1) m) r (64 * (sent + i)) (omega (arith, len, h)) .1, e, at, b)
-    (put-more l (encodeAll (each g lo i)) (encode k (withReceiver (lo + i + 1) m)) (64 * sent) (64 * i) w (omega arith))
+    rw (put-fits k (withReceiver (lo + i + 1) m) r (messageSize * (sent + i)) (omega (arith, len, h)) .1, e, at, b)
+    (put-more l (encodeAll (each g lo i)) (encode k (withReceiver (lo + i + 1) m)) (messageSize * sent) (messageSize * i) w (omega arith))
 
 -- several messages put behind those laid
-pub spread-laid : (k : Kind) (m : Message) → Sized m → (ps : List Packet) (l : List ℕ) (lo c sent : ℕ) → Wide ps → sent ≡ length ps → 64 * sent ≤ length l
-    → putAt (laid ps l) (64 * sent) (encodeAll (each (sentTo k m) lo c)) ≡ laid (ps ++ each (sentTo k m) lo c) l
+pub spread-laid : (k : Kind) (m : Message) → Sized m → (ps : List Packet) (l : List ℕ) (lo c sent : ℕ) → Wide ps → sent ≡ length ps → messageSize * sent ≤ length l
+    → putAt (laid ps l) (messageSize * sent) (encodeAll (each (sentTo k m) lo c)) ≡ laid (ps ++ each (sentTo k m) lo c) l
 spread-laid k m z ps l lo c sent p e h = rw e (laid-more ps (each (sentTo k m) lo c) l p (wide-each k m z lo c) (omega (arith, e)))
 
-pub spread-first : (k : Kind) (m : Message) → Sized m → (l : List ℕ) (lo c : ℕ) → putAt l (64 * 0) (encodeAll (each (sentTo k m) lo c)) ≡ laid (each (sentTo k m) lo c) l
+pub spread-first : (k : Kind) (m : Message) → Sized m → (l : List ℕ) (lo c : ℕ) → putAt l (messageSize * 0) (encodeAll (each (sentTo k m) lo c)) ≡ laid (each (sentTo k m) lo c) l
 spread-first k m z l lo c = laid-first (each (sentTo k m) lo c) l (wide-each k m z lo c)
 
 -- ---- the plans
@@ -136,8 +137,8 @@ module _ (n own : ℕ) (m : Message) (l : List ℕ) (first : 1 ≤ own) (z : Siz
   place : suc (own - 1) ≡ own
   place = omega arith
 
-  pub forward-laid : (b : Bool) (r : List ℕ) (bare : Message) (sent : ℕ) → r ≡ putAt l (64 * 0) (encodeAll (each (sentTo Cpa m) own 1)) → bare ≡ noBound m → sent ≡ 0 + 1 → 64 ≤ length l
-      → putAt r (64 * sent) (encodeAll (each (sentTo Request bare) own (n - own))) ≡ laid (byPlan n (own - 1) Forward b m) l
+  pub forward-laid : (b : Bool) (r : List ℕ) (bare : Message) (sent : ℕ) → r ≡ putAt l (messageSize * 0) (encodeAll (each (sentTo Cpa m) own 1)) → bare ≡ noBound m → sent ≡ 0 + 1 → messageSize ≤ length l
+      → putAt r (messageSize * sent) (encodeAll (each (sentTo Request bare) own (n - own))) ≡ laid (byPlan n (own - 1) Forward b m) l
   unfolding each
   forward-laid b r bare sent e f g h =
       rw (e, f, place, spread-first Cpa m z l own 1) (spread-laid Request (noBound m) (bare-sized m z) (each (sentTo Cpa m) own 1) l own (n - own) sent (wide-each Cpa m z own 1) g (omega arith))
@@ -145,7 +146,7 @@ module _ (n own : ℕ) (m : Message) (l : List ℕ) (first : 1 ≤ own) (z : Siz
   pub forward-count : (b : Bool) (sent : ℕ) → sent ≡ 0 + 1 → sent + (n - own) ≡ length (byPlan n (own - 1) Forward b m)
   forward-count b sent e = omega (arith, each-length (sentTo Request (noBound m)) (suc (own - 1)) (n - suc (own - 1)))
 
-  pub stops-laid : own ≡ 1 → (stop : Message) → stop ≡ boundOnly m → putAt l (64 * 0) (encodeAll (each (sentTo Stop stop) 1 (n - 1))) ≡ laid (handBack n (own - 1) m) l
+  pub stops-laid : own ≡ 1 → (stop : Message) → stop ≡ boundOnly m → putAt l (messageSize * 0) (encodeAll (each (sentTo Stop stop) 1 (n - 1))) ≡ laid (handBack n (own - 1) m) l
   stops-laid e stop f = rw (e, f) (spread-first Stop (boundOnly m) (bound-sized m z) l 1 (n - 1))
 
   pub stops-count : own ≡ 1 → 0 + (n - 1) ≡ length (handBack n (own - 1) m)
@@ -154,7 +155,7 @@ module _ (n own : ℕ) (m : Message) (l : List ℕ) (first : 1 ≤ own) (z : Siz
   later : (own ≡ 1 → ⊥) → own - 1 ≡ suc (own - 2)
   later e = omega arith
 
-  pub back-one-laid : (own ≡ 1 → ⊥) → putAt l (64 * 0) (encodeAll (each (sentTo Cpa m) (own - 2) 1)) ≡ laid (handBack n (own - 1) m) l
+  pub back-one-laid : (own ≡ 1 → ⊥) → putAt l (messageSize * 0) (encodeAll (each (sentTo Cpa m) (own - 2) 1)) ≡ laid (handBack n (own - 1) m) l
   unfolding each
   back-one-laid e = rw (later e) (spread-first Cpa m z l (own - 2) 1)
 
@@ -174,12 +175,12 @@ module _ (n own : ℕ) (m : Message) (l : List ℕ) (first : 1 ≤ own) (z : Siz
     all : byPlan n (own - 1) Back b m ≡ ps ++ qs ++ rs
     all = rw (improved, place) (sym (append-assoc ps qs rs))
 
-    pub back-laid : (r t : List ℕ) (solution : Message) → solution ≡ boundOnly m → r ≡ laid (handBack n (own - 1) m) l → t ≡ putAt r (64 * sent) (encodeAll (each (sentTo Solution solution) 0 (own - 1)))
-        → 64 * lower ≤ length l → putAt t (64 * lower) (encodeAll (each (sentTo Solution solution) own (n - own))) ≡ laid (byPlan n (own - 1) Back b m) l
+    pub back-laid : (r t : List ℕ) (solution : Message) → solution ≡ boundOnly m → r ≡ laid (handBack n (own - 1) m) l → t ≡ putAt r (messageSize * sent) (encodeAll (each (sentTo Solution solution) 0 (own - 1)))
+        → messageSize * lower ≤ length l → putAt t (messageSize * lower) (encodeAll (each (sentTo Solution solution) own (n - own))) ≡ laid (byPlan n (own - 1) Back b m) l
     back-laid r t solution g h i room =
         let y : Sized (boundOnly m) = bound-sized m z in
         let w : Wide ps = handed-wide n m z (own - 1) in
-        let lo : putAt (laid ps l) (64 * sent) (encodeAll qs) ≡ laid (ps ++ qs) l = spread-laid Solution (boundOnly m) y ps l 0 (own - 1) sent w e (omega arith) in
+        let lo : putAt (laid ps l) (messageSize * sent) (encodeAll qs) ≡ laid (ps ++ qs) l = spread-laid Solution (boundOnly m) y ps l 0 (own - 1) sent w e (omega arith) in
         let c : lower ≡ length (ps ++ qs) = rw (length-append ps qs, each-length (sentTo Solution (boundOnly m)) 0 (own - 1), ← e) f in
         rw (all, i, g, h, lo) (spread-laid Solution (boundOnly m) y (ps ++ qs) l own (n - own) lower (wide-append ps qs w (wide-each Solution (boundOnly m) y 0 (own - 1))) c room)
 
@@ -192,7 +193,7 @@ pub back-quiet : (n k : ℕ) (m : Message) (b : Bool) (r : ℕ) (l t : List ℕ)
     → (r ≡ length (byPlan n k Back b m)) × (t ≡ laid (byPlan n k Back b m) l)
 back-quiet n k m b r l t e h = rw (e, append-nil (handBack n k m)) h
 
-pub reply-laid : (m : Message) (l : List ℕ) → Sized m → 64 ≤ length l → putInto Estimate m l 0 ≡ laid (packet Estimate m ∷ []) l
+pub reply-laid : (m : Message) (l : List ℕ) → Sized m → messageSize ≤ length l → putInto Estimate m l 0 ≡ laid (packet Estimate m ∷ []) l
 unfolding encodeAll
 reply-laid m l z h = put-fits Estimate m l 0 h .1 ∙ rw (← append-nil (encode Estimate m)) (laid-first (packet Estimate m ∷ []) l (wide-one Estimate m z))
 

@@ -4,6 +4,7 @@ use Prim.Native.Nat.{ℕ, zero, suc, _*_, _-_}
 use mathlib.Core.Bool.{Bool, true, false}
 use mathlib.Core.List.{List, [], _∷_, _++_}
 use lib.ListN.{length, drop}
+use Rattle.base.specs.Limits.{messageSize}
 use Rattle.message.specs.declared.Message.{Message}
 use Rattle.message.specs.declared.Kind.{Kind}
 use Rattle.message.specs.declared.Kind.the-variants.{Cpa, Request, Estimate, Solution, Stop}
@@ -72,4 +73,4 @@ encodeAll (p ∷ ps) = encode (p .kind) (p .message) ++ encodeAll ps
 
 -- The messages at the front of a buffer, 01: "An output's unused bytes stay."
 unfoldable pub laid : List Packet → List ℕ → List ℕ
-laid ps out = encodeAll ps ++ drop (64 * length ps) out
+laid ps out = encodeAll ps ++ drop (messageSize * length ps) out

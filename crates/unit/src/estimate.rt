@@ -16,6 +16,7 @@ use message::Message;
 ghost use mathlib.Core.Path.{_≡_};
 ghost use mathlib.Core.List.{[]};
 ghost use Prim.Native.Nat.{suc, _*_, _≤_};
+ghost use Rattle.base.specs.Limits.{NONE, places};
 ghost use Rattle.costs.specs.Instance.{View, viewFrom};
 ghost use Rattle.unit.specs.Step.{reply, onRequest, sumLater, stored, onTimely, onEstimate, accepted};
 ghost use Rattle.unit.specs.Ready.{Own, Shaped, Ready, Heard, decidedOf};
@@ -108,7 +109,7 @@ fn store(m: Message, u: Unit) -> Unit
 // The estimates of the units after this one, together; wide, so that no sum wraps.
 fn sum_later(seat: Seat, estimates: [u32; 16]) -> u64
     requires { ⌜ (seat .own ≤ seat .n) × (seat .n ≤ 16) ⌝ }
-    ensures { λ r. ⌜ (r ≤ 4294967295 * 16) × ((w : View) → suc (w .place) ≡ seat .own → w .n ≡ seat .n → r ≡ sumLater w estimates) ⌝ }
+    ensures { λ r. ⌜ (r ≤ NONE * places) × ((w : View) → suc (w .place) ≡ seat .own → w .n ≡ seat .n → r ≡ sumLater w estimates) ⌝ }
 {
     let count = seat.n as usize;
     let mut sum: u64 = 0;

@@ -9,6 +9,7 @@ ghost use mathlib.Core.Path.{_≡_};
 ghost use mathlib.Core.Bool.{Bool};
 ghost use Prim.Native.Nat.{_+_, _*_, _-_, _≤_};
 ghost use lib.ListN.{length};
+ghost use Rattle.base.specs.Limits.{messageSize};
 ghost use Rattle.base.specs.Put.{putAt};
 ghost use Rattle.unit.specs.declared.Plan.the-variants.{Forward, Back};
 ghost use Rattle.unit.specs.Send.{withReceiver, sentTo, noBound, boundOnly, each, handBack, byPlan, packets, encodeAll, laid};
@@ -77,14 +78,14 @@ fn hand_back(seat: Seat, m: Message, out: &mut [u8]) -> u8
 
 // One message to `count` units, those after unit `lo`, laid behind the first `sent` messages; how many there are then.
 fn spread(kind: Kind, m: Message, lo: u8, count: u8, out: &mut [u8], sent: u8) -> u8
-    requires { ⌜ (lo + count ≤ 32) × (sent + count ≤ 32) × (64 * (sent + count) ≤ length (now out)) ⌝ }
-    ensures { λ r. ⌜ (r ≡ sent + count) × (now (out .exit) ≡ putAt (now (out .entry)) (64 * sent) (encodeAll (each (sentTo kind m) lo count))) ⌝ }
+    requires { ⌜ (lo + count ≤ 32) × (sent + count ≤ 32) × (messageSize * (sent + count) ≤ length (now out)) ⌝ }
+    ensures { λ r. ⌜ (r ≡ sent + count) × (now (out .exit) ≡ putAt (now (out .entry)) (messageSize * sent) (encodeAll (each (sentTo kind m) lo count))) ⌝ }
 {
     let mut i: u8 = 0;
     while i < count {
         let to = address(m, lo + i + 1);
         let at = (sent + i) as usize;
-        message::put(kind, to, out, 64 * at);
+        message::put(kind, to, out, base::MESSAGE_SIZE * at);
         i += 1;
     }
     sent + count

@@ -4,6 +4,8 @@
 // state's first threshold byte is set to before the step, if not 0.
 // Each step goes on from the state that the record before left. What is sent is printed, and goes to no unit.
 ghost use Prim.Native.Nat.{_+_, _<_};
+use base::MESSAGE_SIZE;
+use base::SENDING_SIZE;
 use libc::STDOUT_FILENO;
 use message::Message;
 use message::Read;
@@ -42,11 +44,11 @@ fn record(u: Unit, r: &[u8]) -> Unit {
     }
     io::write_all(STDOUT_FILENO, &r[0..31]);
     if r[150] == 0 {
-        let mut out = [0u8; 1024];
+        let mut out = [0u8; SENDING_SIZE];
         let o = call(u, r, &mut out);
         return told(r, o, &out);
     }
-    let mut short = [0u8; 1023];
+    let mut short = [0u8; SENDING_SIZE - 1];
     let o = call(u, r, &mut short);
     told(r, o, &short)
 }
@@ -142,15 +144,15 @@ fn sent(n: u8, sizes: [u8; 16], count: u8, out: &[u8]) {
     let mut left = count;
     let mut at = 0;
     while 0 < left {
-        if out.len() < 64 {
+        if out.len() < MESSAGE_SIZE {
             return;
         }
-        if out.len() - 64 < at {
+        if out.len() - MESSAGE_SIZE < at {
             return;
         }
-        let e = at + 64;
+        let e = at + MESSAGE_SIZE;
         packet(n, sizes, &out[at..e]);
-        at += 64;
+        at += MESSAGE_SIZE;
         left -= 1;
     }
 }

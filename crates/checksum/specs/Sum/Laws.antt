@@ -8,9 +8,9 @@ use native.Mathlib.Numerals.{add-one}
 use native.Mathlib.Omega.{arith}
 use lib.ListN.{getD, length, take}
 use lib.Seq.{length-take-le, take-suc}
-use Rattle.checksum.specs.Sum.{weigh, sumOf}
+use Rattle.checksum.specs.Sum.{modulus, weigh, sumOf}
 
-pub sum-small : (s : List ℕ) → sumOf s < 65521
+pub sum-small : (s : List ℕ) → sumOf s < modulus
 unfolding sumOf
 sum-small s = omega arith
 
@@ -19,10 +19,10 @@ weigh-append k [] b = rw (add-zero, zero-add)
 weigh-append k (x ∷ l) b = let e : k + 1 + length l ≡ k + suc (length l) = omega arith in rw (weigh-append (k + 1) l b, e, add-assoc)
 
 -- a weight counts by its remainder
-weight-mod : (i x : ℕ) → (i + 1) * x ≡ 65521 * (i / 65521 * x) + (i % 65521 + 1) * x
+weight-mod : (i x : ℕ) → (i + 1) * x ≡ modulus * (i / modulus * x) + (i % modulus + 1) * x
 weight-mod i x =
-    let e : i + 1 ≡ 65521 * (i / 65521) + (i % 65521 + 1) = omega arith in
-    ap (λ (z : ℕ). z * x) e ∙ rw (add-mul (65521 * (i / 65521)) (i % 65521 + 1) x, mul-assoc 65521 (i / 65521) x)
+    let e : i + 1 ≡ modulus * (i / modulus) + (i % modulus + 1) = omega arith in
+    ap (λ (z : ℕ). z * x) e ∙ rw (add-mul (modulus * (i / modulus)) (i % modulus + 1) x, mul-assoc modulus (i / modulus) x)
 
 pub sum-none : (s : List ℕ) → sumOf (take 0 s) ≡ 0
 unfolding sumOf
@@ -30,7 +30,7 @@ sum-none s = refl
 
 -- one byte more
 pub sum-more : (s : List ℕ) (i t : ℕ) → i < length s → t ≡ sumOf (take i s)
-    → (t + (i % 65521 + 1) * getD s i 0) % 65521 ≡ sumOf (take (i + 1) s)
+    → (t + (i % modulus + 1) * getD s i 0) % modulus ≡ sumOf (take (i + 1) s)
 unfolding sumOf
 sum-more s i t h e =
     let f : length (take i s) ≡ i = length-take-le i s (omega arith) in

@@ -12,7 +12,7 @@ use lib.Dec.{ltb, eqb}
 use lib.ListN.{length, getD, take, drop, length-append, length-drop, List·getD-append}
 use lib.Seq.{getD-drop, getD-take, length-take-le, getD-append-add, take-append-seam}
 use borrow.Author.Tests.{lt-ltb, le-ltb, ltb-true, ltb-false, eq-eqb, ne-eqb, le-leb}
-use Rattle.base.specs.Limits.{pairLimit}
+use Rattle.base.specs.Limits.{pairLimit, costsSize}
 use Rattle.base.specs.Sums.{sumTo}
 use Rattle.table.specs.Stream.{unitsOf, sizesOf, needed, costAt, costsGood, Accepted}
 use Rattle.table.specs.StreamLaws.{accepted-units, accepted-cost}
@@ -283,7 +283,7 @@ module _ (s : List ℕ) (ok : Accepted s) (own : ℕ) (lo : 1 ≤ own) (hi : own
   gathered-length = length-gather s (accepted-fit s ok) (pred own) (omega arith) (unitsOf s) (omega arith)
 
   -- 15 other units of 16 values, with 16 own values, two bytes each
-  pub gathered-most : length (gathered s own) ≤ 7680
+  pub gathered-most : length (gathered s own) ≤ costsSize
   gathered-most =
       let k : ℕ = pred own in
       let rest : sumTo (λ b. cond (eqb b k) 0 (domOf s b)) (unitsOf s) + 16 ≤ 16 * unitsOf s =
@@ -292,13 +292,13 @@ module _ (s : List ℕ) (ok : Accepted s) (own : ℕ) (lo : 1 ≤ own) (hi : own
       omega (arith, gathered-length, mul-le-mul (dom-most s ok k) others)
 
   -- 7,680 bytes are room enough
-  enough : (room : ℕ) → 7680 ≤ room → gatherRefusal s own room ≡ 0
+  enough : (room : ℕ) → costsSize ≤ room → gatherRefusal s own room ≡ 0
   unfolding gatherRefusal Accepted
   enough room h = simp (ok, range-value (unitsOf s) own lo hi, le-ltb room (length (gathered s own)) (omega (arith, gathered-most)))
 
-  pub gather-enough : (room : ℕ) → 7680 ≤ room → gatherOf s own room ≡ record { refusal = 0; length = length (gathered s own) }
+  pub gather-enough : (room : ℕ) → costsSize ≤ room → gatherOf s own room ≡ record { refusal = 0; length = length (gathered s own) }
   gather-enough room h = rw (enough room h)
 
   -- so the bytes in front are those gathered
-  pub gather-front : (l : List ℕ) → 7680 ≤ length l → take (gatherOf s own (length l) .length) (gatherInto s own l) ≡ gathered s own
+  pub gather-front : (l : List ℕ) → costsSize ≤ length l → take (gatherOf s own (length l) .length) (gatherInto s own l) ≡ gathered s own
   gather-front l h = rw (enough (length l) h) (take-append-seam (gathered s own) (drop (length (gathered s own)) l))

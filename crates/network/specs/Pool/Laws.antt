@@ -6,6 +6,7 @@ use mathlib.Core.List.{List, _++_, append-assoc}
 use native.Mathlib.Omega.{arith}
 use lib.ListN.{length, getD, take, drop, set, length-append, length-drop}
 use lib.Seq.{paste, length-paste-head, getD-append-add, getD-drop, length-take-le, take-at, drop-append-add, drop-drop}
+use Rattle.base.specs.Limits.{messageSize}
 use Rattle.base.specs.Put.Laws.{paste-more}
 use Rattle.message.specs.Message.{Packet}
 use Rattle.unit.specs.Send.{encodeAll, laid}
@@ -23,44 +24,44 @@ paste-past d at s j n k hd hs e =
     ∙ getD-drop (at + j) d n 0)
 
 -- a byte moved down
-pub gap-more : (d : List ℕ) (at j : ℕ) → at + 64 + j < length d
-    → set (paste d at (drop (at + 64) d) j) (at + j) (getD (paste d at (drop (at + 64) d) j) (at + 64 + j) 0) ≡ paste d at (drop (at + 64) d) (j + 1)
+pub gap-more : (d : List ℕ) (at j : ℕ) → at + messageSize + j < length d
+    → set (paste d at (drop (at + messageSize) d) j) (at + j) (getD (paste d at (drop (at + messageSize) d) j) (at + messageSize + j) 0) ≡ paste d at (drop (at + messageSize) d) (j + 1)
 gap-more d at j h =
-    let l : j < length (drop (at + 64) d) = simp length-drop (omega arith) in
-    rw (paste-past d at (drop (at + 64) d) j 64 (at + 64 + j) (omega arith) (omega arith) (omega arith), ← getD-drop (at + 64) d j 0)
-    (paste-more d at (drop (at + 64) d) j (omega arith) l)
+    let l : j < length (drop (at + messageSize) d) = simp length-drop (omega arith) in
+    rw (paste-past d at (drop (at + messageSize) d) j messageSize (at + messageSize + j) (omega arith) (omega arith) (omega arith), ← getD-drop (at + messageSize) d j 0)
+    (paste-more d at (drop (at + messageSize) d) j (omega arith) l)
 
 -- ---- a delivery
 
 -- the bytes of what was sent are in front of the buffer
-pub sent-front : (ps : List Packet) (out : List ℕ) → length (encodeAll ps) ≡ 64 * length ps → take (64 * length ps) (laid ps out) ≡ encodeAll ps
+pub sent-front : (ps : List Packet) (out : List ℕ) → length (encodeAll ps) ≡ messageSize * length ps → take (messageSize * length ps) (laid ps out) ≡ encodeAll ps
 unfolding laid
-sent-front ps out e = take-at (encodeAll ps) (drop (64 * length ps) out) (64 * length ps) e
+sent-front ps out e = take-at (encodeAll ps) (drop (messageSize * length ps) out) (messageSize * length ps) e
 
-module _ (pool : List ℕ) (used cell : ℕ) (inside : cell < used) (fits : 64 * used ≤ length pool) where
-  closed-front : length (take (64 * cell) pool ++ laterCells pool used cell) ≡ 64 * (used - 1)
+module _ (pool : List ℕ) (used cell : ℕ) (inside : cell < used) (fits : messageSize * used ≤ length pool) where
+  closed-front : length (take (messageSize * cell) pool ++ laterCells pool used cell) ≡ messageSize * (used - 1)
   closed-front =
-      let a : length (take (64 * cell) pool) ≡ 64 * cell = length-take-le (64 * cell) pool (omega arith) in
-      let d : length (drop (64 * suc cell) pool) ≡ length pool - 64 * suc cell = length-drop (64 * suc cell) pool in
-      let b : length (laterCells pool used cell) ≡ 64 * (used - suc cell) = length-take-le (64 * (used - suc cell)) (drop (64 * suc cell) pool) (omega arith) in
-      length-append (take (64 * cell) pool) (laterCells pool used cell) ∙ omega arith
+      let a : length (take (messageSize * cell) pool) ≡ messageSize * cell = length-take-le (messageSize * cell) pool (omega arith) in
+      let d : length (drop (messageSize * suc cell) pool) ≡ length pool - messageSize * suc cell = length-drop (messageSize * suc cell) pool in
+      let b : length (laterCells pool used cell) ≡ messageSize * (used - suc cell) = length-take-le (messageSize * (used - suc cell)) (drop (messageSize * suc cell) pool) (omega arith) in
+      length-append (take (messageSize * cell) pool) (laterCells pool used cell) ∙ omega arith
 
-  closed : closeGap pool (64 * cell) (64 * used) ≡ (take (64 * cell) pool ++ laterCells pool used cell) ++ drop (64 * (used - 1)) pool
+  closed : closeGap pool (messageSize * cell) (messageSize * used) ≡ (take (messageSize * cell) pool ++ laterCells pool used cell) ++ drop (messageSize * (used - 1)) pool
   closed =
-      let e : 64 * used - (64 * cell + 64) ≡ 64 * (used - suc cell) = omega arith in
-      let f : 64 * cell + 64 ≡ 64 * suc cell = omega arith in
-      let g : 64 * used - 64 ≡ 64 * (used - 1) = omega arith in
+      let e : messageSize * used - (messageSize * cell + messageSize) ≡ messageSize * (used - suc cell) = omega arith in
+      let f : messageSize * cell + messageSize ≡ messageSize * suc cell = omega arith in
+      let g : messageSize * used - messageSize ≡ messageSize * (used - 1) = omega arith in
       rw (e, f, g, append-assoc)
 
   -- the gap closed, then what was sent copied in behind
-  pub pool-stored : (ps : List Packet) (s : List ℕ) → take (64 * length ps) s ≡ encodeAll ps
-      → paste (closeGap pool (64 * cell) (64 * used)) (64 * (used - 1)) s (64 * length ps) ≡ poolAfter used cell ps pool
+  pub pool-stored : (ps : List Packet) (s : List ℕ) → take (messageSize * length ps) s ≡ encodeAll ps
+      → paste (closeGap pool (messageSize * cell) (messageSize * used)) (messageSize * (used - 1)) s (messageSize * length ps) ≡ poolAfter used cell ps pool
   unfolding poolAfter
   pool-stored ps s sent =
-      let p : List ℕ = take (64 * cell) pool ++ laterCells pool used cell in
-      let q : List ℕ = drop (64 * (used - 1)) pool in
-      let front : take (64 * (used - 1)) (p ++ q) ≡ p = take-at p q (64 * (used - 1)) closed-front in
-      let rest : drop (64 * (used - 1) + 64 * length ps) (p ++ q) ≡ drop (64 * (used - 1) + 64 * length ps) pool =
-      ap (λ (m : ℕ). drop (m + 64 * length ps) (p ++ q)) (sym closed-front) ∙ drop-append-add p q (64 * length ps) ∙ drop-drop (64 * length ps) (64 * (used - 1)) pool in
-      let all : 64 * (used - 1) + 64 * length ps ≡ 64 * (used - 1 + length ps) = omega arith in
+      let p : List ℕ = take (messageSize * cell) pool ++ laterCells pool used cell in
+      let q : List ℕ = drop (messageSize * (used - 1)) pool in
+      let front : take (messageSize * (used - 1)) (p ++ q) ≡ p = take-at p q (messageSize * (used - 1)) closed-front in
+      let rest : drop (messageSize * (used - 1) + messageSize * length ps) (p ++ q) ≡ drop (messageSize * (used - 1) + messageSize * length ps) pool =
+      ap (λ (m : ℕ). drop (m + messageSize * length ps) (p ++ q)) (sym closed-front) ∙ drop-append-add p q (messageSize * length ps) ∙ drop-drop (messageSize * length ps) (messageSize * (used - 1)) pool in
+      let all : messageSize * (used - 1) + messageSize * length ps ≡ messageSize * (used - 1 + length ps) = omega arith in
       rw (closed, front, rest, sent, all, append-assoc)

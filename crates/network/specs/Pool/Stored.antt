@@ -10,7 +10,7 @@ use mathlib.Core.Option.{none, some, Option·some-injective, Option·some-ne-non
 use native.Mathlib.Omega.{arith}
 use lib.ListN.{length, take, drop, take-append-drop, length-append, length-drop}
 use lib.Seq.{take-at, drop-at}
-use Rattle.base.specs.Limits.{poolCells, poolSize}
+use Rattle.base.specs.Limits.{poolCells, poolSize, messageSize}
 use Rattle.message.specs.Message.{Packet, Sized}
 use Rattle.message.specs.Encode.{encode}
 use Rattle.message.specs.EncodeLaws.{length-encode}
@@ -29,7 +29,7 @@ encode-all-more : (p : Packet) (a : List Packet) → encodeAll (p ∷ a) ≡ enc
 unfolding encodeAll
 encode-all-more p a = refl
 
-pub encode-all-length : (ps : List Packet) → AllSized ps → length (encodeAll ps) ≡ 64 * length ps
+pub encode-all-length : (ps : List Packet) → AllSized ps → length (encodeAll ps) ≡ messageSize * length ps
 unfolding encodeAll
 encode-all-length [] z = refl
 encode-all-length (p ∷ ps) z =
@@ -46,28 +46,28 @@ module _ (b : List Packet) (p : Packet) (a : List Packet) (R : List ℕ) (zb : A
   abbrev holding : List ℕ
   holding = encodeAll b ++ (encode (p .kind) (p .message) ++ (encodeAll a ++ R))
 
-  behind : drop (64 * suc (length b)) holding ≡ encodeAll a ++ R
+  behind : drop (messageSize * suc (length b)) holding ≡ encodeAll a ++ R
   behind =
-      ap (drop (64 * suc (length b))) (sym (append-assoc (encodeAll b) (encode (p .kind) (p .message)) (encodeAll a ++ R)))
-      ∙ drop-at (encodeAll b ++ encode (p .kind) (p .message)) (encodeAll a ++ R) (64 * suc (length b))
+      ap (drop (messageSize * suc (length b))) (sym (append-assoc (encodeAll b) (encode (p .kind) (p .message)) (encodeAll a ++ R)))
+      ∙ drop-at (encodeAll b ++ encode (p .kind) (p .message)) (encodeAll a ++ R) (messageSize * suc (length b))
       (omega (arith, length-append (encodeAll b) (encode (p .kind) (p .message)), encode-all-length b zb, length-encode (p .kind) (p .message) zp))
 
   cell-holds : cellOf holding (length b) ≡ encode (p .kind) (p .message)
   cell-holds =
-      ap (take 64) (drop-at (encodeAll b) (encode (p .kind) (p .message) ++ (encodeAll a ++ R)) (64 * length b) (encode-all-length b zb))
-      ∙ take-at (encode (p .kind) (p .message)) (encodeAll a ++ R) 64 (length-encode (p .kind) (p .message) zp)
+      ap (take messageSize) (drop-at (encodeAll b) (encode (p .kind) (p .message) ++ (encodeAll a ++ R)) (messageSize * length b) (encode-all-length b zb))
+      ∙ take-at (encode (p .kind) (p .message)) (encodeAll a ++ R) messageSize (length-encode (p .kind) (p .message) zp)
 
   later-hold : (used : ℕ) → used ≡ suc (length b) + length a → laterCells holding used (length b) ≡ encodeAll a
   later-hold used e =
       let q : used - suc (length b) ≡ length a = omega arith in
-      ap (take (64 * (used - suc (length b)))) behind ∙ take-at (encodeAll a) R (64 * (used - suc (length b))) (rw q (encode-all-length a za))
+      ap (take (messageSize * (used - suc (length b)))) behind ∙ take-at (encodeAll a) R (messageSize * (used - suc (length b))) (rw q (encode-all-length a za))
 
   after-holds : (used : ℕ) → used ≡ suc (length b) + length a → (ps : List Packet)
-      → poolAfter used (length b) ps holding ≡ encodeAll ((b ++ a) ++ ps) ++ drop (64 * (used - 1 + length ps)) holding
+      → poolAfter used (length b) ps holding ≡ encodeAll ((b ++ a) ++ ps) ++ drop (messageSize * (used - 1 + length ps)) holding
   unfolding poolAfter
   after-holds used e ps =
-      (λ i. take-at (encodeAll b) (encode (p .kind) (p .message) ++ (encodeAll a ++ R)) (64 * length b) (encode-all-length b zb) i ++ later-hold used e i ++ encodeAll ps ++ drop (64 * (used - 1 + length ps)) holding)
-      ∙ sym (ap (λ l. l ++ drop (64 * (used - 1 + length ps)) holding) (encode-append (b ++ a) ps ∙ ap (λ l. l ++ encodeAll ps) (encode-append b a)))
+      (λ i. take-at (encodeAll b) (encode (p .kind) (p .message) ++ (encodeAll a ++ R)) (messageSize * length b) (encode-all-length b zb) i ++ later-hold used e i ++ encodeAll ps ++ drop (messageSize * (used - 1 + length ps)) holding)
+      ∙ sym (ap (λ l. l ++ drop (messageSize * (used - 1 + length ps)) holding) (encode-append (b ++ a) ps ∙ ap (λ l. l ++ encodeAll ps) (encode-append b a)))
 
 -- ---- the message at a cell
 
@@ -100,17 +100,17 @@ some-room false ms w e = absurd (Option·some-ne-none w (sym e))
 
 pub record Stored (ms : List Packet) (used : ℕ) (pool : List ℕ) : Type 0 where
   pub count : used ≡ length ms
-  pub front : take (64 * length ms) pool ≡ encodeAll ms
+  pub front : take (messageSize * length ms) pool ≡ encodeAll ms
   pub room : poolSize ≤ length pool
 
 -- m packets in front, and then what lies past them
 front-stored : (ms : List Packet) (pool : List ℕ) → AllSized ms → length ms ≤ poolCells → poolSize ≤ length pool → (n : ℕ) → n ≡ length ms
-    → Stored ms n (encodeAll ms ++ drop (64 * n) pool)
+    → Stored ms n (encodeAll ms ++ drop (messageSize * n) pool)
 front-stored ms pool z few long n e =
     record {
       count = e;
-      front = take-at (encodeAll ms) (drop (64 * n) pool) (64 * length ms) (encode-all-length ms z);
-      room = omega (arith, length-append (encodeAll ms) (drop (64 * n) pool), length-drop (64 * n) pool, encode-all-length ms z);
+      front = take-at (encodeAll ms) (drop (messageSize * n) pool) (messageSize * length ms) (encode-all-length ms z);
+      room = omega (arith, length-append (encodeAll ms) (drop (messageSize * n) pool), length-drop (messageSize * n) pool, encode-all-length ms z);
     }
 
 -- making lays what it sends in front
@@ -135,22 +135,22 @@ module _ (ms : List Packet) (used : ℕ) (pool : List ℕ) (st : Stored ms used 
   many = st .count ∙ ap length (stands .whole) ∙ omega (arith, length-append (take c ms) (p ∷ drop (suc c) ms))
 
   abbrev holds : List ℕ
-  holds = holding (take c ms) p (drop (suc c) ms) (drop (64 * length ms) pool) zb zp za
+  holds = holding (take c ms) p (drop (suc c) ms) (drop (messageSize * length ms) pool) zb zp za
 
   pool-is : pool ≡ holds
   pool-is =
-      sym (take-append-drop (64 * length ms) pool)
-      ∙ ap (λ l. l ++ drop (64 * length ms) pool)
+      sym (take-append-drop (messageSize * length ms) pool)
+      ∙ ap (λ l. l ++ drop (messageSize * length ms) pool)
       (st .front ∙ ap encodeAll (stands .whole) ∙ encode-append (take c ms) (p ∷ drop (suc c) ms) ∙ ap (λ l. encodeAll (take c ms) ++ l) (encode-all-more p (drop (suc c) ms)))
-      ∙ append-assoc (encodeAll (take c ms)) (encode (p .kind) (p .message) ++ encodeAll (drop (suc c) ms)) (drop (64 * length ms) pool)
-      ∙ ap (λ l. encodeAll (take c ms) ++ l) (append-assoc (encode (p .kind) (p .message)) (encodeAll (drop (suc c) ms)) (drop (64 * length ms) pool))
+      ∙ append-assoc (encodeAll (take c ms)) (encode (p .kind) (p .message) ++ encodeAll (drop (suc c) ms)) (drop (messageSize * length ms) pool)
+      ∙ ap (λ l. encodeAll (take c ms) ++ l) (append-assoc (encode (p .kind) (p .message)) (encodeAll (drop (suc c) ms)) (drop (messageSize * length ms) pool))
 
   pub cell-in-use : c < used
   cell-in-use = omega (arith, many, stands .many)
 
   pub cell-bytes : cellOf pool c ≡ encode (p .kind) (p .message)
   cell-bytes =
-      ap (λ l. cellOf l c) pool-is ∙ ap (cellOf holds) (sym (stands .many)) ∙ cell-holds (take c ms) p (drop (suc c) ms) (drop (64 * length ms) pool) zb zp za
+      ap (λ l. cellOf l c) pool-is ∙ ap (cellOf holds) (sym (stands .many)) ∙ cell-holds (take c ms) p (drop (suc c) ms) (drop (messageSize * length ms) pool) zb zp za
 
   -- what a delivery leaves in use
   pub used-after : (ps : List Packet) → used - 1 + length ps ≡ length (cells .without ms c ++ ps)
@@ -161,7 +161,7 @@ module _ (ms : List Packet) (used : ℕ) (pool : List ℕ) (st : Stored ms used 
       subst (Stored (cells .without ms c ++ ps) (used - 1 + length ps)) (sym is)
       (front-stored (cells .without ms c ++ ps) pool (every-append _ (cells .without ms c) ps (every-append _ (take c ms) (drop (suc c) ms) zb za) zs) few (st .room) (used - 1 + length ps) (used-after ps))
     where
-      is : poolAfter used c ps pool ≡ encodeAll (cells .without ms c ++ ps) ++ drop (64 * (used - 1 + length ps)) pool
+      is : poolAfter used c ps pool ≡ encodeAll (cells .without ms c ++ ps) ++ drop (messageSize * (used - 1 + length ps)) pool
       is =
-          (λ i. poolAfter used (sym (stands .many) i) ps (pool-is i)) ∙ after-holds (take c ms) p (drop (suc c) ms) (drop (64 * length ms) pool) zb zp za used many ps
-          ∙ ap (λ l. encodeAll (cells .without ms c ++ ps) ++ drop (64 * (used - 1 + length ps)) l) (sym pool-is)
+          (λ i. poolAfter used (sym (stands .many) i) ps (pool-is i)) ∙ after-holds (take c ms) p (drop (suc c) ms) (drop (messageSize * length ms) pool) zb zp za used many ps
+          ∙ ap (λ l. encodeAll (cells .without ms c ++ ps) ++ drop (messageSize * (used - 1 + length ps)) l) (sym pool-is)

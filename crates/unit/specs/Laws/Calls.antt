@@ -8,6 +8,7 @@ use native.Mathlib.Omega.{arith}
 use lib.Dec.{ltb}
 use lib.ListN.{length}
 use borrow.Author.Tests.{ltb-false, le-ltb, not-false}
+use Rattle.base.specs.Limits.{sendingSize}
 use Rattle.base.specs.Refusal.Laws.{or-left, or-right}
 use Rattle.base.specs.Shape.{shapeGood}
 use Rattle.costs.specs.Instance.{View, lentView}
@@ -39,7 +40,7 @@ pub record Makes (own n : ℕ) (sizes costs : List ℕ) (room : ℕ) : Type 0 wh
   pub shape : shapeGood n sizes ≡ true
   pub unit : isUnit n own ≡ true
   pub lent : lentRefusal own n sizes costs ≡ 0
-  pub fits : 1024 ≤ room
+  pub fits : sendingSize ≤ room
 
 -- a step that isn't refused before its message is read
 pub record Passed (u : State) (own n : ℕ) (sizes costs : List ℕ) (room : ℕ) : Type 0 where
@@ -47,7 +48,7 @@ pub record Passed (u : State) (own n : ℕ) (sizes costs : List ℕ) (room : ℕ
   pub unit : isUnit n own ≡ true
   pub lent : lentRefusal own n sizes costs ≡ 0
   pub state : inRange sizes (lentView own n sizes costs) u ≡ true
-  pub fits : 1024 ≤ room
+  pub fits : sendingSize ≤ room
 
 -- what is lent beside a state, not refused
 pub record Seated (own n : ℕ) (sizes costs : List ℕ) : Type 0 where
@@ -81,19 +82,19 @@ module _ (own n : ℕ) (sizes costs : List ℕ) where
     unfolding makeRefusal
     makes e =
         let s = seated (or-left _ _ e) in
-        record { shape = s .shape; unit = s .unit; lent = s .lent; fits = ltb-false room 1024 (fails (ltb room 1024) 12 0 (or-right (seatRefusal own n sizes costs) _ e) .0) }
+        record { shape = s .shape; unit = s .unit; lent = s .lent; fits = ltb-false room sendingSize (fails (ltb room sendingSize) 12 0 (or-right (seatRefusal own n sizes costs) _ e) .0) }
 
     module _ (u : State) where
       pub passed : stepRefusal u own n sizes costs room ≡ 0 → Passed u own n sizes costs room
       unfolding stepRefusal rangeRefusal
       passed e =
-          let f = fails (ltb room 1024) 12 _ e in
+          let f = fails (ltb room sendingSize) 12 _ e in
           let s = seated (or-left _ _ (f .1)) in
-          record { shape = s .shape; unit = s .unit; lent = s .lent; state = holds _ 4 (or-right (seatRefusal own n sizes costs) _ (f .1)); fits = ltb-false room 1024 (f .0) }
+          record { shape = s .shape; unit = s .unit; lent = s .lent; state = holds _ 4 (or-right (seatRefusal own n sizes costs) _ (f .1)); fits = ltb-false room sendingSize (f .0) }
 
       pub not-refused : Passed u own n sizes costs room → stepRefusal u own n sizes costs room ≡ 0
       unfolding stepRefusal rangeRefusal
-      not-refused p = rw (le-ltb room 1024 (p .fits), seat-good (record { shape = p .shape; unit = p .unit; lent = p .lent }), p .state)
+      not-refused p = rw (le-ltb room sendingSize (p .fits), seat-good (record { shape = p .shape; unit = p .unit; lent = p .lent }), p .state)
 
 -- a refusal, or what follows
 unless-refused : (P : Decision → Type 0) (r : ℕ) (o : Decision) → ((x : ℕ) → P (refused x)) → (r ≡ 0 → P o) → P (unlessRefused r o)

@@ -11,7 +11,7 @@ use lib.Dec.{ltb, leb, eqb}
 use lib.ListN.{length, getD, set, getD-replicate}
 use lib.Seq.{getD-set-same, getD-set-other}
 use borrow.Author.Tests.{leb-true, le-leb, ltb-true, ltb-false, eqb-true, eqb-false}
-use Rattle.base.specs.Limits.{NONE, totalLimit, prefixLimit}
+use Rattle.base.specs.Limits.{NONE, totalLimit, prefixLimit, prefixFactor, pairLimit}
 use Rattle.base.specs.Shape.Laws.{and-left}
 use Rattle.message.specs.Message.{filledTo, boundGood, noneOrBound}
 use Rattle.base.specs.Every.{every-at, every-by}
@@ -100,10 +100,10 @@ bound-32 n sizes bound best e = go (eqb bound NONE) refl e
 -- ---- costs
 
 -- one unit more
-limit-suc : (k : ℕ) → prefixLimit (suc k) ≡ 30000 * (suc k * k)
+limit-suc : (k : ℕ) → prefixLimit (suc k) ≡ prefixFactor * (suc k * k)
 limit-suc k = let e : suc k - 1 ≡ k = omega arith in rw e (omega arith)
 
-pub limit-next : (k : ℕ) → prefixLimit k + 60000 * k ≤ prefixLimit (suc k)
+pub limit-next : (k : ℕ) → prefixLimit k + pairLimit * k ≤ prefixLimit (suc k)
 limit-next zero = omega arith
 limit-next (suc k) = omega (arith, limit-suc k, limit-suc (suc k))
 
