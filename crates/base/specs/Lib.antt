@@ -1,8 +1,9 @@
--- What every layer counts with: 01's numbers, bytes as numbers, domain sizes in range, finite sums and least values, tests of every index, refusals, bytes put into a buffer.
+-- What every layer counts with: 01's numbers, bytes as numbers, domain sizes in range, finite sums and least values, tests of every index, members of a list, refusals, bytes put into a buffer.
 pub mod Limits
 pub mod Bytes
 pub mod Sums
 pub mod Shape
 pub mod Every
+pub mod Members
 pub mod Refusal
 pub mod Put

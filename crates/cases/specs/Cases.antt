@@ -55,8 +55,8 @@ abbrev instanceOne : Instance
 instanceOne = instanceOf (streamWith (3 ∷ []) [])
 
 -- unit 1 after a run: whether it has stopped, its bound, its best assignment's first two values
-abbrev reportOf : History → List ℕ
-reportOf H = let u = unitAt (H .units) 0 in cond (u .stopped) 1 0 ∷ u .bound ∷ getD (u .best) 0 0 ∷ getD (u .best) 1 0 ∷ []
+abbrev unitOneOf : History → List ℕ
+unitOneOf H = let u = unitAt (H .units) 0 in cond (u .stopped) 1 0 ∷ u .bound ∷ getD (u .best) 0 0 ∷ getD (u .best) 1 0 ∷ []
 
 -- how many records were written, and messages handed over and waiting
 abbrev countsOf : History → List ℕ
@@ -90,7 +90,7 @@ table =
     -- "Least total 2, by values 2, 1"
     count 3 (searchOf streamT .refusal ∷ searchOf streamT .total ∷ take 2 (searchOf streamT .values)) (0 ∷ 2 ∷ 2 ∷ 1 ∷ []) ∷
     -- "n = 1, size 3: total 0, value 1, one record, no delivery"
-    count 4 (reportOf (run instanceOne []) ++ countsOf (run instanceOne [])) (1 ∷ 0 ∷ 1 ∷ 0 ∷ 1 ∷ 0 ∷ 0 ∷ []) ∷
+    count 4 (unitOneOf (run instanceOne []) ++ countsOf (run instanceOne [])) (1 ∷ 0 ∷ 1 ∷ 0 ∷ 1 ∷ 0 ∷ 0 ∷ []) ∷
     -- "Copy of unit 1's value 1: estimate 3; of value 2: 2": the copy is delivered, and the estimate is what unit 2 sends
     row 5 (messages (lastStep (run instanceT (1 ∷ [])))) (messages (copyOf 1 ∷ estimateFor 1 3 ∷ [])) ∷
     row 5 (messages (lastStep (run instanceT (four ++ (2 ∷ []))))) (messages (copyOf 2 ∷ estimateFor 2 2 ∷ [])) ∷

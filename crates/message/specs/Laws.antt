@@ -11,7 +11,7 @@ use native.Mathlib.Omega.{arith}
 use borrow.Author.Tests.{leb-true, le-leb, ltb-true, ltb-false, lt-ltb, le-ltb, eqb-true, eq-eqb, ne-eqb}
 use lib.Dec.{ltb, leb, eqb}
 use lib.ListN.{getD, replicate}
-use Rattle.base.specs.Every.{every-at, every-by}
+use Rattle.base.specs.Every.Laws.{every-at, every-by}
 use Rattle.base.specs.Limits.{places, totalLimit, NONE}
 use Rattle.base.specs.Shape.{isValue}
 use Rattle.base.specs.Shape.Laws.{and-left, and-right, value-range, range-value}

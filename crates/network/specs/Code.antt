@@ -27,7 +27,8 @@ use Rattle.costs.specs.Gather.{sizesIn, gathered, gatherOf, gatherInto}
 use Rattle.costs.specs.Gather.Sizes.{length-sizes, accepted-sizes-first, accepted-sizes-good}
 use Rattle.costs.specs.Gather.Laws.{gathered-view, gathered-good, gathered-most, gather-enough, gather-front}
 use Rattle.message.specs.Decode.{parseFor}
-use Rattle.base.specs.Every.{every, every-at}
+use Rattle.base.specs.Every.{every}
+use Rattle.base.specs.Every.Laws.{every-at}
 use Rattle.message.specs.Message.{Packet, isUnit}
 use Rattle.base.specs.Bytes.{AllBytes}
 use Rattle.unit.specs.declared.Unit.{Unit as UnitState}
@@ -43,7 +44,6 @@ use Rattle.unit.specs.Laws.Views.{unit-range}
 use Rattle.unit.specs.Laws.Range.{SizedUnit}
 use Rattle.unit.specs.Laws.Assign.{Whenever, GoodDecision}
 use Rattle.unit.specs.Laws.Refusals.{Numbered, Accepts, assign-accepts, parse-numbered, read-numbered}
-use Rattle.unit.specs.Laws.Units.{each-of-all}
 use Rattle.unit.specs.Laws.Calls as UL
 use Rattle.unit.specs.Laws.Calls.{Passed}
 use Rattle.network.specs.declared.Network.{Network}
@@ -272,7 +272,7 @@ module _ (net : Network) (s pool : List ℕ) (cell own : ℕ) (was : UnitState) 
           bytes : take (messageSize * length (packets (unitsOf s) (pred own) m)) out ≡ encodeAll (packets (unitsOf s) (pred own) m)
           bytes =
               ap (take (messageSize * length (packets (unitsOf s) (pred own) m))) sent
-              ∙ sent-front (packets (unitsOf s) (pred own) m) was-out (encode-all-length (packets (unitsOf s) (pred own) m) (λ p i. each-of-all _ (packets (unitsOf s) (pred own) m) (k .sent) p i .arrays))
+              ∙ sent-front (packets (unitsOf s) (pred own) m) was-out (encode-all-length (packets (unitsOf s) (pred own) m) (λ p i. k .sent p i .arrays))
 
           next : Result
           next = record {

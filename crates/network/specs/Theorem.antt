@@ -11,6 +11,8 @@ use native.Mathlib.Nat.{le-antisymm}
 use lib.Dec.{eqb}
 use lib.ListN.{length, length-append, length-map, replicate}
 use Rattle.base.specs.Limits.{poolCells}
+use Rattle.base.specs.Members.{In}
+use Rattle.base.specs.Members.Laws.{not-in-nil}
 use borrow.Author.Tests.{eq-eqb}
 use Rattle.table.specs.Stream.{Accepted}
 use Rattle.costs.specs.Instance.{instanceOf}
@@ -20,7 +22,6 @@ use Rattle.unit.specs.declared.Unit.{Unit as UnitState}
 use Rattle.unit.specs.Units.{unitAt}
 use Rattle.protocol.specs.Machine as M
 use Rattle.protocol.specs.Machine.{Network}
-use Rattle.protocol.specs.Lists.{In, not-in-nil}
 use Rattle.protocol.specs.Demand3 as D
 use Rattle.protocol.specs.Theorem as T
 use Rattle.protocol.specs.Oldest.Run as O

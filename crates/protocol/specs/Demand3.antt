@@ -27,9 +27,9 @@ use mathlib.Core.Path.{_≡_}
 use mathlib.Core.Logic.{_≢_}
 use mathlib.Core.Bool.{true, false}
 use mathlib.Core.List.{List, [], _++_, map}
+use Rattle.base.specs.Members.{In}
 use Rattle.protocol.specs.Problem.{Problem, Full, ValidBound, N}
 use Rattle.protocol.specs.Machine.{Msg, to, valuesOf, Agent, refused, step, Network}
-use Rattle.protocol.specs.Lists.{In}
 
 -- the prefixes that units 0 to k - 1 have written. 01: "At each record unit i writes a beginning"
 abbrev pub written : (ℕ → Agent) → ℕ → List (List ℕ)

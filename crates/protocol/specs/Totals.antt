@@ -6,8 +6,8 @@ use mathlib.Core.Logic.{_⊎_, inl, inr}
 use mathlib.Core.List.{List, [], _∷_, _++_}
 use native.Mathlib.Omega.{arith}
 use Rattle.base.specs.Sums.{sumTo}
+use Rattle.base.specs.Members.{In, here, there, Every}
 use Rattle.protocol.specs.Machine.{Msg, toEach}
-use Rattle.protocol.specs.Lists.{In, here, there, Every}
 use Rattle.protocol.specs.Tests.{le-split}
 
 -- ---- over messages

@@ -36,10 +36,6 @@ unfoldable pub costsGood : List ℕ → ℕ → ℕ → Bool
 costsGood s k zero = true
 costsGood s k (suc m) = leb (u16At s k) pairLimit && costsGood s (k + 2) m
 
--- cost number k of a stream, from 0
-abbrev pub costAt : List ℕ → ℕ → ℕ
-costAt s k = u16At s (1 + unitsOf s + 2 * k)
-
 -- 01: "In a stream too short for n or the sizes, those present are checked by 5, then it is 6"
 unfoldable pub streamRefusal : List ℕ → ℕ
 streamRefusal s =

@@ -17,7 +17,7 @@ use Rattle.base.specs.Bytes.{u16At}
 use Rattle.base.specs.Bytes.Laws.{u16-past}
 use Rattle.base.specs.Shape.{inSixteen, allInSixteen, shapeGood}
 use Rattle.base.specs.Shape.Laws.{and-left, and-right, in-range, shape-n, shape-size, all-step, all-none}
-use Rattle.table.specs.Stream.{unitsOf, sizesOf, sumList, pairsIn, needed, costAt, costsGood, streamRefusal, Accepted}
+use Rattle.table.specs.Stream.{unitsOf, sizesOf, sumList, pairsIn, needed, costsGood, streamRefusal, Accepted}
 
 -- ---- how pairsIn and costsGood grow
 
@@ -56,6 +56,10 @@ pairs-most (x ∷ l) e =
     let p : x * sumList l ≤ 16 * (16 * length l) = mul-le-mul h (sum-most l g) in
     let q : suc (length l) * suc (length l) ≡ length l * length l + 2 * length l + 1 = simp (suc-mul, mul-suc) (omega arith) in
     rw q (omega arith)
+
+-- cost number k of a stream, from 0
+abbrev pub streamCost : List ℕ → ℕ → ℕ
+streamCost s k = u16At s (1 + unitsOf s + 2 * k)
 
 -- where costs pass, each does
 pub costs-at : (s : List ℕ) (k m : ℕ) → costsGood s k m ≡ true → (j : ℕ) → j < m → u16At s (k + 2 * j) ≤ pairLimit
@@ -233,7 +237,7 @@ module _ (s : List ℕ) (ok : Accepted s) where
       rw (← getD-drop 1 s k 0) (shape-size (unitsOf s) (drop 1 s) (tests .1) l k h)
 
   -- each cost is at most 60,000
-  pub accepted-cost : (k : ℕ) → k < pairsIn (sizesOf s) → costAt s k ≤ pairLimit
+  pub accepted-cost : (k : ℕ) → k < pairsIn (sizesOf s) → streamCost s k ≤ pairLimit
   accepted-cost k h = costs-at s (1 + unitsOf s) (pairsIn (sizesOf s)) (tests .3) k h
 
   -- 01: "At most 61,457 bytes"

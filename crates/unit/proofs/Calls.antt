@@ -26,7 +26,7 @@ use Rattle.unit.specs.State.{fresh, inRange}
 use Rattle.unit.specs.Step.{Decision, refused, accepted, quiet, assign, respond}
 use Rattle.unit.specs.Send.{packets, laid}
 use Rattle.unit.specs.Laying.{Room, laid-none}
-use Rattle.unit.specs.Calls.{outcomeOf, reportOf, unitOf, bytesOf, seatRefusal, makeRefusal, rangeRefusal, start, unlessRefused, makeOut, stepRefusal, stepOut}
+use Rattle.unit.specs.Calls.{outcomeOf, numbersOf, unitOf, bytesOf, seatRefusal, makeRefusal, rangeRefusal, start, unlessRefused, makeOut, stepRefusal, stepOut}
 use Rattle.unit.specs.Ready.{Shaped, Ready, Heard, decidedOf}
 use Rattle.unit.specs.Laws.Views.{unit-range, lent-good}
 use Rattle.unit.specs.Laws.Range.{SizedUnit}
@@ -198,7 +198,7 @@ module _ (u : Unit) (own n : ℕ) (sizes costs out : List ℕ) (q : Passed u own
 
 -- ---- a step in place: the numbers and the state of the outcome
 
-pub reported : (n k : ℕ) (was : Unit) (o : Decision) (r : Outcome) → r ≡ outcomeOf n k was o → record { refusal = r .refusal; sent = r .sent; records = r .records } ≡ reportOf n k o
+pub reported : (n k : ℕ) (was : Unit) (o : Decision) (r : Outcome) → r ≡ outcomeOf n k was o → record { refusal = r .refusal; sent = r .sent; records = r .records } ≡ numbersOf n k o
 reported n k was (refused x) r e = rw e
 reported n k was (accepted u s ws) r e = rw e
 

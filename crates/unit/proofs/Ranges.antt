@@ -10,7 +10,8 @@ use borrow.Author.Tests.{le-leb, lt-leb, eq-eqb, ne-eqb}
 use Rattle.base.specs.Limits.{estimateLimit, prefixLimit}
 use Rattle.costs.specs.declared.Seat.{Seat}
 use Rattle.costs.specs.Instance.{viewFrom}
-use Rattle.base.specs.Every.{every, every-more, every-not}
+use Rattle.base.specs.Every.{every}
+use Rattle.base.specs.Every.Laws.{every-more, every-not}
 use Rattle.message.specs.Message.{isUnit, filledTo, noneOrBound}
 use Rattle.unit.specs.declared.Unit.{Unit}
 use Rattle.unit.specs.State.{compareOn, notLess, allAtMost, cpaZero, cpaOutInRange, paidInRange, inRangePaid, inRange, ownCost}

@@ -30,9 +30,9 @@ outcomeOf n k was (refused r) = record { refusal = r; unit = was; sent = 0; reco
 outcomeOf n k was (accepted u s ws) = record { refusal = 0; unit = u; sent = length (packets n k s); records = length ws }
 
 -- the same of a step in place: its numbers, and the state left behind the reference
-abbrev pub reportOf : ℕ → ℕ → Decision → Report
-reportOf n k (refused r) = record { refusal = r; sent = 0; records = 0 }
-reportOf n k (accepted u s ws) = record { refusal = 0; sent = length (packets n k s); records = length ws }
+abbrev pub numbersOf : ℕ → ℕ → Decision → Report
+numbersOf n k (refused r) = record { refusal = r; sent = 0; records = 0 }
+numbersOf n k (accepted u s ws) = record { refusal = 0; sent = length (packets n k s); records = length ws }
 
 abbrev pub unitOf : Unit → Decision → Unit
 unitOf was (refused r) = was

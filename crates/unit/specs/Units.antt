@@ -2,8 +2,9 @@
 -- Assumes nothing.
 use Prim.Native.Nat.{ℕ, pred}
 use mathlib.Core.Path.{_≡_}
-use mathlib.Core.List.{List, [], _∷_, List·Memᴰ as In}
+use mathlib.Core.List.{List, [], _∷_}
 use lib.ListN.{getD}
+use Rattle.base.specs.Members.{Every}
 use Rattle.costs.specs.Instance.{Instance, viewOf}
 use Rattle.message.specs.Message.{Packet}
 use Rattle.unit.specs.declared.Unit.{Unit as State}
@@ -29,4 +30,4 @@ SamePrefix r q = (r .unit ≡ q .unit) × (r .values ≡ q .values)
 -- no two of a list are
 abbrev pub Distinct : List Written → Type 0
 Distinct [] = Unit {0}
-Distinct (r ∷ rs) = ((q : Written) → In q rs → SamePrefix r q → ⊥) × Distinct rs
+Distinct (r ∷ rs) = Every (λ q. SamePrefix r q → ⊥) rs × Distinct rs

@@ -14,7 +14,7 @@ use lib.Seq.{drop-cons, set-at, getD-at, getD-set-same, getD-set-other, ext-getD
 use Rattle.table.specs.Stream.{unitsOf}
 use Rattle.costs.specs.Instance.{View, viewOf, instanceOf}
 use Rattle.costs.specs.Gather.{sizesIn}
-use Rattle.base.specs.Every.{every-not}
+use Rattle.base.specs.Every.Laws.{every-not}
 use Rattle.unit.specs.declared.Unit.{Unit}
 use Rattle.unit.specs.State.{emptyUnit, allAtMost, paidInRange, inRange}
 use Rattle.network.specs.Run.{unitAt}

@@ -14,8 +14,8 @@ use lib.Seq.{getD-drop, getD-take, length-take-le, getD-append-add, take-append-
 use borrow.Author.Tests.{lt-ltb, le-ltb, ltb-true, ltb-false, eq-eqb, ne-eqb, le-leb}
 use Rattle.base.specs.Limits.{pairLimit, costsSize}
 use Rattle.base.specs.Sums.{sumTo}
-use Rattle.table.specs.Stream.{unitsOf, sizesOf, needed, costAt, costsGood, Accepted}
-use Rattle.table.specs.StreamLaws.{accepted-units, accepted-cost}
+use Rattle.table.specs.Stream.{unitsOf, sizesOf, needed, costsGood, Accepted}
+use Rattle.table.specs.StreamLaws.{streamCost, accepted-units, accepted-cost}
 use Rattle.base.specs.Shape.{isValue}
 use Rattle.base.specs.Shape.Laws.{range-value}
 use Rattle.costs.specs.Instance.{View, viewOf, pairStart, inPair, costNumber, instanceOf, otherStart, lentCost, lentView, domOf, costsOf}
@@ -85,7 +85,7 @@ module _ (s : List ℕ) (fit : needed s ≤ length s) where
       ∙ getD-drop (1 + unitsOf s + 2 * pairStart (domOf s) (unitsOf s) i j) s y 0
 
   -- cost number x of a pair
-  pair-number : (i j x : ℕ) → x < domOf s i * domOf s j → costNumber (pairBytes s i j) x ≡ costAt s (pairStart (domOf s) (unitsOf s) i j + x)
+  pair-number : (i j x : ℕ) → x < domOf s i * domOf s j → costNumber (pairBytes s i j) x ≡ streamCost s (pairStart (domOf s) (unitsOf s) i j + x)
   pair-number i j x h =
       let p : ℕ = pairStart (domOf s) (unitsOf s) i j in
       let a : 1 + unitsOf s + 2 * p + 2 * x ≡ 1 + unitsOf s + 2 * (p + x) = omega arith in
@@ -139,7 +139,7 @@ module _ (s : List ℕ) (fit : needed s ≤ length s) where
 
     -- a unit before k, and one after it
     number-before : (j x : ℕ) → j < k → x < domOf s j * domOf s k
-        → costNumber (gatherTo s k (unitsOf s)) (otherStart (domOf s) k j + x) ≡ costAt s (pairStart (domOf s) (unitsOf s) j k + x)
+        → costNumber (gatherTo s k (unitsOf s)) (otherStart (domOf s) k j + x) ≡ streamCost s (pairStart (domOf s) (unitsOf s) j k + x)
     number-before j x l b =
         let e : cond (eqb j k) 0 (domOf s j) ≡ domOf s j = other-size (domOf s) k j (λ e. omega arith) in
         let c : domOf s k * domOf s j ≡ domOf s j * domOf s k = mul-comm (domOf s k) (domOf s j) in
@@ -148,7 +148,7 @@ module _ (s : List ℕ) (fit : needed s ≤ length s) where
         ∙ pair-number j k x b
 
     number-after : (j x : ℕ) → k < j → j < unitsOf s → x < domOf s k * domOf s j
-        → costNumber (gatherTo s k (unitsOf s)) (otherStart (domOf s) k j + x) ≡ costAt s (pairStart (domOf s) (unitsOf s) k j + x)
+        → costNumber (gatherTo s k (unitsOf s)) (otherStart (domOf s) k j + x) ≡ streamCost s (pairStart (domOf s) (unitsOf s) k j + x)
     number-after j x l h b =
         let e : cond (eqb j k) 0 (domOf s j) ≡ domOf s j = other-size (domOf s) k j (λ e. omega arith) in
         gather-number j (unitsOf s) x h (omega arith) (rw e b)

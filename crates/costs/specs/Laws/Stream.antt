@@ -13,8 +13,8 @@ use lib.Seq.{getD-drop, getD-take, length-take-le}
 use borrow.Author.Tests.{ltb-true, ltb-false}
 use Rattle.base.specs.Limits.{pairLimit}
 use Rattle.base.specs.Sums.{sumFrom}
-use Rattle.table.specs.Stream.{unitsOf, sizesOf, sumList, pairsIn, needed, costAt, Accepted}
-use Rattle.table.specs.StreamLaws.{accepted-units, accepted-size, accepted-length, accepted-cost}
+use Rattle.table.specs.Stream.{unitsOf, sizesOf, sumList, pairsIn, needed, Accepted}
+use Rattle.table.specs.StreamLaws.{streamCost, accepted-units, accepted-size, accepted-length, accepted-cost}
 use Rattle.base.specs.Shape.{isValue}
 use Rattle.base.specs.Shape.Laws.{value-range}
 use Rattle.costs.specs.Instance.{rowStart, pairStart, inPair, costNumber, tableCost, instanceOf, domOf, costsOf}
@@ -81,7 +81,7 @@ all-four false b c d e = absurd (false≢true e)
 -- ---- an accepted stream
 
 -- cost number k of all costs
-pub cost-number-at : (s : List ℕ) (k : ℕ) → costNumber (costsOf s) k ≡ costAt s k
+pub cost-number-at : (s : List ℕ) (k : ℕ) → costNumber (costsOf s) k ≡ streamCost s k
 cost-number-at s k =
     let e : 1 + unitsOf s + (2 * k + 1) ≡ 1 + unitsOf s + 2 * k + 1 = omega arith in
     rw (getD-drop (1 + unitsOf s) s (2 * k) 0, getD-drop (1 + unitsOf s) s (2 * k + 1) 0, e)

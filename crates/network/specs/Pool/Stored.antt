@@ -11,12 +11,13 @@ use native.Mathlib.Omega.{arith}
 use lib.ListN.{length, take, drop, take-append-drop, length-append, length-drop}
 use lib.Seq.{take-at, drop-at}
 use Rattle.base.specs.Limits.{poolCells, poolSize, messageSize}
+use Rattle.base.specs.Members.{In, here, there, Every}
+use Rattle.base.specs.Members.Laws.{in-left, in-right, every-append}
 use Rattle.message.specs.Message.{Packet, Sized}
 use Rattle.message.specs.Encode.{encode}
 use Rattle.message.specs.EncodeLaws.{length-encode}
 use Rattle.unit.specs.Send.{encodeAll, laid}
 use Rattle.unit.specs.Laying.{encode-append}
-use Rattle.protocol.specs.Lists.{In, here, there, in-left, in-right, Every, every-append}
 use Rattle.network.specs.Pool.{cellOf, laterCells, poolAfter}
 use Rattle.network.specs.Run.{ifRoom, cells}
 

@@ -18,7 +18,10 @@ use Rattle.costs.specs.Instance.{instanceOf}
 use Rattle.costs.specs.Laws.{problemOf}
 use Rattle.costs.specs.Laws.Stream.{sound-of}
 use Rattle.costs.specs.Gather.{sizesIn}
-use Rattle.base.specs.Every.{every, every-by}
+use Rattle.base.specs.Every.{every}
+use Rattle.base.specs.Every.Laws.{every-by}
+use Rattle.base.specs.Members.{In, here}
+use Rattle.base.specs.Members.Laws.{in-right, in-more, every-append}
 use Rattle.message.specs.Message.{Packet}
 use Rattle.message.specs.Encode.{encode}
 use Rattle.unit.specs.declared.Unit.{Unit as UnitState}
@@ -33,7 +36,6 @@ use Rattle.unit.specs.Laws.Units.{Leaves, step-in-range}
 use Rattle.protocol.specs.Machine as M
 use Rattle.protocol.specs.Machine.{to, Network}
 use Rattle.protocol.specs.Walk.{deliver-stopped, deliver-none, deliver-at}
-use Rattle.protocol.specs.Lists.{In, here, in-right, in-more, every-append}
 use Rattle.protocol.specs.Theorem.{Kept, deliver-kept}
 use Rattle.protocol.specs.Simulation.Relations.{ReadAll, read-append}
 use Rattle.protocol.specs.Simulation.Units as X

@@ -10,6 +10,8 @@ use mathlib.Core.List.{List, _∷_, _++_}
 use native.Mathlib.Nat.{le-trans}
 use lib.ListN.{length}
 use Rattle.base.specs.Limits.{poolCells}
+use Rattle.base.specs.Members.{In, here, Every}
+use Rattle.base.specs.Members.Laws.{in-right}
 use Rattle.table.specs.Stream.{Accepted}
 use Rattle.costs.specs.Instance.{instanceOf}
 use Rattle.costs.specs.Laws.{problemOf}
@@ -21,7 +23,6 @@ use Rattle.unit.specs.Laws.Packets.{Sendable}
 use Rattle.protocol.specs.Machine as M
 use Rattle.protocol.specs.Machine.{to, Network}
 use Rattle.protocol.specs.Tests.{true-not-false}
-use Rattle.protocol.specs.Lists.{In, here, in-right, Every}
 use Rattle.protocol.specs.Count.Tally.{Stops}
 use Rattle.protocol.specs.Count.Width.{most-fits}
 use Rattle.protocol.specs.Theorem.{Kept, kept-demand3}

@@ -12,9 +12,10 @@ use mathlib.Core.List.{List, [], _∷_, _++_}
 use native.Mathlib.Omega.{arith}
 use lib.Dec.{ltb}
 use borrow.Author.Tests.{ltb-true, ltb-false}
+use Rattle.base.specs.Members.{In, here, there}
+use Rattle.base.specs.Members.Laws.{in-cases, in-left, in-right, in-middle, not-in-nil}
 use Rattle.protocol.specs.Problem.{Problem, Laws}
 use Rattle.protocol.specs.Machine.{Msg, down, back, request, estimate, solution, stop, to, toEach, Record, stampOf, valuesOf, Agent, fresh, withBound, Result, refused, done, takeBound, nextRecord, write, counted, received, pad, raise, store, halt, sendDown, tryFrom, assign, resume, onRequest, step, Network, put, made, make, deliver}
-use Rattle.protocol.specs.Lists.{In, here, there, in-cases, in-left, in-right, in-middle, not-in-nil}
 use Rattle.protocol.specs.Walk.{take-bound-cases, try-walk, resume-cases, down-walk, back-walk, request-walk, estimate-walk, deliver-cases}
 use Rattle.protocol.specs.Safety.Facts.{ValidMsg}
 use Rattle.protocol.specs.Safety.Logs.{logs, Recorded, peak, Safe}

@@ -10,9 +10,11 @@ use mathlib.Core.Bool.{Bool, false}
 use mathlib.Core.List.{[], _∷_}
 use native.Mathlib.Omega.{arith}
 use lib.ListN.{length}
+use Rattle.base.specs.Members.{here, Every}
+use Rattle.base.specs.Members.Laws.{every-cons, every-append}
 use Rattle.protocol.specs.Problem.{Problem, Closed, Laws, closed-mono, closed-by-values, closed-full, valid-le-none}
 use Rattle.protocol.specs.Machine.{stop, stampOf, Agent, stamp, values, skip, write, counted, announce, giveBack, backtrack, solved, sendDown, tryFrom, resume}
-use Rattle.protocol.specs.Lists.{here, Every, every-cons, every-append, every-announced, every-given-back, every-sent-down}
+use Rattle.protocol.specs.Lists.{every-announced, every-given-back, every-sent-down}
 use Rattle.protocol.specs.Tests.{le-split}
 use Rattle.protocol.specs.Walk.{try-walk, resume-cases}
 use Rattle.protocol.specs.Safety.Facts.{History, OnLog, Extended, ValidMsg, Before, Sorted, Good, Ready, Spent, Post}

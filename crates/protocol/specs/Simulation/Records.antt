@@ -7,11 +7,12 @@ use mathlib.Core.Logic.{_⊎_, inl, inr}
 use mathlib.Core.List.{List, [], _∷_, _++_, reverse, reverse-reverse, append-assoc}
 use native.Mathlib.Omega.{arith}
 use lib.ListN.{length, length-append}
+use Rattle.base.specs.Members.{In, here, there, Every}
+use Rattle.base.specs.Members.Laws.{in-cases, in-append, in-left, in-right, not-in-nil}
 use Rattle.unit.specs.Step.{Written}
 use Rattle.unit.specs.Units.{SamePrefix, Distinct}
 use Rattle.protocol.specs.Problem.{Problem}
 use Rattle.protocol.specs.Machine.{Record, valuesOf, Agent}
-use Rattle.protocol.specs.Lists.{In, here, there, in-cases, in-append, in-left, in-right, not-in-nil, Every}
 use Rattle.protocol.specs.Safety.Facts.{History, Sorted, rank}
 use Rattle.protocol.specs.Simulation.Relations.{RecordIs, Grown}
 

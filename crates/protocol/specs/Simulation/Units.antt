@@ -10,6 +10,8 @@ use mathlib.Core.List.{List, [], _∷_, _++_}
 use native.Mathlib.Omega.{arith}
 use lib.ListN.{length, set, replicate, length-append, length-set, getD-replicate}
 use Rattle.base.specs.Sums.{sumTo}
+use Rattle.base.specs.Members.{In, Every}
+use Rattle.base.specs.Members.Laws.{in-left, in-right, every-nil, every-append}
 use Rattle.costs.specs.Instance.{Instance, viewOf}
 use Rattle.costs.specs.Laws.{Sound, laws-of, problemOf}
 use Rattle.message.specs.Message.{Packet}
@@ -24,7 +26,6 @@ use Rattle.unit.specs.Laws.Units.{set-unit}
 use Rattle.protocol.specs.Problem.{Laws}
 use Rattle.protocol.specs.Machine as M
 use Rattle.protocol.specs.Machine.{Msg, to, Record, Agent, Result}
-use Rattle.protocol.specs.Lists.{In, in-left, in-right, Every, every-nil, every-append}
 use Rattle.protocol.specs.Safety.Facts.{ValidMsg, Sorted}
 use Rattle.protocol.specs.Safety.Logs.{Recorded, peak, logs, Safe}
 use Rattle.protocol.specs.Safety.Network.{before, StepSafe, Grows, any-step, make-step-safe, put-at, put-other}

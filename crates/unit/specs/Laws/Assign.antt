@@ -12,6 +12,7 @@ use lib.Seq.{getD-set-same, getD-set-other}
 use borrow.Author.Tests.{eqb-true, eqb-false}
 use Rattle.base.specs.Limits.{estimateLimit, prefixLimit}
 use Rattle.base.specs.Sums.{sumTo}
+use Rattle.base.specs.Members.{Every}
 use Rattle.costs.specs.Instance.{View}
 use Rattle.costs.specs.Bounds.{costWith, h}
 use Rattle.costs.specs.Lent.Bounds.{cost-most}
@@ -27,7 +28,7 @@ use Rattle.unit.specs.Laws.Views.{GoodView, units-most, place-16, size-m
 use Rattle.unit.specs.Laws.Stamps.{places-equal}
 use Rattle.unit.specs.Laws.Filled.{filled-own, filled-off, filled-most, zeros-at, set-most, good-or-none, bound-32, limit-next, limit-total}
 use Rattle.unit.specs.Laws.Range.{SizedUnit, InRange, range-tests}
-use Rattle.unit.specs.Laws.Packets.{All, Sendable, Carries, Improved, forward-sendable, back-sendable, forward-few, back-few}
+use Rattle.unit.specs.Laws.Packets.{Sendable, Carries, Improved, forward-sendable, back-sendable, forward-few, back-few}
 
 -- ---- what is kept
 
@@ -40,7 +41,7 @@ Whenever P (accepted u s ws) = P u s ws
 pub record GoodDecision (n : ℕ) (sizes : List ℕ) (w : View) (most : ℕ) (u : State) (s : Sending) (ws : List Written) : Type 0 where
   pub state : inRange sizes w u ≡ true
   pub arrays : SizedUnit u
-  pub sent : All (Sendable n sizes) (packets n (w .place) s)
+  pub sent : Every (Sendable n sizes) (packets n (w .place) s)
   pub few : length (packets n (w .place) s) ≤ 16
   pub records : length ws ≤ most
 

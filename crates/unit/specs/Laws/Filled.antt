@@ -14,7 +14,7 @@ use borrow.Author.Tests.{leb-true, le-leb, ltb-true, ltb-false, eqb-true, eqb-fa
 use Rattle.base.specs.Limits.{NONE, totalLimit, prefixLimit, prefixFactor, pairLimit}
 use Rattle.base.specs.Shape.Laws.{and-left}
 use Rattle.message.specs.Message.{filledTo, boundGood, noneOrBound}
-use Rattle.base.specs.Every.{every-at, every-by}
+use Rattle.base.specs.Every.Laws.{every-at, every-by}
 use Rattle.message.specs.Laws.{bound-parts, not-none-is, filled-at, filled-past, filled-by}
 use Rattle.unit.specs.State.{zeros, allAtMost}
 

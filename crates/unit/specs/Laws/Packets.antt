@@ -3,11 +3,13 @@
 use Prim.Native.Nat.{ℕ, zero, suc, _+_, _-_, _≤_, _<_}
 use mathlib.Core.Path.{_≡_, refl, sym, ap}
 use mathlib.Core.Bool.{Bool, true, false}
-use mathlib.Core.List.{List, [], _∷_, _++_}
+use mathlib.Core.List.{List, []}
 use native.Mathlib.Omega.{arith}
 use lib.ListN.{length, length-append}
 use borrow.Author.Tests.{lt-ltb, le-ltb, eq-eqb, ne-eqb}
 use Rattle.base.specs.Limits.{prefixLimit}
+use Rattle.base.specs.Members.{Every}
+use Rattle.base.specs.Members.Laws.{every-nil, every-cons, every-append}
 use Rattle.message.specs.declared.Message.{Message}
 use Rattle.message.specs.declared.Kind.{Kind}
 use Rattle.message.specs.declared.Kind.the-variants.{Cpa, Request, Estimate, Solution, Stop}
@@ -19,18 +21,10 @@ use Rattle.unit.specs.Send.{packet, sentTo, noBound, boundOnly, each, ot
 
 -- ---- every packet
 
-abbrev pub All : (Packet → Type 0) → List Packet → Type 0
-All P [] = Unit {0}
-All P (p ∷ ps) = P p × All P ps
-
-pub all-append : (P : Packet → Type 0) (a b : List Packet) → All P a → All P b → All P (a ++ b)
-all-append P [] b f g = g
-all-append P (p ∷ a) b f g = (f .0, all-append P a b (f .1) g)
-
-pub all-each : (P : Packet → Type 0) (g : ℕ → Packet) (lo m : ℕ) → ((j : ℕ) → lo ≤ j → j < lo + m → P (g j)) → All P (each g lo m)
+pub every-each : (P : Packet → Type 0) (g : ℕ → Packet) (lo m : ℕ) → ((j : ℕ) → lo ≤ j → j < lo + m → P (g j)) → Every P (each g lo m)
 unfolding each
-all-each P g lo zero f = tt
-all-each P g lo (suc m) f = (f lo (omega arith) (omega arith), all-each P g (suc lo) m (λ j a b. f j (omega arith) (omega arith)))
+every-each P g lo zero f = every-nil P
+every-each P g lo (suc m) f = every-cons P (g lo) (each g (suc lo) m) (f lo (omega arith) (omega arith)) (every-each P g (suc lo) m (λ j a b. f j (omega arith) (omega arith)))
 
 pub each-length : (g : ℕ → Packet) (lo m : ℕ) → length (each g lo m) ≡ m
 unfolding each
@@ -102,11 +96,11 @@ module _ (n : ℕ) (sizes : List ℕ) (k c : ℕ) (m : Message) (k<n : k < n) (h
 
   -- ---- forward
 
-  pub forward-sendable : c ≡ suc k → suc k < n → (b : Bool) → All (Sendable n sizes) (byPlan n k Forward b m)
-  forward-sendable e l b = (
-    cpa-sendable (suc k) l (simp (eq-eqb (suc (suc k)) (suc k + 1) (omega arith))) (rw (lt-ltb (suc k) (suc (suc k)) (omega arith)) (omega arith)),
-    all-each (Sendable n sizes) (sentTo Request (noBound m)) (suc k) (n - suc k) (λ j lo hi. request-sendable e j (omega arith) (omega arith)),
-  )
+  pub forward-sendable : c ≡ suc k → suc k < n → (b : Bool) → Every (Sendable n sizes) (byPlan n k Forward b m)
+  forward-sendable e l b =
+      every-cons (Sendable n sizes) (sentTo Cpa m (suc k)) (each (sentTo Request (noBound m)) (suc k) (n - suc k))
+      (cpa-sendable (suc k) l (simp (eq-eqb (suc (suc k)) (suc k + 1) (omega arith))) (rw (lt-ltb (suc k) (suc (suc k)) (omega arith)) (omega arith)))
+      (every-each (Sendable n sizes) (sentTo Request (noBound m)) (suc k) (n - suc k) (λ j lo hi. request-sendable e j (omega arith) (omega arith)))
 
   -- ---- back
 
@@ -119,24 +113,24 @@ module _ (n : ℕ) (sizes : List ℕ) (k c : ℕ) (m : Message) (k<n : k < n) (h
   solution-one : suc k ≡ n → boundGood n sizes (m .bound) (m .best) ≡ true → (j : ℕ) → (j ≡ k → ⊥) → j < n → Sendable n sizes (sentTo Solution (boundOnly m) j)
   solution-one z g j a b = bound-sendable Solution j b (rw (eq-eqb (suc k) n z, ne-eqb (suc j) (suc k) (λ q. a (omega arith)))) refl refl g
 
-  solutions-sendable : (b : Bool) → Improved n sizes k (m .bound) (m .best) b → All (Sendable n sizes) (solutions n k b m)
-  solutions-sendable false i = tt
+  solutions-sendable : (b : Bool) → Improved n sizes k (m .bound) (m .best) b → Every (Sendable n sizes) (solutions n k b m)
+  solutions-sendable false i = every-nil (Sendable n sizes)
   solutions-sendable true i =
-      all-append (Sendable n sizes) (each (sentTo Solution (boundOnly m)) 0 k) (each (sentTo Solution (boundOnly m)) (suc k) (n - suc k))
-      (all-each (Sendable n sizes) (sentTo Solution (boundOnly m)) 0 k (λ j lo hi. solution-one (i refl .0) (i refl .1) j (λ q. omega arith) (omega arith)))
-      (all-each (Sendable n sizes) (sentTo Solution (boundOnly m)) (suc k) (n - suc k) (λ j lo hi. solution-one (i refl .0) (i refl .1) j (λ q. omega arith) (omega arith)))
+      every-append (Sendable n sizes) (each (sentTo Solution (boundOnly m)) 0 k) (each (sentTo Solution (boundOnly m)) (suc k) (n - suc k))
+      (every-each (Sendable n sizes) (sentTo Solution (boundOnly m)) 0 k (λ j lo hi. solution-one (i refl .0) (i refl .1) j (λ q. omega arith) (omega arith)))
+      (every-each (Sendable n sizes) (sentTo Solution (boundOnly m)) (suc k) (n - suc k) (λ j lo hi. solution-one (i refl .0) (i refl .1) j (λ q. omega arith) (omega arith)))
 
-  handed-sendable : c ≡ k → (j : ℕ) → j ≡ k → All (Sendable n sizes) (handBack n j m)
-  handed-sendable e zero q = all-each (Sendable n sizes) (sentTo Stop (boundOnly m)) 1 (n - 1) (λ j lo hi. stop-one (sym q) j lo (omega arith))
-  handed-sendable e (suc j) q = (back-one e j q, tt)
+  handed-sendable : c ≡ k → (j : ℕ) → j ≡ k → Every (Sendable n sizes) (handBack n j m)
+  handed-sendable e zero q = every-each (Sendable n sizes) (sentTo Stop (boundOnly m)) 1 (n - 1) (λ j lo hi. stop-one (sym q) j lo (omega arith))
+  handed-sendable e (suc j) q = every-cons (Sendable n sizes) (sentTo Cpa m j) [] (back-one e j q) (every-nil (Sendable n sizes))
 
-  pub back-sendable : c ≡ k → (b : Bool) → Improved n sizes k (m .bound) (m .best) b → All (Sendable n sizes) (byPlan n k Back b m)
-  back-sendable e b i = all-append (Sendable n sizes) (handBack n k m) (solutions n k b m) (handed-sendable e k refl) (solutions-sendable b i)
+  pub back-sendable : c ≡ k → (b : Bool) → Improved n sizes k (m .bound) (m .best) b → Every (Sendable n sizes) (byPlan n k Back b m)
+  back-sendable e b i = every-append (Sendable n sizes) (handBack n k m) (solutions n k b m) (handed-sendable e k refl) (solutions-sendable b i)
 
 -- ---- reply
 
-pub reply-sendable : (n : ℕ) (sizes : List ℕ) (k : ℕ) (m : Message) (b : Bool) → Sendable n sizes (packet Estimate m) → All (Sendable n sizes) (byPlan n k Reply b m)
-reply-sendable n sizes k m b w = (w, tt)
+pub reply-sendable : (n : ℕ) (sizes : List ℕ) (k : ℕ) (m : Message) (b : Bool) → Sendable n sizes (packet Estimate m) → Every (Sendable n sizes) (byPlan n k Reply b m)
+reply-sendable n sizes k m b w = every-cons (Sendable n sizes) (packet Estimate m) [] w (every-nil (Sendable n sizes))
 
 -- ---- how many
 

@@ -12,6 +12,7 @@ use lib.ListN.{length, getD, set, length-set}
 use borrow.Author.Tests.{ltb-true, lt-ltb}
 use Rattle.base.specs.Limits.{estimateLimit, prefixLimit}
 use Rattle.base.specs.Shape.Laws.{and-left, and-right}
+use Rattle.base.specs.Members.Laws.{every-nil}
 use Rattle.costs.specs.Instance.{View}
 use Rattle.costs.specs.Bounds.{estimate}
 use Rattle.costs.specs.Lent.Bounds.{estimate-most}
@@ -86,7 +87,7 @@ module _ (n : ℕ) (sizes : List ℕ) (w : View) (g : GoodView n sizes w) where
     -- a state that only listens
     quiet-kept : GoodDecision n sizes w 16 u silent []
     unfolding packets
-    quiet-kept = record { state = range-tests sizes w u r; arrays = a; sent = tt; few = omega arith; records = omega arith }
+    quiet-kept = record { state = range-tests sizes w u r; arrays = a; sent = every-nil (Sendable n sizes); few = omega arith; records = omega arith }
 
     -- the CPA out, in hand
     out-ready : 1 ≤ ownValue w u → getD (u .threshold) (w .place) 0 ≤ 16 → Ready n sizes w u

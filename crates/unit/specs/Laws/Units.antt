@@ -3,15 +3,16 @@
 -- Assumes nothing.
 use Prim.Native.Nat.{ℕ, zero, suc, _≤_, _<_, pred}
 use mathlib.Core.Path.{_≡_, refl, sym, _∙_, subst}
-use mathlib.Core.Logic.{_≢_, _⊎_, inl, inr}
+use mathlib.Core.Logic.{_≢_}
 use mathlib.Core.Bool.{Bool, true, false}
-use mathlib.Core.List.{List, [], _∷_, List·Memᴰ as In, List·Memᴰ·cases-cons as in-cases, List·Memᴰ·not-nil as not-in-nil}
+use mathlib.Core.List.{List}
 use native.Mathlib.Omega.{arith}
 use lib.Dec.{eqb}
 use lib.ListN.{length, set, replicate, length-set, getD-replicate}
 use lib.Seq.{getD-set-same, getD-set-other}
 use borrow.Author.Tests.{eqb-true, eqb-false}
 use Rattle.base.specs.Shape.Laws.{and-right}
+use Rattle.base.specs.Members.{Every}
 use Rattle.costs.specs.Instance.{Instance, viewOf}
 use Rattle.message.specs.Message.{Packet, isUnit, addressGood}
 use Rattle.unit.specs.declared.Unit.{Unit as State}
@@ -22,18 +23,9 @@ use Rattle.unit.specs.Send.{packets}
 use Rattle.unit.specs.Units.{unitAt, placeOf, stepOn}
 use Rattle.unit.specs.Laws.Views.{GoodView, unit-range}
 use Rattle.unit.specs.Laws.Range.{SizedUnit}
-use Rattle.unit.specs.Laws.Packets.{All, Sendable}
+use Rattle.unit.specs.Laws.Packets.{Sendable}
 use Rattle.unit.specs.Laws.Assign.{Whenever, GoodDecision}
 use Rattle.unit.specs.Laws.Steps.{respond-kept, fresh-arrays, fresh-in-range, start-kept}
-
--- what holds of all packets holds of each
-pub each-of-all : (P : Packet → Type 0) (ps : List Packet) → All P ps → (x : Packet) → In x ps → P x
-each-of-all P [] h x i = absurd (not-in-nil i)
-each-of-all P (p ∷ ps) h x i = go (in-cases i) (λ j. each-of-all P ps (h .1) x j)
-  where
-    go : (x ≡ p) ⊎ In x ps → (In x ps → P x) → P x
-    go (inl e) f = subst P (sym e) (h .0)
-    go (inr j) f = f j
 
 -- ---- one unit put in place of another
 
@@ -71,7 +63,7 @@ pub record AllInRange (I : Instance) (sizes : List ℕ) (us : List State) : Type
 -- what a step of the unit at place k leaves: all in range, and at most 16 packets that can be written
 pub record Leaves (I : Instance) (sizes : List ℕ) (us : List State) (k : ℕ) (u : State) (s : Sending) (ws : List Written) : Type 0 where
   pub units : AllInRange I sizes (set us k u)
-  pub sent : (p : Packet) → In p (packets (I .n) k s) → Sendable (I .n) sizes p
+  pub sent : Every (Sendable (I .n) sizes) (packets (I .n) k s)
   pub few : length (packets (I .n) k s) ≤ 16
 
 module _ (I : Instance) (sizes : List ℕ) (n16 : I .n ≤ 16) (views : (k : ℕ) → k < I .n → GoodView (I .n) sizes (viewOf I k)) where
@@ -84,7 +76,7 @@ module _ (I : Instance) (sizes : List ℕ) (n16 : I .n ≤ 16) (views : (k : ℕ
           states = λ i l. set-unit (λ j x. j < I .n → inRange sizes (viewOf I j) x ≡ true) us k u (omega (arith, lt, n16, r .size)) (λ z. h .state) (λ j ne. r .states j) i l;
           arrays = λ i l. set-unit (λ j x. j < I .n → SizedUnit x) us k u (omega (arith, lt, n16, r .size)) (λ z. h .arrays) (λ j ne. r .arrays j) i l;
         };
-        sent = each-of-all (Sendable (I .n) sizes) (packets (I .n) k s) (h .sent);
+        sent = h .sent;
         few = h .few;
       }
 

@@ -6,7 +6,8 @@ use mathlib.Core.Bool.{true}
 use native.Mathlib.Omega.{arith}
 use borrow.Author.Tests.{not-true, not-false}
 use borrow.Author.Needs.{needs}
-use Rattle.base.specs.Every.{every, every-more, every-not}
+use Rattle.base.specs.Every.{every}
+use Rattle.base.specs.Every.Laws.{every-more, every-not}
 use Rattle.message.specs.Message.{placeAt, filledTo}
 use Rattle.message.proofs.fields.filled_to.Statement.{statement}
 use Rattle.message.proofs.fields.filled_to.Tie as tie

@@ -8,7 +8,8 @@ use borrow.Author.Tests.{not-true, not-false}
 use Rattle.table.specs.Stream.{unitsOf}
 use Rattle.table.specs.StreamLaws.{accepted-units}
 use Rattle.costs.specs.Gather.{sizesIn}
-use Rattle.base.specs.Every.{every, every-more, every-not}
+use Rattle.base.specs.Every.{every}
+use Rattle.base.specs.Every.Laws.{every-more, every-not}
 use Rattle.unit.specs.Units.{unitAt}
 use Rattle.network.specs.Code.{unitInRange, range-of-paid}
 use Rattle.network.proofs.delivery.units_in_range.Statement.{statement}
