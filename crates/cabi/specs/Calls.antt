@@ -1,7 +1,7 @@
 -- The answers of the calls of document 01 in the structs that C is handed, kinds by their numbers, and step and delivery on what C lends.
 -- Assumes nothing.
 use Prim.Native.Nat.{ℕ, pred}
-use mathlib.Core.Path.{_≡_, _∙_}
+use mathlib.Core.Path.{_≡_, ap, _∙_}
 use mathlib.Core.Bool.{cond, not}
 use mathlib.Core.List.{List}
 use lib.ListN.{length}
@@ -40,6 +40,9 @@ codeOf (Refused r) = 0
 
 abbrev pub parsedOf : Reading → Parsed
 parsedOf p = record { refusal = refusalOf (p .answer); kind = codeOf (p .answer); message = p .message }
+
+pub parsed-is : (p q : Reading) (r k : ℕ) → r ≡ refusalOf (p .answer) → k ≡ codeOf (p .answer) → p ≡ q → record { refusal = r; kind = k; message = p .message } ≡ parsedOf q
+parsed-is p q r k e f g = rw (e, f) (ap parsedOf g)
 
 -- 01: "Writing one: 5, 10, 9, 13", where no kind has the number: what goes with no kind is against it
 unfoldable pub unknownKind : ℕ → List ℕ → Message → ℕ

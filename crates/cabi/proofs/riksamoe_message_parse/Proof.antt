@@ -1,5 +1,6 @@
 -- `riksamoe_message_parse` meets its contract: the answer of `message::parse`, its two cases told by numbers.
 -- Assumes nothing.
+use Rattle.cabi.specs.Calls.{parsed-is}
 use borrow.Author.Needs.{needs}
 use Rattle.cabi.proofs.riksamoe_message_parse.Statement.{statement}
 use Rattle.cabi.proofs.riksamoe_message_parse.Tie as tie
@@ -14,7 +15,7 @@ code-of-requires : tie.Need-code-of-requires
 code-of-requires c κs = search needs
 
 returns : tie.Need-returns
-returns c = cc
+returns c = parsed-is _ _ _ _ (c .before .refusal-of .ensures) (c .code-of .ensures) (c .before .before .before .parse .ensures)
 
 pub riksamoe-message-parse-spec : {M : Type 1} → statement M
 riksamoe-message-parse-spec =

@@ -1,5 +1,7 @@
 -- `riksamoe_search` meets its contract: it is `search::exhaustive`, its answer in the struct of C.
 -- Assumes nothing.
+use mathlib.Core.Path.{ap}
+use Rattle.cabi.specs.Calls.{ofFound}
 use borrow.Author.Needs.{needs}
 use Rattle.cabi.proofs.riksamoe_search.Statement.{statement}
 use Rattle.cabi.proofs.riksamoe_search.Tie as tie
@@ -8,7 +10,7 @@ exhaustive-requires : tie.Need-exhaustive-requires
 exhaustive-requires c κs = search needs
 
 returns : tie.Need-returns
-returns c = cc
+returns c = ap ofFound (c .before .exhaustive .ensures)
 
 pub riksamoe-search-spec : {M : Type 1} → statement M
 riksamoe-search-spec = tie.close (tie.spec exhaustive-requires returns)

@@ -1,5 +1,8 @@
 -- `riksamoe_unit_in_range` meets its contract: `unit::in_range` of the lent state as it is read.
 -- Assumes nothing.
+use mathlib.Core.Path.{ap, _∙_}
+use Rattle.unit.specs.declared.Unit.{Unit}
+use Rattle.unit.specs.Calls.{rangeRefusal}
 use borrow.Author.Needs.{needs}
 use Rattle.cabi.proofs.riksamoe_unit_in_range.Statement.{statement}
 use Rattle.cabi.proofs.riksamoe_unit_in_range.Tie as tie
@@ -11,7 +14,9 @@ in-range-requires : tie.Need-in-range-requires
 in-range-requires c κs = search needs
 
 returns : tie.Need-returns
-returns c = cc
+returns c =
+    let a = c .before .before .before .before .args in
+    c .in-range .ensures ∙ ap (λ (v : Unit). rangeRefusal v (a .own) (a .n) (a .sizes .places) (a .costs .now)) (c .before .unit-from .ensures)
 
 pub riksamoe-unit-in-range-spec : {M : Type 1} → statement M
 riksamoe-unit-in-range-spec = tie.close (tie.spec unit-from-requires in-range-requires returns)

@@ -8,7 +8,7 @@ units-back-requires : tie.Need-units-back-requires
 units-back-requires c κs = search needs
 
 returns : tie.Need-returns
-returns c = cc
+returns c = rw (c .before .before .units-back .ensures)
 
 pub answer-back-spec : {M : Type 1} → statement M
 answer-back-spec = tie.close (tie.spec units-back-requires returns)

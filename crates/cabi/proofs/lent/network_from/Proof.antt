@@ -8,7 +8,7 @@ units-from-requires : tie.Need-units-from-requires
 units-from-requires c κs = search needs
 
 returns : tie.Need-returns
-returns c = cc
+returns c = rw (c .before .before .units-from .ensures)
 
 pub network-from-spec : {M : Type 1} → statement M
 network-from-spec = tie.close (tie.spec units-from-requires returns)

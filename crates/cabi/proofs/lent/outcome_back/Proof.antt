@@ -8,7 +8,7 @@ unit-back-requires : tie.Need-unit-back-requires
 unit-back-requires c κs = search needs
 
 returns : tie.Need-returns
-returns c = cc
+returns c = rw (c .unit-back .ensures)
 
 pub outcome-back-spec : {M : Type 1} → statement M
 outcome-back-spec = tie.close (tie.spec unit-back-requires returns)

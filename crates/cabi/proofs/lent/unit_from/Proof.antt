@@ -10,7 +10,7 @@ threshold-from-requires c κs = search needs
 
 returns : tie.Need-returns
 unfolding unitFrom
-returns c = cc
+returns c = rw (c .before .before .before .before .before .threshold-from .ensures)
 
 pub unit-from-spec : {M : Type 1} → statement M
 unit-from-spec = tie.close (tie.spec threshold-from-requires returns)
