@@ -16,6 +16,7 @@ use Rattle.message.specs.declared.Read.{Read}
 use Rattle.message.specs.declared.Read.the-variants.{Good, Refused}
 use Rattle.message.specs.declared.Message.{Message}
 use Rattle.message.specs.declared.Parsed.{Parsed}
+use Rattle.message.specs.Layout.{stampByte, valuesByte, costByte, boundByte, bestByte, zeroByte, checkByte}
 use Rattle.message.specs.Message.{kindOf, noMessage, addressGood, wellFormed}
 use Rattle.message.specs.Encode.{encode, putRefusal}
 
@@ -24,20 +25,20 @@ unfoldable pub messageIn : List ℕ → Message
 messageIn s = record {
   sender = getD s 1 0;
   receiver = getD s 2 0;
-  stamp = take places (drop 4 s);
-  values = take places (drop 20 s);
-  cost = u32At s 36;
-  bound = u32At s 40;
-  best = take places (drop 44 s);
+  stamp = take places (drop stampByte s);
+  values = take places (drop valuesByte s);
+  cost = u32At s costByte;
+  bound = u32At s boundByte;
+  best = take places (drop bestByte s);
 }
 
 -- 01, refusal 8: "message not 64 bytes, or check wrong"
 unfoldable pub checkGood : List ℕ → Bool
-checkGood s = eqb (length s) messageSize && eqb (u16At s 62) (sumOf (take 62 s))
+checkGood s = eqb (length s) messageSize && eqb (u16At s checkByte) (sumOf (take checkByte s))
 
 -- 01: "3 zero", "60-61 zero"
 unfoldable pub restZero : List ℕ → Bool
-restZero s = eqb (getD s 3 0) 0 && eqb (u16At s 60) 0
+restZero s = eqb (getD s 3 0) 0 && eqb (u16At s zeroByte) 0
 
 -- the answer with a refusal: every field beside the number is zero
 abbrev pub refused : ℕ → Parsed

@@ -17,10 +17,11 @@ use Rattle.base.specs.Put.{putAt}
 use Rattle.base.specs.Put.Laws.{put-next}
 use Rattle.message.specs.declared.Kind.{Kind}
 use Rattle.message.specs.declared.Message.{Message}
+use Rattle.message.specs.Layout.{stampByte, valuesByte, costByte, boundByte, bestByte, checkByte}
 use Rattle.message.specs.Message.{kindCode, Sized}
 use Rattle.message.specs.Encode.{body, encode, putRefusal, putInto}
 
-pub length-body : (k : Kind) (m : Message) → Sized m → length (body k m) ≡ 62
+pub length-body : (k : Kind) (m : Message) → Sized m → length (body k m) ≡ checkByte
 unfolding body
 length-body k m z = simp length-append (omega arith)
 
@@ -41,26 +42,26 @@ head kind m = kind ∷ m .sender ∷ m .receiver ∷ 0 ∷ []
 
 -- the fields laid over 64 bytes that hold the head alone make the body and two zeros
 pub fields-laid : (k : Kind) (m : Message) → Sized m
-    → putAt (putAt (putAt (putAt (putAt (head (kindCode k) m ++ replicate 60 0) 4 (m .stamp)) 20 (m .values)) 36 (le32 (m .cost))) 40 (le32 (m .bound))) 44 (m .best) ≡ body k m ++ 0 ∷ 0 ∷ []
+    → putAt (putAt (putAt (putAt (putAt (head (kindCode k) m ++ replicate 60 0) stampByte (m .stamp)) valuesByte (m .values)) costByte (le32 (m .cost))) boundByte (le32 (m .bound))) bestByte (m .best) ≡ body k m ++ 0 ∷ 0 ∷ []
 unfolding body
 fields-laid k m z =
     let h0 : List ℕ = head (kindCode k) m in
-    let h1 : length (h0 ++ m .stamp) ≡ 20 = simp length-append (omega arith) in
-    let h2 : length (h0 ++ m .stamp ++ m .values) ≡ 36 = simp length-append (omega arith) in
-    let h3 : length (h0 ++ m .stamp ++ m .values ++ le32 (m .cost)) ≡ 40 = simp length-append (omega arith) in
-    let h4 : length (h0 ++ m .stamp ++ m .values ++ le32 (m .cost) ++ le32 (m .bound)) ≡ 44 = simp length-append (omega arith) in
-    ap (λ (l : List ℕ). putAt (putAt (putAt (putAt l 20 (m .values)) 36 (le32 (m .cost))) 40 (le32 (m .bound))) 44 (m .best)) (field-next h0 (replicate 60 0) (m .stamp) 4 16 refl (z .stamp))
-    ∙ ap (λ (l : List ℕ). putAt (putAt (putAt l 36 (le32 (m .cost))) 40 (le32 (m .bound))) 44 (m .best)) (field-next (h0 ++ m .stamp) (replicate 44 0) (m .values) 20 16 h1 (z .values))
-    ∙ ap (λ (l : List ℕ). putAt (putAt l 40 (le32 (m .bound))) 44 (m .best)) (field-next (h0 ++ m .stamp ++ m .values) (replicate 28 0) (le32 (m .cost)) 36 4 h2 refl)
-    ∙ ap (λ (l : List ℕ). putAt l 44 (m .best)) (field-next (h0 ++ m .stamp ++ m .values ++ le32 (m .cost)) (replicate 24 0) (le32 (m .bound)) 40 4 h3 refl)
-    ∙ field-next (h0 ++ m .stamp ++ m .values ++ le32 (m .cost) ++ le32 (m .bound)) (replicate 20 0) (m .best) 44 16 h4 (z .best)
+    let h1 : length (h0 ++ m .stamp) ≡ valuesByte = simp length-append (omega arith) in
+    let h2 : length (h0 ++ m .stamp ++ m .values) ≡ costByte = simp length-append (omega arith) in
+    let h3 : length (h0 ++ m .stamp ++ m .values ++ le32 (m .cost)) ≡ boundByte = simp length-append (omega arith) in
+    let h4 : length (h0 ++ m .stamp ++ m .values ++ le32 (m .cost) ++ le32 (m .bound)) ≡ bestByte = simp length-append (omega arith) in
+    ap (λ (l : List ℕ). putAt (putAt (putAt (putAt l valuesByte (m .values)) costByte (le32 (m .cost))) boundByte (le32 (m .bound))) bestByte (m .best)) (field-next h0 (replicate 60 0) (m .stamp) stampByte 16 refl (z .stamp))
+    ∙ ap (λ (l : List ℕ). putAt (putAt (putAt l costByte (le32 (m .cost))) boundByte (le32 (m .bound))) bestByte (m .best)) (field-next (h0 ++ m .stamp) (replicate 44 0) (m .values) valuesByte 16 h1 (z .values))
+    ∙ ap (λ (l : List ℕ). putAt (putAt l boundByte (le32 (m .bound))) bestByte (m .best)) (field-next (h0 ++ m .stamp ++ m .values) (replicate 28 0) (le32 (m .cost)) costByte 4 h2 refl)
+    ∙ ap (λ (l : List ℕ). putAt l bestByte (m .best)) (field-next (h0 ++ m .stamp ++ m .values ++ le32 (m .cost)) (replicate 24 0) (le32 (m .bound)) boundByte 4 h3 refl)
+    ∙ field-next (h0 ++ m .stamp ++ m .values ++ le32 (m .cost) ++ le32 (m .bound)) (replicate 20 0) (m .best) bestByte 16 h4 (z .best)
     ∙ simp append-assoc
 
 -- the two bytes after the body
-pub sum-laid : (p : List ℕ) (x : ℕ) → length p ≡ 62 → set (set (p ++ 0 ∷ 0 ∷ []) 62 (x % 256)) 63 (x / 256 % 256) ≡ p ++ le16 x
+pub sum-laid : (p : List ℕ) (x : ℕ) → length p ≡ checkByte → set (set (p ++ 0 ∷ 0 ∷ []) checkByte (x % 256)) 63 (x / 256 % 256) ≡ p ++ le16 x
 sum-laid p x e =
     let g : length (p ++ 0 ∷ 0 ∷ []) ≡ messageSize = simp length-append (omega arith) in
-    sets-eq (le16 x) (p ++ 0 ∷ 0 ∷ []) 62 (omega arith) ∙ field-next p (replicate 2 0) (le16 x) 62 2 e refl ∙ append-nil (p ++ le16 x)
+    sets-eq (le16 x) (p ++ 0 ∷ 0 ∷ []) checkByte (omega arith) ∙ field-next p (replicate 2 0) (le16 x) checkByte 2 e refl ∙ append-nil (p ++ le16 x)
 
 -- ------------------------------------------------------------------------------------------------------------------
 -- Into a lent buffer.

@@ -31,6 +31,7 @@ use Rattle.message.specs.declared.Read.{Read}
 use Rattle.message.specs.declared.Read.the-variants.{Good, Refused}
 use Rattle.message.specs.declared.Message.{Message}
 use Rattle.message.specs.declared.Parsed.{Parsed}
+use Rattle.message.specs.Layout.{stampByte, valuesByte, costByte, boundByte, bestByte, zeroByte, checkByte}
 use Rattle.message.specs.Message.{kindCode, kindOf, noMessage, Sized, addressGood, wellFormed}
 use Rattle.message.specs.Encode.{body, encode, putRefusal}
 use Rattle.message.specs.EncodeLaws.{head, length-body, length-encode}
@@ -96,53 +97,53 @@ module _ (k : Kind) (m : Message) (z : Sized m) where
   check-of-encode =
       let b : List ℕ = body k m in
       let x : ℕ = sumOf b in
-      let h : length b ≡ 62 = length-body k m z in
+      let h : length b ≡ checkByte = length-body k m z in
       let l : length (b ++ le16 x) ≡ messageSize = length-encode k m z in
-      let u : u16At (b ++ le16 x) 62 ≡ x = u16-after b (le16 x) 62 h ∙ u16-of-le16 x (omega (arith, sum-small b)) in
-      rw (eq-eqb (length (b ++ le16 x)) messageSize l, take-at b (le16 x) 62 h) (eq-eqb (u16At (b ++ le16 x) 62) x u)
+      let u : u16At (b ++ le16 x) checkByte ≡ x = u16-after b (le16 x) checkByte h ∙ u16-of-le16 x (omega (arith, sum-small b)) in
+      rw (eq-eqb (length (b ++ le16 x)) messageSize l, take-at b (le16 x) checkByte h) (eq-eqb (u16At (b ++ le16 x) checkByte) x u)
 
   -- each field is read where it was laid
-  stamp-of-encode : take 16 (drop 4 (encode k m)) ≡ m .stamp
+  stamp-of-encode : take 16 (drop stampByte (encode k m)) ≡ m .stamp
   unfolding encode body
   stamp-of-encode =
-      ap (λ (s : List ℕ). take 16 (drop 4 s)) (around-b (first k m) (m .stamp) (m .values) (le32 (m .cost)) (le32 (m .bound)) (m .best) zeros (last k m))
-      ∙ field-after (first k m) (m .stamp) (m .values ++ le32 (m .cost) ++ le32 (m .bound) ++ m .best ++ zeros ++ last k m) 4 16 refl (z .stamp)
+      ap (λ (s : List ℕ). take 16 (drop stampByte s)) (around-b (first k m) (m .stamp) (m .values) (le32 (m .cost)) (le32 (m .bound)) (m .best) zeros (last k m))
+      ∙ field-after (first k m) (m .stamp) (m .values ++ le32 (m .cost) ++ le32 (m .bound) ++ m .best ++ zeros ++ last k m) stampByte 16 refl (z .stamp)
 
-  values-of-encode : take 16 (drop 20 (encode k m)) ≡ m .values
+  values-of-encode : take 16 (drop valuesByte (encode k m)) ≡ m .values
   unfolding encode body
   values-of-encode =
-      let h : length (first k m ++ m .stamp) ≡ 20 = simp length-append (omega arith) in
-      ap (λ (s : List ℕ). take 16 (drop 20 s)) (around-c (first k m) (m .stamp) (m .values) (le32 (m .cost)) (le32 (m .bound)) (m .best) zeros (last k m))
-      ∙ field-after (first k m ++ m .stamp) (m .values) (le32 (m .cost) ++ le32 (m .bound) ++ m .best ++ zeros ++ last k m) 20 16 h (z .values)
+      let h : length (first k m ++ m .stamp) ≡ valuesByte = simp length-append (omega arith) in
+      ap (λ (s : List ℕ). take 16 (drop valuesByte s)) (around-c (first k m) (m .stamp) (m .values) (le32 (m .cost)) (le32 (m .bound)) (m .best) zeros (last k m))
+      ∙ field-after (first k m ++ m .stamp) (m .values) (le32 (m .cost) ++ le32 (m .bound) ++ m .best ++ zeros ++ last k m) valuesByte 16 h (z .values)
 
-  cost-of-encode : u32At (encode k m) 36 ≡ m .cost
+  cost-of-encode : u32At (encode k m) costByte ≡ m .cost
   unfolding encode body
   cost-of-encode =
-      let h : length (first k m ++ m .stamp ++ m .values) ≡ 36 = simp length-append (omega arith) in
-      ap (λ (s : List ℕ). u32At s 36) (around-d (first k m) (m .stamp) (m .values) (le32 (m .cost)) (le32 (m .bound)) (m .best) zeros (last k m))
-      ∙ u32-after (first k m ++ m .stamp ++ m .values) (le32 (m .cost) ++ (le32 (m .bound) ++ m .best ++ zeros ++ last k m)) 36 h ∙ u32-of-le32 (m .cost) (z .cost)
+      let h : length (first k m ++ m .stamp ++ m .values) ≡ costByte = simp length-append (omega arith) in
+      ap (λ (s : List ℕ). u32At s costByte) (around-d (first k m) (m .stamp) (m .values) (le32 (m .cost)) (le32 (m .bound)) (m .best) zeros (last k m))
+      ∙ u32-after (first k m ++ m .stamp ++ m .values) (le32 (m .cost) ++ (le32 (m .bound) ++ m .best ++ zeros ++ last k m)) costByte h ∙ u32-of-le32 (m .cost) (z .cost)
 
-  bound-of-encode : u32At (encode k m) 40 ≡ m .bound
+  bound-of-encode : u32At (encode k m) boundByte ≡ m .bound
   unfolding encode body
   bound-of-encode =
-      let h : length (first k m ++ m .stamp ++ m .values ++ le32 (m .cost)) ≡ 40 = simp length-append (omega arith) in
-      ap (λ (s : List ℕ). u32At s 40) (around-e (first k m) (m .stamp) (m .values) (le32 (m .cost)) (le32 (m .bound)) (m .best) zeros (last k m))
-      ∙ u32-after (first k m ++ m .stamp ++ m .values ++ le32 (m .cost)) (le32 (m .bound) ++ (m .best ++ zeros ++ last k m)) 40 h ∙ u32-of-le32 (m .bound) (z .bound)
+      let h : length (first k m ++ m .stamp ++ m .values ++ le32 (m .cost)) ≡ boundByte = simp length-append (omega arith) in
+      ap (λ (s : List ℕ). u32At s boundByte) (around-e (first k m) (m .stamp) (m .values) (le32 (m .cost)) (le32 (m .bound)) (m .best) zeros (last k m))
+      ∙ u32-after (first k m ++ m .stamp ++ m .values ++ le32 (m .cost)) (le32 (m .bound) ++ (m .best ++ zeros ++ last k m)) boundByte h ∙ u32-of-le32 (m .bound) (z .bound)
 
-  best-of-encode : take 16 (drop 44 (encode k m)) ≡ m .best
+  best-of-encode : take 16 (drop bestByte (encode k m)) ≡ m .best
   unfolding encode body
   best-of-encode =
-      let h : length (first k m ++ m .stamp ++ m .values ++ le32 (m .cost) ++ le32 (m .bound)) ≡ 44 = simp length-append (omega arith) in
-      ap (λ (s : List ℕ). take 16 (drop 44 s)) (around-f (first k m) (m .stamp) (m .values) (le32 (m .cost)) (le32 (m .bound)) (m .best) zeros (last k m))
-      ∙ field-after (first k m ++ m .stamp ++ m .values ++ le32 (m .cost) ++ le32 (m .bound)) (m .best) (zeros ++ last k m) 44 16 h (z .best)
+      let h : length (first k m ++ m .stamp ++ m .values ++ le32 (m .cost) ++ le32 (m .bound)) ≡ bestByte = simp length-append (omega arith) in
+      ap (λ (s : List ℕ). take 16 (drop bestByte s)) (around-f (first k m) (m .stamp) (m .values) (le32 (m .cost)) (le32 (m .bound)) (m .best) zeros (last k m))
+      ∙ field-after (first k m ++ m .stamp ++ m .values ++ le32 (m .cost) ++ le32 (m .bound)) (m .best) (zeros ++ last k m) bestByte 16 h (z .best)
 
   rest-of-encode : restZero (encode k m) ≡ true
   unfolding restZero encode body
   rest-of-encode =
-      let h : length (first k m ++ m .stamp ++ m .values ++ le32 (m .cost) ++ le32 (m .bound) ++ m .best) ≡ 60 = simp length-append (omega arith) in
-      let e : u16At (encode k m) 60 ≡ 0 = ap (λ (s : List ℕ). u16At s 60) (around-g (first k m) (m .stamp) (m .values) (le32 (m .cost)) (le32 (m .bound)) (m .best) zeros (last k m))
-      ∙ u16-after (first k m ++ m .stamp ++ m .values ++ le32 (m .cost) ++ le32 (m .bound) ++ m .best) (zeros ++ last k m) 60 h in
-      eq-eqb (u16At (encode k m) 60) 0 e
+      let h : length (first k m ++ m .stamp ++ m .values ++ le32 (m .cost) ++ le32 (m .bound) ++ m .best) ≡ zeroByte = simp length-append (omega arith) in
+      let e : u16At (encode k m) zeroByte ≡ 0 = ap (λ (s : List ℕ). u16At s zeroByte) (around-g (first k m) (m .stamp) (m .values) (le32 (m .cost)) (le32 (m .bound)) (m .best) zeros (last k m))
+      ∙ u16-after (first k m ++ m .stamp ++ m .values ++ le32 (m .cost) ++ le32 (m .bound) ++ m .best) (zeros ++ last k m) zeroByte h in
+      eq-eqb (u16At (encode k m) zeroByte) 0 e
 
   pub sender-of-encode : getD (encode k m) 1 0 ≡ m .sender
   unfolding encode body
@@ -282,37 +283,37 @@ kind-code b k e = go (eqb b 1) refl (eqb b 2) refl (eqb b 3) refl (eqb b 4) refl
     go false p false q false r false t false u = let h : Refused 9 ≡ Good k = rw (p, q, r, t, u) at e in let c : _≡_ {A = ℕ} 0 1 = cc in absurd (omega arith)
 
 -- the first 62 bytes, cut where the fields are
-cut : (s : List ℕ) → take 62 s ≡ take 4 s ++ take 16 (drop 4 s) ++ take 16 (drop 20 s) ++ take 4 (drop 36 s) ++ take 4 (drop 40 s) ++ take 16 (drop 44 s) ++ take 2 (drop 60 s)
-cut s = rw (take-add 60 2 s, take-add 44 16 s, take-add 40 4 s, take-add 36 4 s, take-add 20 16 s, take-add 4 16 s)
+cut : (s : List ℕ) → take checkByte s ≡ take stampByte s ++ take 16 (drop stampByte s) ++ take 16 (drop valuesByte s) ++ take 4 (drop costByte s) ++ take 4 (drop boundByte s) ++ take 16 (drop bestByte s) ++ take 2 (drop zeroByte s)
+cut s = rw (take-add zeroByte 2 s, take-add bestByte 16 s, take-add boundByte 4 s, take-add costByte 4 s, take-add valuesByte 16 s, take-add stampByte 16 s)
 
 same-pieces : {a a′ c c′ d d′ g g′ : List ℕ} (x y w : List ℕ) → a ≡ a′ → c ≡ c′ → d ≡ d′ → g ≡ g′ → a ++ x ++ y ++ c ++ d ++ w ++ g ≡ a′ ++ x ++ y ++ c′ ++ d′ ++ w ++ g′
 same-pieces x y w p q r t = cc
 
 module _ (s : List ℕ) (l : length s ≡ messageSize) (bytes : AllBytes s) (k : Kind) (kind : kindOf (getD s 0 0) ≡ Good k) (rest : restZero s ≡ true) (check : checkGood s ≡ true) where
-  first-again : head (kindCode k) (messageIn s) ≡ take 4 s
+  first-again : head (kindCode k) (messageIn s) ≡ take stampByte s
   unfolding messageIn restZero
   first-again =
       let z : getD s 3 0 ≡ 0 = eqb-true (getD s 3 0) 0 (and-left _ _ rest) in
       rw (kind-code (getD s 0 0) k kind) (ap (λ (x : ℕ). getD s 0 0 ∷ getD s 1 0 ∷ getD s 2 0 ∷ x ∷ []) (sym z) ∙ sym (four-bytes s 0 (omega arith)))
 
-  zeros-again : zeros ≡ take 2 (drop 60 s)
+  zeros-again : zeros ≡ take 2 (drop zeroByte s)
   unfolding restZero
   zeros-again =
-      let z : u16At s 60 ≡ 0 = eqb-true (u16At s 60) 0 (and-right (eqb (getD s 3 0) 0) _ rest) in
-      ap le16 (sym z) ∙ le16-again s 60 (omega arith) bytes
+      let z : u16At s zeroByte ≡ 0 = eqb-true (u16At s zeroByte) 0 (and-right (eqb (getD s 3 0) 0) _ rest) in
+      ap le16 (sym z) ∙ le16-again s zeroByte (omega arith) bytes
 
-  body-again : body k (messageIn s) ≡ take 62 s
+  body-again : body k (messageIn s) ≡ take checkByte s
   unfolding body messageIn
   body-again =
-      same-pieces (take 16 (drop 4 s)) (take 16 (drop 20 s)) (take 16 (drop 44 s)) first-again (le32-again s 36 (omega arith) bytes) (le32-again s 40 (omega arith) bytes) zeros-again
+      same-pieces (take 16 (drop stampByte s)) (take 16 (drop valuesByte s)) (take 16 (drop bestByte s)) first-again (le32-again s costByte (omega arith) bytes) (le32-again s boundByte (omega arith) bytes) zeros-again
       ∙ sym (cut s)
 
   pub encode-again : encode k (messageIn s) ≡ s
   unfolding encode checkGood
   encode-again =
-      let c : u16At s 62 ≡ sumOf (take 62 s) = eqb-true (u16At s 62) (sumOf (take 62 s)) (and-right (eqb (length s) messageSize) _ check) in
-      let e : le16 (sumOf (body k (messageIn s))) ≡ take 2 (drop 62 s) = ap (λ (b : List ℕ). le16 (sumOf b)) body-again ∙ ap le16 (sym c) ∙ le16-again s 62 (omega arith) bytes in
-      ap (λ (b : List ℕ). b ++ le16 (sumOf (body k (messageIn s)))) body-again ∙ ap (λ (w : List ℕ). take 62 s ++ w) e ∙ sym (take-add 62 2 s) ∙ take-all messageSize s (omega arith)
+      let c : u16At s checkByte ≡ sumOf (take checkByte s) = eqb-true (u16At s checkByte) (sumOf (take checkByte s)) (and-right (eqb (length s) messageSize) _ check) in
+      let e : le16 (sumOf (body k (messageIn s))) ≡ take 2 (drop checkByte s) = ap (λ (b : List ℕ). le16 (sumOf b)) body-again ∙ ap le16 (sym c) ∙ le16-again s checkByte (omega arith) bytes in
+      ap (λ (b : List ℕ). b ++ le16 (sumOf (body k (messageIn s)))) body-again ∙ ap (λ (w : List ℕ). take checkByte s ++ w) e ∙ sym (take-add checkByte 2 s) ∙ take-all messageSize s (omega arith)
 
 -- the fields of 64 bytes are sized as the types of the code say
 pub sized-in : (s : List ℕ) → length s ≡ messageSize → AllBytes s → Sized (messageIn s)
@@ -321,8 +322,8 @@ sized-in s l bytes = record {
   stamp = simp (length-take, length-drop) (omega arith);
   values = simp (length-take, length-drop) (omega arith);
   best = simp (length-take, length-drop) (omega arith);
-  cost = omega (arith, bytes 36, bytes 37, bytes 38, bytes 39);
-  bound = omega (arith, bytes 40, bytes 41, bytes 42, bytes 43);
+  cost = omega (arith, bytes costByte, bytes 37, bytes 38, bytes 39);
+  bound = omega (arith, bytes boundByte, bytes 41, bytes 42, bytes 43);
 }
 
 -- accepted bytes, read and written again, are the same bytes
@@ -353,51 +354,51 @@ parse-injective n sizes own s t k b c e f =
 -- Accepted bytes with one of them changed are refused by 8.
 
 module _ (s : List ℕ) (l : length s ≡ messageSize) (bytes : AllBytes s) (check : checkGood s ≡ true) (i x : ℕ) (h : i < messageSize) (b : x < 256) (differ : x ≡ getD s i 0 → ⊥) where
-  stored : u16At s 62 ≡ sumOf (take 62 s)
+  stored : u16At s checkByte ≡ sumOf (take checkByte s)
   unfolding checkGood
-  stored = eqb-true (u16At s 62) (sumOf (take 62 s)) (and-right (eqb (length s) messageSize) _ check)
+  stored = eqb-true (u16At s checkByte) (sumOf (take checkByte s)) (and-right (eqb (length s) messageSize) _ check)
 
   kept : (j : ℕ) → (j ≡ i → ⊥) → getD (set s i x) j 0 ≡ getD s j 0
   kept j d = getD-set-other s i j x 0 d
 
   -- of the bytes that are summed: the sum changes, and not what is stored
-  sum-changed : i < 62 → u16At (set s i x) 62 ≡ sumOf (take 62 (set s i x)) → ⊥
+  sum-changed : i < checkByte → u16At (set s i x) checkByte ≡ sumOf (take checkByte (set s i x)) → ⊥
   sum-changed k e =
-      let t : getD (take 62 s) i 0 ≡ getD s i 0 = getD-take 62 s i 0 k in
-      let n : length (take 62 s) ≡ 62 = length-take-le 62 s (omega arith) in
-      let u : u16At (set s i x) 62 ≡ u16At s 62 = rw (kept 62 (λ q. omega arith), kept 63 (λ q. omega arith)) in
-      let v : sumOf (set (take 62 s) i x) ≡ sumOf (take 62 s) = ap sumOf (sym (take-set-lt 62 s i x k)) ∙ sym e ∙ u ∙ stored in
-      one-byte (take 62 s) i x (omega arith) (omega arith) (rw t (bytes i)) b (λ q. differ (q ∙ t)) v
+      let t : getD (take checkByte s) i 0 ≡ getD s i 0 = getD-take checkByte s i 0 k in
+      let n : length (take checkByte s) ≡ checkByte = length-take-le checkByte s (omega arith) in
+      let u : u16At (set s i x) checkByte ≡ u16At s checkByte = rw (kept checkByte (λ q. omega arith), kept 63 (λ q. omega arith)) in
+      let v : sumOf (set (take checkByte s) i x) ≡ sumOf (take checkByte s) = ap sumOf (sym (take-set-lt checkByte s i x k)) ∙ sym e ∙ u ∙ stored in
+      one-byte (take checkByte s) i x (omega arith) (omega arith) (rw t (bytes i)) b (λ q. differ (q ∙ t)) v
 
   -- of the two that store the sum: that changes, and not the sum
-  store-changed : 62 ≤ i → u16At (set s i x) 62 ≡ sumOf (take 62 (set s i x)) → ⊥
-  store-changed k e = go (eqb i 62) refl
+  store-changed : checkByte ≤ i → u16At (set s i x) checkByte ≡ sumOf (take checkByte (set s i x)) → ⊥
+  store-changed k e = go (eqb i checkByte) refl
     where
-      v : u16At (set s i x) 62 ≡ u16At s 62
-      v = e ∙ ap sumOf (take-set-le 62 s i x k) ∙ sym stored
+      v : u16At (set s i x) checkByte ≡ u16At s checkByte
+      v = e ∙ ap sumOf (take-set-le checkByte s i x k) ∙ sym stored
 
       same : getD (set s i x) i 0 ≡ x
       same = getD-set-same s i x 0 (omega arith)
 
-      go : (t : Bool) → eqb i 62 ≡ t → ⊥
+      go : (t : Bool) → eqb i checkByte ≡ t → ⊥
       go true q =
-          let z : i ≡ 62 = eqb-true i 62 q in
-          let w : getD (set s i x) 62 0 ≡ x = ap (λ (j : ℕ). getD (set s i x) j 0) (sym z) ∙ same in
+          let z : i ≡ checkByte = eqb-true i checkByte q in
+          let w : getD (set s i x) checkByte 0 ≡ x = ap (λ (j : ℕ). getD (set s i x) j 0) (sym z) ∙ same in
           differ (rw z (omega (arith, v, w, kept 63 (λ y. omega arith))))
       go false q =
-          let z : i ≡ 63 = omega (arith, eqb-false i 62 q) in
+          let z : i ≡ 63 = omega (arith, eqb-false i checkByte q) in
           let w : getD (set s i x) 63 0 ≡ x = ap (λ (j : ℕ). getD (set s i x) j 0) (sym z) ∙ same in
-          differ (rw z (omega (arith, v, w, kept 62 (λ y. omega arith))))
+          differ (rw z (omega (arith, v, w, kept checkByte (λ y. omega arith))))
 
   check-changed : checkGood (set s i x) ≡ false
   unfolding checkGood
   check-changed =
       rw (length-set s i x, eq-eqb (length s) messageSize l)
-      (ne-eqb (u16At (set s i x) 62) (sumOf (take 62 (set s i x))) (λ e. go (ltb i 62) refl e))
+      (ne-eqb (u16At (set s i x) checkByte) (sumOf (take checkByte (set s i x))) (λ e. go (ltb i checkByte) refl e))
     where
-      go : (t : Bool) → ltb i 62 ≡ t → u16At (set s i x) 62 ≡ sumOf (take 62 (set s i x)) → ⊥
-      go true q e = sum-changed (ltb-true i 62 q) e
-      go false q e = store-changed (ltb-false i 62 q) e
+      go : (t : Bool) → ltb i checkByte ≡ t → u16At (set s i x) checkByte ≡ sumOf (take checkByte (set s i x)) → ⊥
+      go true q e = sum-changed (ltb-true i checkByte q) e
+      go false q e = store-changed (ltb-false i checkByte q) e
 
 pub one-byte-refused : (n : ℕ) (sizes : List ℕ) (own : ℕ) (s : List ℕ) (k : Kind) → AllBytes s → parseFor n sizes own s .answer ≡ Good k
     → (i x : ℕ) → i < messageSize → x < 256 → (x ≡ getD s i 0 → ⊥) → parseFor n sizes own (set s i x) ≡ refused 8

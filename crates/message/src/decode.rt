@@ -1,8 +1,15 @@
 // Bytes read into kind and fields: checks 8 and 9.
 
+use crate::BEST_BYTE;
+use crate::BOUND_BYTE;
+use crate::CHECK_BYTE;
+use crate::COST_BYTE;
 use crate::Message;
 use crate::Parsed;
 use crate::Read;
+use crate::STAMP_BYTE;
+use crate::VALUES_BYTE;
+use crate::ZERO_BYTE;
 use crate::kind_of;
 use crate::refusal_of;
 use crate::well_formed;
@@ -20,7 +27,7 @@ pub(crate) fn check_good(bytes: &[u8]) -> bool
     if bytes.len() != base::MESSAGE_SIZE {
         return false;
     }
-    base::u16_at(bytes, 62) == checksum::sum(&bytes[0..62])
+    base::u16_at(bytes, CHECK_BYTE) == checksum::sum(&bytes[0..CHECK_BYTE])
 }
 
 // Check 9, on the bytes and on the fields read from them.
@@ -47,7 +54,7 @@ fn rest_zero(bytes: &[u8]) -> bool
     if base::byte_at(bytes, 3) != 0 {
         return false;
     }
-    base::u16_at(bytes, 60) == 0
+    base::u16_at(bytes, ZERO_BYTE) == 0
 }
 
 // A refusal: every field beside its number is zero.
@@ -73,16 +80,16 @@ pub(crate) fn message_in(bytes: &[u8]) -> Message
     requires { ⌜ length (now bytes) ≡ messageSize ⌝ }
     ensures { λ r. ⌜ r ≡ messageIn (now (bytes .entry)) ⌝ }
 {
-    let stamp = bytes16(bytes, 4);
-    let values = bytes16(bytes, 20);
-    let best = bytes16(bytes, 44);
+    let stamp = bytes16(bytes, STAMP_BYTE);
+    let values = bytes16(bytes, VALUES_BYTE);
+    let best = bytes16(bytes, BEST_BYTE);
     Message {
         sender: base::byte_at(bytes, 1),
         receiver: base::byte_at(bytes, 2),
         stamp,
         values,
-        cost: base::u32_at(bytes, 36),
-        bound: base::u32_at(bytes, 40),
+        cost: base::u32_at(bytes, COST_BYTE),
+        bound: base::u32_at(bytes, BOUND_BYTE),
         best,
     }
 }

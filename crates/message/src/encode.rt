@@ -1,7 +1,13 @@
 // The 64 bytes of a message, laid into a lent buffer.
 
+use crate::BEST_BYTE;
+use crate::BOUND_BYTE;
+use crate::CHECK_BYTE;
+use crate::COST_BYTE;
 use crate::Kind;
 use crate::Message;
+use crate::STAMP_BYTE;
+use crate::VALUES_BYTE;
 use crate::kind_code;
 use base::MESSAGE_SIZE;
 ghost use mathlib.Core.Path.{_≡_};
@@ -33,9 +39,9 @@ fn encode(kind: Kind, m: Message) -> [u8; MESSAGE_SIZE]
     ensures { λ r. ⌜ r ≡ encode kind m ⌝ }
 {
     let mut r = body(kind, m);
-    let sum = checksum::sum(&r[0..62]);
-    r[62] = (sum % 256) as u8;
-    r[63] = (sum / 256 % 256) as u8;
+    let sum = checksum::sum(&r[0..CHECK_BYTE]);
+    r[CHECK_BYTE] = (sum % 256) as u8;
+    r[CHECK_BYTE + 1] = (sum / 256 % 256) as u8;
     r
 }
 
@@ -48,13 +54,13 @@ fn body(kind: Kind, m: Message) -> [u8; MESSAGE_SIZE]
     r0[1] = m.sender;
     r0[2] = m.receiver;
     let stamp = m.stamp;
-    let r1 = with_places(r0, 4, stamp);
+    let r1 = with_places(r0, STAMP_BYTE, stamp);
     let values = m.values;
-    let r2 = with_places(r1, 20, values);
-    let r3 = with_number(r2, 36, m.cost);
-    let r4 = with_number(r3, 40, m.bound);
+    let r2 = with_places(r1, VALUES_BYTE, values);
+    let r3 = with_number(r2, COST_BYTE, m.cost);
+    let r4 = with_number(r3, BOUND_BYTE, m.bound);
     let best = m.best;
-    with_places(r4, 44, best)
+    with_places(r4, BEST_BYTE, best)
 }
 
 // 16 places laid at `at`.

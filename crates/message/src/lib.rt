@@ -18,6 +18,21 @@ pub use fields::none_or_bound;
 pub use fields::prefix_limit;
 pub use fields::well_formed;
 
+// Where the fields of a message begin, as specs/Layout has them.
+const STAMP_BYTE: usize = 4;
+
+const VALUES_BYTE: usize = 20;
+
+const COST_BYTE: usize = 36;
+
+const BOUND_BYTE: usize = 40;
+
+const BEST_BYTE: usize = 44;
+
+const ZERO_BYTE: usize = 60;
+
+const CHECK_BYTE: usize = 62;
+
 // 01: "1 paper, 2 copy, 3 estimate, 4 news, 5 stop".
 pub enum Kind {
     Cpa,

@@ -6,6 +6,7 @@ use lib.ListN.{length}
 use lib.Seq.{take-at}
 use borrow.Author.Needs.{needs}
 use Rattle.checksum.specs.Sum.{sumOf}
+use Rattle.message.specs.Layout.{checkByte}
 use Rattle.message.specs.Message.{Sized}
 use Rattle.message.specs.Encode.{body, encode}
 use Rattle.message.specs.EncodeLaws.{length-body, sum-laid}
@@ -36,6 +37,9 @@ array-write-r c = search needs
 cast-r-2 : tie.Need-cast-r-2
 cast-r-2 c = search needs
 
+add-r : tie.Need-add-r
+add-r c = search needs
+
 array-write-r-2 : tie.Need-array-write-r-2
 array-write-r-2 c = search needs
 
@@ -45,8 +49,8 @@ returns c =
     let a = c .before .before .before .before .args in
     let z : Sized (a .m) = record { stamp = search needs; values = search needs; best = search needs; cost = search needs; bound = search needs } in
     let b = body (a .kind) (a .m) in
-    let h : length b ≡ 62 = length-body (a .kind) (a .m) z in
-    let e : c .sum .result ≡ sumOf b = c .sum .ensures ∙ ap sumOf (rw (c .before .before .before .body .ensures) (take-at b (0 ∷ 0 ∷ []) 62 h)) in
+    let h : length b ≡ checkByte = length-body (a .kind) (a .m) z in
+    let e : c .sum .result ≡ sumOf b = c .sum .ensures ∙ ap sumOf (rw (c .before .before .before .body .ensures) (take-at b (0 ∷ 0 ∷ []) checkByte h)) in
     rw (c .before .before .before .body .ensures, ← e) (sum-laid b (c .sum .result) h)
 
 pub encode-spec : {M : Type 1} → statement M
@@ -61,5 +65,6 @@ encode-spec =
     cast-r
     array-write-r
     cast-r-2
+    add-r
     array-write-r-2
     returns)
