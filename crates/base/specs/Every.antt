@@ -1,7 +1,6 @@
 -- A test that holds of every number below one, index by index.
 -- Assumes nothing.
-use Prim.Native.Nat.{ℕ, zero, suc}
-use mathlib.Core.Bool.{Bool, true, _&&_}
+use Rattle.base.specs.Library.{ℕ, zero, suc, Bool, true, _&&_}
 pub mod Laws
 
 -- whether p holds of 0, 1, .., m - 1

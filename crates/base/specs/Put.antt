@@ -1,10 +1,6 @@
 -- Bytes written into a lent buffer, the rest as it was: at a place, or at the front; and that writes one behind the other join.
 -- Assumes nothing.
-use Prim.Native.Nat.{ℕ, _+_}
-use mathlib.Core.Bool.{cond}
-use mathlib.Core.List.{List, _++_}
-use lib.Dec.{leb}
-use lib.ListN.{length, take, drop}
+use Rattle.base.specs.Library.{ℕ, _+_, cond, List, _++_, leb, length, take, drop}
 pub mod Laws
 
 -- l with m written at place `at`

@@ -1,6 +1,6 @@
 -- Refusals by number, 0 for none, and the first of two in 01's order.
 -- Assumes nothing.
-use Prim.Native.Nat.{ℕ, zero, suc}
+use Rattle.base.specs.Library.{ℕ, zero, suc}
 pub mod Laws
 
 -- a, or b where a is 0

@@ -1,6 +1,6 @@
 -- Finite sums and least values over numbers. Their laws are in Sums/Laws.
 -- Assumes nothing.
-use Prim.Native.Nat.{ℕ, zero, suc, _+_, min}
+use Rattle.base.specs.Library.{ℕ, zero, suc, _+_, min}
 pub mod Laws
 
 -- f lo + f (lo + 1) + .., m of them

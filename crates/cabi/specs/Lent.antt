@@ -3,20 +3,10 @@
 --     unitFrom, unitBack            a lent state read, and what stands there after the call
 --     networkFrom, networkBack      the same of a network
 -- Lent/Laws shows that such a state is out of range, and that what a call leaves alone comes back as lent. Assumes nothing.
-use Prim.Native.Nat.{ℕ, zero, suc}
-use mathlib.Core.Bool.{Bool, cond}
-use mathlib.Core.List.{List, [], _∷_, _++_}
-use lib.Dec.{leb, eqb}
-use lib.ListN.{getD, replicate}
-use Rattle.unit.specs.declared.Unit.{Unit}
-use Rattle.unit.specs.declared.Outcome.{Outcome}
-use Rattle.unit.specs.State.{emptyUnit}
-use Rattle.network.specs.declared.Network.{Network}
-use Rattle.network.specs.declared.Answer.{Answer}
-use Rattle.cabi.specs.declared.LentUnit.{LentUnit}
-use Rattle.cabi.specs.declared.LentOutcome.{LentOutcome}
-use Rattle.cabi.specs.declared.LentNetwork.{LentNetwork}
-use Rattle.cabi.specs.declared.LentAnswer.{LentAnswer}
+use Rattle.base.specs.Library.{ℕ, zero, suc, Bool, cond, List, [], _∷_, _++_, leb, eqb, getD, replicate}
+use Rattle.unit.specs.{declared.Unit.Unit, declared.Outcome.Outcome, State.emptyUnit}
+use Rattle.network.specs.{declared.Network.Network, declared.Answer.Answer}
+use Rattle.cabi.specs.{declared.LentUnit.LentUnit, declared.LentOutcome.LentOutcome, declared.LentNetwork.LentNetwork, declared.LentAnswer.LentAnswer}
 pub mod Laws
 
 -- ---- one unit

@@ -26,7 +26,7 @@ ghost use Rattle.network.specs.Calls.{makeOf};
 ghost use Rattle.network.specs.Settle.{settleOf};
 ghost use Rattle.search.specs.Search.{searchOf};
 ghost use Rattle.cabi.specs.Lent.{unitFrom};
-ghost use Rattle.cabi.specs.Calls.{codeOf, parsedOf, writeByCode, writtenByCode, unknownKind, ofFound, stepOf, steppedBytes, reportBy, deliveredTo, poolAfter};
+ghost use Rattle.cabi.specs.Calls.{codeOf, parsedOf, writeByCode, writtenByCode, unknownKind, ofFound, stepOf, steppedBytes, reportBy, deliveredTo, deliveredPool};
 
 // A domain size for each of 16 units, zero past n.
 #[repr(C)]
@@ -266,7 +266,7 @@ pub extern "C" fn riksamoe_network_deliver(
     pool: &mut [u8],
     cell: u64,
 ) -> LentAnswer
-    ensures { λ r. ⌜ (r ≡ deliveredTo net (now (stream .entry)) (now (pool .entry)) cell) × (now (pool .exit) ≡ poolAfter net (now (stream .entry)) (now (pool .entry)) cell) ⌝ }
+    ensures { λ r. ⌜ (r ≡ deliveredTo net (now (stream .entry)) (now (pool .entry)) cell) × (now (pool .exit) ≡ deliveredPool net (now (stream .entry)) (now (pool .entry)) cell) ⌝ }
 {
     let read = lent::network_from(net);
     let a = network::deliver(read, stream, pool, cell);

@@ -1,16 +1,9 @@
 -- The costs that touch one unit, gathered out of a stream: what is lent with a unit's step. 01: "the pair costs that touch the unit, by the
 -- other unit ascending, each pair in the stream's order". That a unit sees in them what the stream says is in Gather/Laws.
 -- Assumes nothing.
-use Prim.Native.Nat.{ℕ, zero, suc, _+_, _*_, pred}
-use mathlib.Core.Bool.{cond}
-use mathlib.Core.List.{List, [], _++_}
-use lib.Dec.{ltb, eqb}
-use lib.ListN.{length, take, drop, replicate}
-use Rattle.base.specs.declared.Length.{Length}
-use Rattle.base.specs.Limits.{places}
-use Rattle.base.specs.Refusal.{orElse}
+use Rattle.base.specs.Library.{ℕ, zero, suc, _+_, _*_, pred, cond, List, [], _++_, ltb, eqb, length, take, drop, replicate}
+use Rattle.base.specs.{declared.Length.Length, Limits.places, Refusal.orElse, Shape.isValue}
 use Rattle.table.specs.Stream.{unitsOf, sizesOf, streamRefusal}
-use Rattle.base.specs.Shape.{isValue}
 use Rattle.costs.specs.Instance.{domOf, pairStart}
 pub mod Sizes
 pub mod Laws

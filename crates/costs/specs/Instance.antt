@@ -1,14 +1,8 @@
 -- The instance that a table describes, what one unit sees of it, and where the bytes of a pair cost stand.
 -- Units count from 0 here: place k is document 01's unit k + 1. Values count from 1, as in document 01.
 -- Assumes nothing.
-use Prim.Native.Nat.{ℕ, suc, _+_, _*_, _-_, pred}
-use mathlib.Core.Bool.{cond, not, _&&_}
-use mathlib.Core.List.{List}
-use lib.Dec.{ltb, eqb}
-use lib.ListN.{getD, take, drop}
-use Rattle.base.specs.Bytes.{u16At}
-use Rattle.base.specs.Shape.{isValue}
-use Rattle.base.specs.Sums.{sumFrom, sumTo}
+use Rattle.base.specs.Library.{ℕ, suc, _+_, _*_, _-_, pred, cond, not, _&&_, List, ltb, eqb, getD, take, drop}
+use Rattle.base.specs.{Bytes.u16At, Shape.isValue, Sums.sumFrom, Sums.sumTo}
 use Rattle.table.specs.Stream.{unitsOf}
 use Rattle.costs.specs.declared.Seat.{Seat}
 

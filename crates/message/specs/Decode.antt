@@ -1,24 +1,13 @@
 -- A message read from bytes and written into a lent buffer, with the refusals in 01's order. Document 01, 'Refusals':
 -- "Reading a message: 5, 8, 10, 9. Writing one: 5, 10, 9, 13."
 -- Assumes nothing.
-use Prim.Native.Nat.{ℕ}
-use mathlib.Core.Bool.{Bool, cond, not, _&&_}
-use mathlib.Core.List.{List}
-use lib.Dec.{eqb}
-use lib.ListN.{length, take, drop, getD}
-use Rattle.base.specs.Bytes.{u16At, u32At}
-use Rattle.base.specs.Limits.{places, messageSize}
-use Rattle.base.specs.Put.{putAt}
-use Rattle.base.specs.Shape.{shapeGood}
+use Rattle.base.specs.Library.{ℕ, Bool, cond, not, _&&_, List, eqb, length, take, drop, getD}
+use Rattle.base.specs.{Bytes.u16At, Bytes.u32At, Limits.places, Limits.messageSize, Put.putAt, Shape.shapeGood}
 use Rattle.checksum.specs.Sum.{sumOf}
-use Rattle.message.specs.declared.Kind.{Kind}
-use Rattle.message.specs.declared.Read.{Read}
+use Rattle.message.specs.{declared.Kind.Kind, declared.Read.Read, declared.Message.Message, declared.Parsed.Parsed, Encode.encode, Encode.putRefusal}
 use Rattle.message.specs.declared.Read.the-variants.{Good, Refused}
-use Rattle.message.specs.declared.Message.{Message}
-use Rattle.message.specs.declared.Parsed.{Parsed}
 use Rattle.message.specs.Layout.{stampByte, valuesByte, costByte, boundByte, bestByte, zeroByte, checkByte}
 use Rattle.message.specs.Message.{kindOf, noMessage, addressGood, wellFormed}
-use Rattle.message.specs.Encode.{encode, putRefusal}
 
 -- the fields of 64 bytes
 unfoldable pub messageIn : List ℕ → Message

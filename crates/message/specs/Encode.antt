@@ -1,17 +1,9 @@
 -- A message as its 64 bytes, put into a lent buffer. Document 01, 'Radio message, 64 bytes'.
 -- Assumes nothing.
-use Prim.Native.Nat.{ℕ, _+_}
-use mathlib.Core.Bool.{cond}
-use mathlib.Core.List.{List, [], _∷_, _++_}
-use lib.Dec.{leb}
-use lib.ListN.{length}
-use Rattle.base.specs.Put.{putAt}
-use Rattle.base.specs.Limits.{messageSize}
-use Rattle.base.specs.Bytes.{le16, le32}
+use Rattle.base.specs.Library.{ℕ, _+_, cond, List, [], _∷_, _++_, leb, length}
+use Rattle.base.specs.{Put.putAt, Limits.messageSize, Bytes.le16, Bytes.le32}
 use Rattle.checksum.specs.Sum.{sumOf}
-use Rattle.message.specs.declared.Kind.{Kind}
-use Rattle.message.specs.declared.Message.{Message}
-use Rattle.message.specs.Message.{kindCode}
+use Rattle.message.specs.{declared.Kind.Kind, declared.Message.Message, Message.kindCode}
 
 -- 01: "0 kind; 1 sender; 2 receiver; 3 zero; 4-19 stamp; 20-35 values; 36-39 cost; 40-43 bound; 44-59 best lotting; 60-61 zero"
 unfoldable pub body : Kind → Message → List ℕ

@@ -6,21 +6,10 @@
 --     carriedOf, boundFits, directionGood     what each kind carries, from whom to whom
 --     addressGood, wellFormed           01's checks 10 and 9 on the fields
 -- Assumes nothing.
-use Prim.Native.Nat.{ℕ, _+_, _-_, _^_, _<_}
-use mathlib.Core.Path.{_≡_}
-use mathlib.Core.Bool.{Bool, true, false, cond, not, _&&_, _||_}
-use mathlib.Core.List.{List}
-use lib.Dec.{ltb, leb, eqb}
-use lib.ListN.{length, getD, replicate}
-use Rattle.base.specs.Limits.{places, totalLimit, estimateLimit, prefixLimit, NONE}
-use Rattle.base.specs.Shape.{isValue}
-use Rattle.base.specs.Every.{every}
-use Rattle.message.specs.declared.Kind.{Kind}
+use Rattle.base.specs.Library.{ℕ, _+_, _-_, _^_, _<_, _≡_, Bool, true, false, cond, not, _&&_, _||_, List, ltb, leb, eqb, length, getD, replicate}
+use Rattle.base.specs.{Limits.places, Limits.totalLimit, Limits.estimateLimit, Limits.prefixLimit, Limits.NONE, Shape.isValue, Every.every}
+use Rattle.message.specs.{declared.Kind.Kind, declared.Read.Read, declared.Read.the-variants.Good, declared.Read.the-variants.Refused, declared.Message.Message, declared.Carried.Carried}
 use Rattle.message.specs.declared.Kind.the-variants.{Cpa, Request, Estimate, Solution, Stop}
-use Rattle.message.specs.declared.Read.{Read}
-use Rattle.message.specs.declared.Read.the-variants.{Good, Refused}
-use Rattle.message.specs.declared.Message.{Message}
-use Rattle.message.specs.declared.Carried.{Carried}
 
 -- 01: "1 paper, 2 copy, 3 estimate, 4 news, 5 stop"
 abbrev pub kindCode : Kind → ℕ

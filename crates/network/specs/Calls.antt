@@ -1,30 +1,14 @@
 -- The calls on bytes: making a network and a delivery, refusals in 01's order.
 -- 01: "Making .. a shed: 5, 6, 7, 13." "Delivery: 13, 5 (n, sizes), 6, 7, 5 (any unit's state, pool count), 12, 15, the step's from 8 on, 14."
 -- Assumes nothing.
-use Prim.Native.Nat.{ℕ, zero, suc, _+_, _-_, pred}
-use mathlib.Core.Bool.{Bool, true, false, cond, _&&_}
-use mathlib.Core.List.{List}
-use lib.Dec.{ltb, leb}
-use lib.ListN.{length, getD, set, replicate}
-use Rattle.base.specs.Limits.{poolSize, poolCells}
-use Rattle.base.specs.Refusal.{orElse}
+use Rattle.base.specs.Library.{ℕ, zero, suc, _+_, _-_, pred, Bool, true, false, cond, _&&_, List, ltb, leb, length, getD, set, replicate}
+use Rattle.base.specs.{Limits.poolSize, Limits.poolCells, Refusal.orElse, Every.every}
 use Rattle.table.specs.Stream.{unitsOf, streamRefusal}
-use Rattle.costs.specs.Instance.{viewOf, instanceOf}
-use Rattle.costs.specs.Gather.{sizesIn}
-use Rattle.base.specs.Every.{every}
-use Rattle.message.specs.Message.{isUnit}
-use Rattle.message.specs.Decode.{parseFor}
-use Rattle.unit.specs.declared.Unit.{Unit}
-use Rattle.unit.specs.State.{noUnit, fresh, inRange}
+use Rattle.costs.specs.{Instance.viewOf, Instance.instanceOf, Gather.sizesIn}
+use Rattle.message.specs.{Message.isUnit, Decode.parseFor}
+use Rattle.unit.specs.{declared.Unit.Unit, State.noUnit, State.fresh, State.inRange, Send.packets, Send.laid, Calls.unlessRefused, Calls.onRead, Units.unitAt}
 use Rattle.unit.specs.Step.{Decision, refused, accepted, assign}
-use Rattle.unit.specs.Send.{packets, laid}
-use Rattle.unit.specs.Calls.{unlessRefused, onRead}
-use Rattle.network.specs.declared.Core.{Core}
-use Rattle.network.specs.declared.Network.{Network}
-use Rattle.network.specs.declared.Answer.{Answer}
-use Rattle.network.specs.Count.{zeroCount, plus}
-use Rattle.network.specs.Pool.{cellOf, poolAfter}
-use Rattle.unit.specs.Units.{unitAt}
+use Rattle.network.specs.{declared.Core.Core, declared.Network.Network, declared.Answer.Answer, Count.zeroCount, Count.plus, Pool.cellOf, Pool.poolAfter}
 
 -- what a call gives: the answer, and the bytes of the lent pool
 pub record Result : Type 0 where

@@ -7,25 +7,12 @@
 --     Served                        what holds of one run
 --     Demand3                       two runs of one table
 -- Assumes nothing.
-use Prim.Native.Nat.{ℕ, _+_, _*_, _-_, _≤_}
-use mathlib.Core.Path.{_≡_}
-use mathlib.Core.Logic.{_⊎_}
-use mathlib.Core.Bool.{Bool, true, false, cond}
-use mathlib.Core.List.{List, [], _∷_, _++_, map}
-use lib.Dec.{eqb}
-use lib.ListN.{length, take}
+use Rattle.base.specs.Library.{ℕ, _+_, _*_, _-_, _≤_, _≡_, _⊎_, Bool, true, false, cond, List, [], _∷_, _++_, map, eqb, length, take}
 use Rattle.base.specs.Limits.{messageSize}
-use Rattle.costs.specs.Instance.{Instance, instanceOf}
-use Rattle.costs.specs.Bounds.{Assignment, total, N}
-use Rattle.message.specs.Message.{Packet}
-use Rattle.message.specs.Encode.{encode}
-use Rattle.unit.specs.Send.{encodeAll}
-use Rattle.unit.specs.Units.{unitAt, Distinct}
-use Rattle.network.specs.declared.Network.{Network}
-use Rattle.network.specs.Count.{valueOf}
-use Rattle.network.specs.Pool.{cellOf}
-use Rattle.network.specs.Run.{History, run, written}
-use Rattle.network.specs.Calls.{Result, makeOf, deliverOf}
+use Rattle.costs.specs.{Instance.Instance, Instance.instanceOf, Bounds.Assignment, Bounds.total, Bounds.N}
+use Rattle.message.specs.{Message.Packet, Encode.encode}
+use Rattle.unit.specs.{Send.encodeAll, Units.unitAt, Units.Distinct}
+use Rattle.network.specs.{declared.Network.Network, Count.valueOf, Pool.cellOf, Run.History, Run.run, Run.written, Calls.Result, Calls.makeOf, Calls.deliverOf}
 
 -- ---- the run on bytes
 

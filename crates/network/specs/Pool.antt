@@ -1,8 +1,6 @@
 -- The pool's bytes, 01: "The pool is 1,024 cells of 64 bytes."
 -- Assumes nothing.
-use Prim.Native.Nat.{ℕ, suc, _+_, _*_, _-_}
-use mathlib.Core.List.{List, _++_}
-use lib.ListN.{length, take, drop}
+use Rattle.base.specs.Library.{ℕ, suc, _+_, _*_, _-_, List, _++_, length, take, drop}
 use Rattle.base.specs.Limits.{messageSize}
 use Rattle.message.specs.Message.{Packet}
 use Rattle.unit.specs.Send.{encodeAll}

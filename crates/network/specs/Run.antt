@@ -6,19 +6,11 @@
 --     begin, handOver, run           making, one delivery, and a list of them, over 01's pool
 --     written                        the records that a run writes
 -- Assumes nothing.
-use Prim.Native.Nat.{ℕ, suc}
-use mathlib.Core.Bool.{Bool, true, false}
-use mathlib.Core.List.{List, [], _∷_, _++_}
-use mathlib.Core.Option.{Option, none, some}
-use lib.Dec.{leb}
-use lib.ListN.{length, set, take, drop, replicate}
+use Rattle.base.specs.Library.{ℕ, suc, Bool, true, false, List, [], _∷_, _++_, Option, none, some, leb, length, set, take, drop, replicate}
 use Rattle.base.specs.Limits.{poolCells}
 use Rattle.costs.specs.Instance.{Instance, viewOf, instanceOf}
 use Rattle.message.specs.Message.{Packet}
-use Rattle.unit.specs.declared.Unit.{Unit}
-use Rattle.unit.specs.State.{fresh}
-use Rattle.unit.specs.Step.{Decision, refused, accepted, Written, assign}
-use Rattle.unit.specs.Send.{packets}
+use Rattle.unit.specs.{declared.Unit.Unit, State.fresh, Step.Decision, Step.refused, Step.accepted, Step.Written, Step.assign, Send.packets}
 pub use Rattle.unit.specs.Units.{unitAt, placeOf, stepOn}
 
 -- ---- a pool of messages, by cell

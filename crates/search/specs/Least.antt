@@ -1,12 +1,8 @@
 -- Which answer of the search is meant, without a word of the search: the least total with its first assignment in ascending order.
 -- specs/Laws says that it is the search's answer, and that there is no other.
 -- Assumes nothing.
-use Prim.Native.Nat.{ℕ, _≤_, _<_}
-use mathlib.Core.Path.{_≡_}
-use mathlib.Core.List.{List}
-use lib.ListN.{length, getD}
-use Rattle.costs.specs.Instance.{Instance}
-use Rattle.costs.specs.Bounds.{Assignment, total}
+use Rattle.base.specs.Library.{ℕ, _≤_, _<_, _≡_, List, length, getD}
+use Rattle.costs.specs.{Instance.Instance, Bounds.Assignment, Bounds.total}
 pub mod Order
 pub mod Picked
 

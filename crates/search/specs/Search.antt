@@ -2,17 +2,11 @@
 -- with its first lotting in ascending order." Every full assignment is totalled on its own here; the code carries the cost of what is chosen.
 -- specs/Least says of the answer, without the search, which one it is.
 -- Assumes nothing.
-use Prim.Native.Nat.{ℕ, zero, suc}
-use mathlib.Core.Bool.{cond}
-use mathlib.Core.List.{List}
-use lib.Dec.{ltb, eqb}
-use lib.ListN.{set, replicate}
+use Rattle.base.specs.Library.{ℕ, zero, suc, cond, List, ltb, eqb, set, replicate}
 use Rattle.base.specs.Limits.{NONE, searchLimit}
 use Rattle.table.specs.Stream.{streamRefusal}
-use Rattle.costs.specs.Instance.{Instance, instanceOf}
-use Rattle.costs.specs.Bounds.{total, prefixCount}
-use Rattle.search.specs.declared.Best.{Best}
-use Rattle.search.specs.declared.Found.{Found}
+use Rattle.costs.specs.{Instance.Instance, Instance.instanceOf, Bounds.total, Bounds.prefixCount}
+use Rattle.search.specs.{declared.Best.Best, declared.Found.Found}
 
 -- ---- the best assignment
 

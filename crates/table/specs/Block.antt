@@ -1,14 +1,8 @@
 -- A block of the stored table, read alone and written alone. The facts about these are in BlockLaws.
 -- Document 01: "Blocks of 512 bytes. 0-1 block number from 0; 2-3 payload count; 4-509 payload; 510-511 check."
 -- Assumes nothing.
-use Prim.Native.Nat.{ℕ, _+_, _-_}
-use mathlib.Core.Bool.{Bool, true, cond, _&&_}
-use mathlib.Core.List.{List, [], _∷_, _++_}
-use lib.Dec.{eqb}
-use lib.ListN.{length, take, drop, replicate}
-use Rattle.base.specs.Limits.{blockSize, payloadSize, checkedSize}
-use Rattle.base.specs.Bytes.{u16At, le16}
-use Rattle.base.specs.Shape.{isValue}
+use Rattle.base.specs.Library.{ℕ, _+_, _-_, Bool, true, cond, _&&_, List, [], _∷_, _++_, eqb, length, take, drop, replicate}
+use Rattle.base.specs.{Limits.blockSize, Limits.payloadSize, Limits.checkedSize, Bytes.u16At, Bytes.le16, Shape.isValue}
 use Rattle.checksum.specs.Sum.{sumOf}
 
 -- ---- the fields

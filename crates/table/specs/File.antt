@@ -1,17 +1,9 @@
 -- A stored table whole: the stream of a file, the file of a stream, and what reading and writing give.
 -- Document 01, "Stored table" and "Refusals". The facts about these are in FileLaws and RoundTrip.
 -- Assumes nothing.
-use Prim.Native.Nat.{ℕ, zero, suc, _+_, _*_, _-_, _/_, _%_}
-use mathlib.Core.Bool.{Bool, cond, _&&_, not}
-use mathlib.Core.List.{List, [], _++_}
-use mathlib.Core.Path.{_≡_}
-use lib.Dec.{eqb, leb, ltb}
-use lib.ListN.{length, take, drop}
-use Rattle.base.specs.declared.Length.{Length}
-use Rattle.base.specs.Limits.{blockSize, payloadSize, fileSize, streamSize}
-use Rattle.base.specs.Refusal.{orElse}
-use Rattle.table.specs.Stream.{streamRefusal}
-use Rattle.table.specs.Block.{blockRefusal, payloadOf, blockOf}
+use Rattle.base.specs.Library.{ℕ, zero, suc, _+_, _*_, _-_, _/_, _%_, Bool, cond, _&&_, not, List, [], _++_, _≡_, eqb, leb, ltb, length, take, drop}
+use Rattle.base.specs.{declared.Length.Length, Limits.blockSize, Limits.payloadSize, Limits.fileSize, Limits.streamSize, Refusal.orElse}
+use Rattle.table.specs.{Stream.streamRefusal, Block.blockRefusal, Block.payloadOf, Block.blockOf}
 
 -- ---- what a call gives that is to fill a lent buffer
 

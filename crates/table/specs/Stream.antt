@@ -1,15 +1,8 @@
 -- The stream of a table: n, the n sizes, the costs of all pairs; and what is wrong with a list that is none.
 -- Document 01, "Stored table" and refusals 5, 6, 7. The facts about these are in StreamLaws.
 -- Assumes nothing.
-use Prim.Native.Nat.{ℕ, zero, suc, _+_, _*_}
-use mathlib.Core.Bool.{Bool, true, cond, _&&_}
-use mathlib.Core.List.{List, [], _∷_}
-use mathlib.Core.Path.{_≡_}
-use lib.Dec.{eqb, leb}
-use lib.ListN.{length, getD, take, drop}
-use Rattle.base.specs.Limits.{pairLimit}
-use Rattle.base.specs.Bytes.{u16At}
-use Rattle.base.specs.Shape.{shapeGood}
+use Rattle.base.specs.Library.{ℕ, zero, suc, _+_, _*_, Bool, true, cond, _&&_, List, [], _∷_, _≡_, eqb, leb, length, getD, take, drop}
+use Rattle.base.specs.{Limits.pairLimit, Bytes.u16At, Shape.shapeGood}
 
 -- 01: "n, then n sizes". In a shorter stream, the sizes that are present.
 abbrev pub unitsOf : List ℕ → ℕ

@@ -1,27 +1,12 @@
 -- The calls: making a unit and a step, refusals in 01's order.
 -- 01: "Making a unit ..: 5, 10 (unit only), 6, 7, 13." "Step: 13, 5 (n, sizes), 10 (own number), 6, 7, 5 (state), 8, 10, 9, 12, 11."
 -- Assumes nothing.
-use Prim.Native.Nat.{ℕ, zero, suc, pred}
-use mathlib.Core.Bool.{cond, not}
-use mathlib.Core.List.{List}
-use lib.Dec.{ltb}
-use lib.ListN.{length}
-use Rattle.base.specs.Limits.{sendingSize}
-use Rattle.base.specs.Refusal.{orElse}
-use Rattle.base.specs.Shape.{shapeGood}
-use Rattle.costs.specs.Instance.{View, lentView}
-use Rattle.costs.specs.Lent.{lentRefusal}
-use Rattle.message.specs.declared.Message.{Message}
-use Rattle.message.specs.declared.Read.{Read}
-use Rattle.message.specs.declared.Read.the-variants.{Good, Refused}
-use Rattle.message.specs.Message.{isUnit}
-use Rattle.message.specs.Decode.{parseFor}
-use Rattle.unit.specs.declared.Unit.{Unit}
-use Rattle.unit.specs.declared.Outcome.{Outcome}
-use Rattle.unit.specs.declared.Report.{Report}
-use Rattle.unit.specs.State.{fresh, inRange}
+use Rattle.base.specs.Library.{ℕ, zero, suc, pred, cond, not, List, ltb, length}
+use Rattle.base.specs.{Limits.sendingSize, Refusal.orElse, Shape.shapeGood}
+use Rattle.costs.specs.{Instance.View, Instance.lentView, Lent.lentRefusal}
+use Rattle.message.specs.{declared.Message.Message, declared.Read.Read, declared.Read.the-variants.Good, declared.Read.the-variants.Refused, Message.isUnit, Decode.parseFor}
+use Rattle.unit.specs.{declared.Unit.Unit, declared.Outcome.Outcome, declared.Report.Report, State.fresh, State.inRange, Send.packets, Send.laid}
 use Rattle.unit.specs.Step.{Decision, refused, accepted, quiet, assign, respond}
-use Rattle.unit.specs.Send.{packets, laid}
 
 -- ---- what the caller gets
 

@@ -1,19 +1,11 @@
 -- The messages of a plan, 01: "Outgoing order: paper first, the rest by receiver ascending", and their bytes in a buffer.
 -- Assumes nothing.
-use Prim.Native.Nat.{ℕ, zero, suc, _*_, _-_}
-use mathlib.Core.Bool.{Bool, true, false}
-use mathlib.Core.List.{List, [], _∷_, _++_}
-use lib.ListN.{length, drop}
+use Rattle.base.specs.Library.{ℕ, zero, suc, _*_, _-_, Bool, true, false, List, [], _∷_, _++_, length, drop}
 use Rattle.base.specs.Limits.{messageSize}
-use Rattle.message.specs.declared.Message.{Message}
-use Rattle.message.specs.declared.Kind.{Kind}
+use Rattle.message.specs.{declared.Message.Message, declared.Kind.Kind, Message.Packet, Encode.encode}
 use Rattle.message.specs.declared.Kind.the-variants.{Cpa, Request, Estimate, Solution, Stop}
-use Rattle.message.specs.Message.{Packet}
-use Rattle.message.specs.Encode.{encode}
-use Rattle.unit.specs.declared.Sending.{Sending}
-use Rattle.unit.specs.declared.Plan.{Plan}
+use Rattle.unit.specs.{declared.Sending.Sending, declared.Plan.Plan, State.zeros}
 use Rattle.unit.specs.declared.Plan.the-variants.{Nothing, Forward, Back, Reply}
-use Rattle.unit.specs.State.{zeros}
 
 -- ---- one message, to the unit at place j
 

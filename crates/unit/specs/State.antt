@@ -4,19 +4,11 @@
 --     orderOf, compareOn, sameOn           01: "Stamps compare from unit 1 on"
 --     cpaOutInRange .. inRange             01: "A lent state is in range when .."
 -- Places count from 0: place k of an array is unit k + 1's; numbers of units (`own`) count from 1. Assumes nothing.
-use Prim.Native.Nat.{ℕ, zero, suc, pred, _-_}
-use mathlib.Core.Bool.{Bool, true, false, cond, _&&_}
-use mathlib.Core.List.{List, []}
-use lib.Dec.{ltb, leb, eqb}
-use lib.ListN.{getD, replicate}
-use Rattle.base.specs.Limits.{NONE, estimateLimit, prefixLimit}
-use Rattle.costs.specs.Instance.{View}
-use Rattle.costs.specs.Bounds.{costWith}
-use Rattle.base.specs.Every.{every}
+use Rattle.base.specs.Library.{ℕ, zero, suc, pred, _-_, Bool, true, false, cond, _&&_, List, [], ltb, leb, eqb, getD, replicate}
+use Rattle.base.specs.{Limits.NONE, Limits.estimateLimit, Limits.prefixLimit, Every.every}
+use Rattle.costs.specs.{Instance.View, Bounds.costWith}
 use Rattle.message.specs.Message.{isUnit, filledTo, noneOrBound}
-use Rattle.unit.specs.declared.Unit.{Unit}
-use Rattle.unit.specs.declared.Ordering.{Ordering}
-use Rattle.unit.specs.declared.Ordering.the-variants.{Less, Equal, Greater}
+use Rattle.unit.specs.{declared.Unit.Unit, declared.Ordering.Ordering, declared.Ordering.the-variants.Less, declared.Ordering.the-variants.Equal, declared.Ordering.the-variants.Greater}
 
 abbrev pub zeros : List ℕ
 zeros = replicate 16 0

@@ -7,22 +7,13 @@
 --     onCpa .. onStop, respond             01: "Paper", "Copy", "Estimate", "News", "Stop"
 -- Each test is an argument of a definition by clauses. Places count from 0: the unit at place k is 01's unit i = k + 1.
 -- Assumes nothing.
-use Prim.Native.Nat.{ℕ, zero, suc, _+_, _-_}
-use mathlib.Core.Bool.{Bool, true, false, cond, _&&_, _||_}
-use mathlib.Core.List.{List, [], _∷_}
-use lib.Dec.{ltb, leb, eqb}
-use lib.ListN.{getD, set, take}
+use Rattle.base.specs.Library.{ℕ, zero, suc, _+_, _-_, Bool, true, false, cond, _&&_, _||_, List, [], _∷_, ltb, leb, eqb, getD, set, take}
 use Rattle.base.specs.Sums.{sumFrom}
-use Rattle.costs.specs.Instance.{View}
-use Rattle.costs.specs.Bounds.{costWith, h, estimate}
-use Rattle.message.specs.declared.Message.{Message}
-use Rattle.message.specs.declared.Kind.{Kind}
+use Rattle.costs.specs.{Instance.View, Bounds.costWith, Bounds.h, Bounds.estimate}
+use Rattle.message.specs.{declared.Message.Message, declared.Kind.Kind, Message.noMessage}
 use Rattle.message.specs.declared.Kind.the-variants.{Cpa, Request, Estimate, Solution, Stop}
-use Rattle.message.specs.Message.{noMessage}
-use Rattle.unit.specs.declared.Unit.{Unit}
-use Rattle.unit.specs.declared.Ordering.{Ordering}
+use Rattle.unit.specs.{declared.Unit.Unit, declared.Ordering.Ordering, declared.Sending.Sending}
 use Rattle.unit.specs.declared.Ordering.the-variants.{Less, Equal, Greater}
-use Rattle.unit.specs.declared.Sending.{Sending}
 use Rattle.unit.specs.declared.Plan.the-variants.{Nothing, Forward, Back, Reply}
 use Rattle.unit.specs.State.{zeros, withThreshold, withBest, withEstimates, withCpa, withCounter, withStopped, ownValue, ownCost, next, left, compareOn, sameOn}
 

@@ -1,15 +1,10 @@
 -- Many units, by place: the one that a packet is for and its step, and the records that they write together. No pool is met here.
 -- Assumes nothing.
-use Prim.Native.Nat.{ℕ, pred}
-use mathlib.Core.Path.{_≡_}
-use mathlib.Core.List.{List, [], _∷_}
-use lib.ListN.{getD}
+use Rattle.base.specs.Library.{ℕ, pred, _≡_, List, [], _∷_, getD}
 use Rattle.base.specs.Members.{Every}
 use Rattle.costs.specs.Instance.{Instance, viewOf}
 use Rattle.message.specs.Message.{Packet}
-use Rattle.unit.specs.declared.Unit.{Unit as State}
-use Rattle.unit.specs.State.{emptyUnit}
-use Rattle.unit.specs.Step.{Decision, Written, respond}
+use Rattle.unit.specs.{declared.Unit.Unit as State, State.emptyUnit, Step.Decision, Step.Written, Step.respond}
 
 -- the unit at a place
 abbrev pub unitAt : List State → ℕ → State

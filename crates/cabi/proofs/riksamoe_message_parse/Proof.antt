@@ -1,6 +1,6 @@
 -- `riksamoe_message_parse` meets its contract: the answer of `message::parse`, its two cases told by numbers.
 -- Assumes nothing.
-use Rattle.cabi.specs.Calls.{parsed-is}
+use Rattle.cabi.specs.Calls.Laws.{parsed-is}
 use borrow.Author.Needs.{needs}
 use Rattle.cabi.proofs.riksamoe_message_parse.Statement.{statement}
 use Rattle.cabi.proofs.riksamoe_message_parse.Tie as tie

@@ -2,7 +2,7 @@
 -- Assumes nothing.
 use mathlib.Core.Path.{sym, _∙_}
 use lib.ListN.{length}
-use Rattle.cabi.specs.Calls.{write-known, written-known, write-unknown, written-unknown}
+use Rattle.cabi.specs.Calls.Laws.{write-known, written-known, write-unknown, written-unknown}
 use borrow.Author.Needs.{needs}
 use Rattle.cabi.proofs.riksamoe_message_write.Statement.{statement}
 use Rattle.cabi.proofs.riksamoe_message_write.Tie as tie

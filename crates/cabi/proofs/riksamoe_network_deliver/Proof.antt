@@ -1,6 +1,6 @@
 -- `riksamoe_network_deliver` meets its contract: the lent network is read, `network::deliver` has the answer, and the network goes back.
 -- Assumes nothing.
-use Rattle.cabi.specs.Calls.{delivery-is}
+use Rattle.cabi.specs.Calls.Laws.{delivery-is}
 use borrow.Author.Needs.{needs}
 use Rattle.cabi.proofs.riksamoe_network_deliver.Statement.{statement}
 use Rattle.cabi.proofs.riksamoe_network_deliver.Tie as tie

@@ -1,7 +1,7 @@
 -- `riksamoe_unit_step` meets its contract: the lent state is read, `unit::step` has the answer, and the state goes back.
 -- Assumes nothing.
 use lib.ListN.{length}
-use Rattle.cabi.specs.Calls.{step-is, stepped-is}
+use Rattle.cabi.specs.Calls.Laws.{step-is, stepped-is}
 use borrow.Author.Needs.{needs}
 use Rattle.cabi.proofs.riksamoe_unit_step.Statement.{statement}
 use Rattle.cabi.proofs.riksamoe_unit_step.Tie as tie

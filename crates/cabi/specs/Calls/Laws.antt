@@ -1,0 +1,62 @@
+-- What the steps of the calls for C come to: reading, writing by number, a step on a lent state, a delivery to a lent network.
+-- Assumes nothing.
+use Prim.Native.Nat.{ℕ, pred}
+use mathlib.Core.Path.{_≡_, ap, _∙_}
+use mathlib.Core.List.{List}
+use lib.ListN.{length}
+use Rattle.message.specs.declared.Kind.{Kind}
+use Rattle.message.specs.declared.Message.{Message}
+use Rattle.message.specs.declared.Parsed.{Parsed as Reading}
+use Rattle.message.specs.declared.Read.the-variants.{Good, Refused}
+use Rattle.message.specs.Message.{kindOf, refusalOf}
+use Rattle.message.specs.Decode.{writeRefusal, packetInto}
+use Rattle.unit.specs.declared.Outcome.{Outcome}
+use Rattle.unit.specs.declared.Unit.{Unit}
+use Rattle.unit.specs.Calls.{outcomeOf, bytesOf, stepOut}
+use Rattle.network.specs.declared.Network.{Network}
+use Rattle.network.specs.declared.Answer.{Answer}
+use Rattle.network.specs.Calls.{deliverOf}
+use Rattle.cabi.specs.declared.LentAnswer.{LentAnswer}
+use Rattle.cabi.specs.declared.LentNetwork.{LentNetwork}
+use Rattle.cabi.specs.declared.LentOutcome.{LentOutcome}
+use Rattle.cabi.specs.declared.LentUnit.{LentUnit}
+use Rattle.cabi.specs.Lent.{unitFrom, outcomeBack, networkFrom, answerBack}
+use Rattle.cabi.specs.Calls.{codeOf, parsedOf, unknownKind, writeByCode, writtenByCode, stepOf, steppedBytes, deliveredTo, deliveredPool}
+
+-- what reading comes to
+pub parsed-is : (p q : Reading) (r k : ℕ) → r ≡ refusalOf (p .answer) → k ≡ codeOf (p .answer) → p ≡ q → record { refusal = r; kind = k; message = p .message } ≡ parsedOf q
+parsed-is p q r k e f g = rw (e, f) (ap parsedOf g)
+
+-- what writing by number comes to, where the number is a kind's and where it is none
+module _ (n : ℕ) (sizes : List ℕ) (code : ℕ) (m : Message) where
+  pub write-known : (k : Kind) (room : ℕ) → kindOf code ≡ Good k → writeByCode n sizes code m room ≡ writeRefusal n sizes k m room
+  unfolding writeByCode
+  write-known k room e = rw e
+
+  pub written-known : (k : Kind) (out : List ℕ) → kindOf code ≡ Good k → writtenByCode n sizes code m out ≡ packetInto n sizes k m out
+  unfolding writtenByCode
+  written-known k out e = rw e
+
+  pub write-unknown : (r room : ℕ) → kindOf code ≡ Refused r → writeByCode n sizes code m room ≡ unknownKind n sizes m
+  unfolding writeByCode
+  write-unknown r room e = rw e
+
+  pub written-unknown : (r : ℕ) (out : List ℕ) → kindOf code ≡ Refused r → writtenByCode n sizes code m out ≡ out
+  unfolding writtenByCode
+  written-unknown r out e = rw e
+
+-- a step: what the call does, one thing after the other
+module _ (s : LentUnit) (own n : ℕ) (sizes costs packet : List ℕ) (v : Unit) (read : v ≡ unitFrom s) where
+  pub step-is : (room : ℕ) (r : Outcome) (x : LentOutcome) → r ≡ outcomeOf n (pred own) v (stepOut v own n sizes costs packet room) → x ≡ outcomeBack s r → x ≡ stepOf s own n sizes costs packet room
+  unfolding stepOf
+  step-is room r x e f = f ∙ rw (e, read)
+
+  pub stepped-is : (out l : List ℕ) → l ≡ bytesOf n (pred own) out (stepOut v own n sizes costs packet (length out)) → l ≡ steppedBytes s own n sizes costs packet out
+  unfolding steppedBytes
+  stepped-is out l e = e ∙ rw read
+
+-- a delivery
+pub delivery-is : (s : LentNetwork) (stream pool : List ℕ) (cell : ℕ) (t : Network) (a : Answer) (x : LentAnswer) (l : List ℕ)
+    → t ≡ networkFrom s → (a ≡ deliverOf t stream pool cell .answer) × (l ≡ deliverOf t stream pool cell .pool) → x ≡ answerBack s a → (x ≡ deliveredTo s stream pool cell) × (l ≡ deliveredPool s stream pool cell)
+unfolding deliveredTo deliveredPool
+delivery-is s stream pool cell t a x l read e f = (f ∙ rw (e .0, read), e .1 ∙ rw read)
