@@ -4,8 +4,8 @@ use Rattle.base.specs.Library.{ℕ, pred, cond, not, List, length}
 use Rattle.base.specs.Shape.{shapeGood}
 use Rattle.message.specs.{declared.Message.Message, declared.Parsed.Parsed as Reading, declared.Read.Read, Decode.writeRefusal, Decode.packetInto}
 use Rattle.message.specs.declared.Read.the-variants.{Good, Refused}
-use Rattle.message.specs.Message.{kindCode, kindOf, refusalOf, addressGood}
-use Rattle.unit.specs.{declared.Report.Report, Step.Decision, Calls.outcomeOf, Calls.bytesOf, Calls.stepOut}
+use Rattle.message.specs.Message.{kindCode, refusalOf, addressGood}
+use Rattle.unit.specs.{declared.Report.Report, Calls.outcomeOf, Calls.bytesOf, Calls.stepOut}
 use Rattle.network.specs.Calls.{deliverOf}
 use Rattle.search.specs.declared.Found.{Found as Searched}
 use Rattle.cabi.specs.{declared.Found.Found, declared.LentAnswer.LentAnswer, declared.LentNetwork.LentNetwork, declared.LentUnit.LentUnit, declared.Parsed.Parsed}
@@ -31,30 +31,21 @@ unknownKind n sizes m = cond (not (shapeGood n sizes)) 5 (cond (not (addressGood
 -- ---- writing by number
 
 -- writing a message whose kind is read from its number: the refusal, and what is left in the lent output
-abbrev pub writeAs : Read → ℕ → List ℕ → Message → ℕ → ℕ
+unfoldable pub writeAs : Read → ℕ → List ℕ → Message → ℕ → ℕ
 writeAs (Good k) n sizes m room = writeRefusal n sizes k m room
 writeAs (Refused r) n sizes m room = unknownKind n sizes m
 
-abbrev pub writtenAs : Read → ℕ → List ℕ → Message → List ℕ → List ℕ
+unfoldable pub writtenAs : Read → ℕ → List ℕ → Message → List ℕ → List ℕ
 writtenAs (Good k) n sizes m out = packetInto n sizes k m out
 writtenAs (Refused r) n sizes m out = out
 
-unfoldable pub writeByCode : ℕ → List ℕ → ℕ → Message → ℕ → ℕ
-writeByCode n sizes code m room = writeAs (kindOf code) n sizes m room
-
-unfoldable pub writtenByCode : ℕ → List ℕ → ℕ → Message → List ℕ → List ℕ
-writtenByCode n sizes code m out = writtenAs (kindOf code) n sizes m out
-
 -- ---- a step on a lent state: unit's, on the state that is read
 
-abbrev pub stepBy : LentUnit → ℕ → ℕ → List ℕ → List ℕ → List ℕ → ℕ → Decision
-stepBy s own n sizes costs packet room = stepOut (unitFrom s) own n sizes costs packet room
-
 unfoldable pub stepOf : LentUnit → ℕ → ℕ → List ℕ → List ℕ → List ℕ → ℕ → LentOutcome
-stepOf s own n sizes costs packet room = outcomeBack s (outcomeOf n (pred own) (unitFrom s) (stepBy s own n sizes costs packet room))
+stepOf s own n sizes costs packet room = outcomeBack s (outcomeOf n (pred own) (unitFrom s) (stepOut (unitFrom s) own n sizes costs packet room))
 
 unfoldable pub steppedBytes : LentUnit → ℕ → ℕ → List ℕ → List ℕ → List ℕ → List ℕ → List ℕ
-steppedBytes s own n sizes costs packet out = bytesOf n (pred own) out (stepBy s own n sizes costs packet (length out))
+steppedBytes s own n sizes costs packet out = bytesOf n (pred own) out (stepOut (unitFrom s) own n sizes costs packet (length out))
 
 -- its numbers, which a step in place hands back
 abbrev pub reportBy : LentOutcome → Report

@@ -4,12 +4,16 @@
 --     networkFrom, networkBack      the same of a network
 -- Lent/Laws shows that such a state is out of range, and that what a call leaves alone comes back as lent. Assumes nothing.
 use Rattle.base.specs.Library.{ℕ, zero, suc, Bool, cond, List, [], _∷_, _++_, leb, eqb, getD, replicate}
-use Rattle.unit.specs.{declared.Unit.Unit, declared.Outcome.Outcome, State.emptyUnit}
+use Rattle.unit.specs.{declared.Unit.Unit, declared.Outcome.Outcome, State.unit, State.emptyUnit}
 use Rattle.network.specs.{declared.Network.Network, declared.Answer.Answer}
 use Rattle.cabi.specs.{declared.LentUnit.LentUnit, declared.LentOutcome.LentOutcome, declared.LentNetwork.LentNetwork, declared.LentAnswer.LentAnswer}
 pub mod Laws
 
 -- ---- one unit
+
+-- a lent state's fields in their order
+abbrev pub lent : List ℕ → ℕ → List ℕ → List ℕ → List ℕ → List ℕ → ℕ → ℕ → ℕ → LentUnit
+lent t B l e s v c k z = record { threshold = t; bound = B; best = l; estimates = e; stamp = s; values = v; cost = c; counter = k; stopped = z }
 
 -- the byte is a flag
 abbrev pub flagGood : LentUnit → Bool
@@ -17,31 +21,11 @@ flagGood s = leb (s .stopped) 1
 
 -- the state that is lent; where the byte is no flag, one out of range: 01 allows threshold bytes of at most 17
 unfoldable pub unitFrom : LentUnit → Unit
-unitFrom s = record {
-  threshold = cond (flagGood s) (s .threshold) (replicate 16 255);
-  bound = s .bound;
-  best = s .best;
-  estimates = s .estimates;
-  stamp = s .stamp;
-  values = s .values;
-  cost = s .cost;
-  counter = s .counter;
-  stopped = eqb (s .stopped) 1;
-}
+unitFrom s = unit (cond (flagGood s) (s .threshold) (replicate 16 255)) (s .bound) (s .best) (s .estimates) (s .stamp) (s .values) (s .cost) (s .counter) (eqb (s .stopped) 1)
 
 -- a state with its flag as a byte
 abbrev pub lentOf : Unit → LentUnit
-lentOf u = record {
-  threshold = u .threshold;
-  bound = u .bound;
-  best = u .best;
-  estimates = u .estimates;
-  stamp = u .stamp;
-  values = u .values;
-  cost = u .cost;
-  counter = u .counter;
-  stopped = cond (u .stopped) 1 0;
-}
+lentOf u = lent (u .threshold) (u .bound) (u .best) (u .estimates) (u .stamp) (u .values) (u .cost) (u .counter) (cond (u .stopped) 1 0)
 
 -- what stands where s was lent, once the call leaves the unit u there: a byte that is no flag stays with its state, which no call touches
 unfoldable pub unitBack : LentUnit → Unit → LentUnit
@@ -55,7 +39,7 @@ outcomeBack s r = record { refusal = r .refusal; unit = unitBack s (r .unit); se
 
 -- what stands past the end of a list of lent units
 abbrev pub emptyLent : LentUnit
-emptyLent = record { threshold = []; bound = 0; best = []; estimates = []; stamp = []; values = []; cost = 0; counter = 0; stopped = 0 }
+emptyLent = lent [] 0 [] [] [] [] 0 0 0
 
 -- the list of f 0 to f (k - 1)
 unfoldable pub upTo : {A : Type 0} → ℕ → (ℕ → A) → List A
@@ -72,11 +56,7 @@ abbrev pub networkFrom : LentNetwork → Network
 networkFrom s = record { core = record { units = unitsFrom (s .core .units); records = s .core .records; deliveries = s .core .deliveries }; used = s .used }
 
 abbrev pub networkBack : LentNetwork → Network → LentNetwork
-networkBack s t =
-    record {
-      core = record { units = unitsBack (s .core .units) (t .core .units); records = t .core .records; deliveries = t .core .deliveries };
-      used = t .used;
-    }
+networkBack s t = record { core = record { units = unitsBack (s .core .units) (t .core .units); records = t .core .records; deliveries = t .core .deliveries }; used = t .used }
 
 abbrev pub answerBack : LentNetwork → Answer → LentAnswer
 answerBack s a = record { refusal = a .refusal; network = networkBack s (a .network) }

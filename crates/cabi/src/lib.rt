@@ -19,6 +19,7 @@ ghost use Rattle.checksum.specs.Sum.{sumOf};
 ghost use Rattle.table.specs.Block.{blockRefusal};
 ghost use Rattle.table.specs.File.{readOf, readInto, storeOf, storeInto};
 ghost use Rattle.costs.specs.Gather.{sizesIn, gatherOf, gatherInto};
+ghost use Rattle.message.specs.Message.{kindOf};
 ghost use Rattle.message.specs.Decode.{parseOf};
 ghost use Rattle.unit.specs.State.{noUnit};
 ghost use Rattle.unit.specs.Calls.{outcomeOf, bytesOf, makeOut, rangeRefusal};
@@ -26,7 +27,7 @@ ghost use Rattle.network.specs.Calls.{makeOf};
 ghost use Rattle.network.specs.Settle.{settleOf};
 ghost use Rattle.search.specs.Search.{searchOf};
 ghost use Rattle.cabi.specs.Lent.{unitFrom};
-ghost use Rattle.cabi.specs.Calls.{codeOf, parsedOf, writeByCode, writtenByCode, unknownKind, ofFound, stepOf, steppedBytes, reportBy, deliveredTo, deliveredPool};
+ghost use Rattle.cabi.specs.Calls.{codeOf, parsedOf, writeAs, writtenAs, unknownKind, ofFound, stepOf, steppedBytes, reportBy, deliveredTo, deliveredPool};
 
 // A domain size for each of 16 units, zero past n.
 #[repr(C)]
@@ -168,7 +169,7 @@ pub extern "C" fn riksamoe_message_write(
     m: Message,
     out: &mut [u8],
 ) -> u8
-    ensures { λ r. ⌜ (r ≡ writeByCode n (sizes .places) kind m (length (now (out .entry)))) × (now (out .exit) ≡ writtenByCode n (sizes .places) kind m (now (out .entry))) ⌝ }
+    ensures { λ r. ⌜ (r ≡ writeAs (kindOf kind) n (sizes .places) m (length (now (out .entry)))) × (now (out .exit) ≡ writtenAs (kindOf kind) n (sizes .places) m (now (out .entry))) ⌝ }
 {
     let places = sizes.places;
     let answer = message::kind_of(kind);

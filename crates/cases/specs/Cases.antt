@@ -12,11 +12,14 @@ use Rattle.base.specs.Limits.{streamSize}
 use Rattle.base.specs.Shape.{allInSixteen, shapeGood}
 use Rattle.checksum.specs.Sum.{sumOf}
 use Rattle.table.specs.Stream.{sumList, pairsIn, costsGood, streamRefusal}
-use Rattle.table.specs.Block.{allZero, blockRefusal, checkOf, blockOf}
-use Rattle.table.specs.File.{blocksRefusal, joined, streamOf, readRefusal, fileFrom, fileOf}
+use Rattle.table.specs.Block.{allZero, blockRefusal, checkOf}
+use Rattle.table.specs.Written.{blockOf}
+use Rattle.table.specs.File.{blocksRefusal, joined, streamOf, readRefusal}
+use Rattle.table.specs.Written.{fileFrom, fileOf}
 use Rattle.costs.specs.Instance.{Instance, viewOf, instanceOf}
 use Rattle.costs.specs.Bounds.{costWith, h, estimate, total}
-use Rattle.search.specs.Search.{over, bestFrom, searchRefusal, searchOf}
+use Rattle.search.specs.Search.{searchRefusal, searchOf}
+use Rattle.search.specs.Best.{inTurn, bestFrom}
 use Rattle.message.specs.Message.{Packet}
 use Rattle.message.specs.declared.Kind.the-variants.{Request, Estimate}
 use Rattle.unit.specs.declared.Unit.{Unit as State}
@@ -106,5 +109,5 @@ table =
     []
 
 pub cases-hold : map (λ (r : Row). r .found) table ≡ map (λ (r : Row). r .said) table
-unfolding table allInSixteen shapeGood sumOf sumList pairsIn costsGood streamRefusal allZero blockRefusal blockOf blocksRefusal joined streamOf readRefusal fileFrom fileOf instanceOf costWith h estimate total over bestFrom searchRefusal searchOf compareOn sameOn backtrack tryAfter assign resume onCpa onRequest onEstimate onSolution onStop respond each packets begin handOver runFrom run
+unfolding table allInSixteen shapeGood sumOf sumList pairsIn costsGood streamRefusal allZero blockRefusal blockOf blocksRefusal joined streamOf readRefusal fileFrom fileOf instanceOf costWith h estimate total inTurn bestFrom searchRefusal searchOf compareOn sameOn backtrack tryAfter assign resume onCpa onRequest onEstimate onSolution onStop respond each packets begin handOver runFrom run
 cases-hold = refl

@@ -1,10 +1,9 @@
--- The costs that touch one unit, gathered out of a stream: what is lent with a unit's step. 01: "the pair costs that touch the unit, by the
--- other unit ascending, each pair in the stream's order". That a unit sees in them what the stream says is in Gather/Laws.
+-- The costs that touch one unit, gathered out of a stream: what is lent with a unit's step. Their bytes are in Gathered.
 -- Assumes nothing.
-use Rattle.base.specs.Library.{ℕ, zero, suc, _+_, _*_, pred, cond, List, [], _++_, ltb, eqb, length, take, drop, replicate}
+use Rattle.base.specs.Library.{ℕ, cond, List, _++_, ltb, eqb, length, take, drop, replicate}
 use Rattle.base.specs.{declared.Length.Length, Limits.places, Refusal.orElse, Shape.isValue}
 use Rattle.table.specs.Stream.{unitsOf, sizesOf, streamRefusal}
-use Rattle.costs.specs.Instance.{domOf, pairStart}
+use Rattle.costs.specs.Gathered.{gathered}
 pub mod Sizes
 pub mod Laws
 pub mod Steps
@@ -13,27 +12,6 @@ pub mod Checks
 -- the sizes of a stream as an array of 16 places: the first n, zero after
 unfoldable pub sizesIn : List ℕ → List ℕ
 sizesIn s = take places (sizesOf s ++ replicate places 0)
-
--- ---- the costs of one unit
-
--- the bytes of the costs of the pair (i, j), i before j
-abbrev pub pairBytes : List ℕ → ℕ → ℕ → List ℕ
-pairBytes s i j = take (2 * (domOf s i * domOf s j)) (drop (1 + unitsOf s + 2 * pairStart (domOf s) (unitsOf s) i j) s)
-
--- the bytes of the costs of the units at places k and j
-abbrev pub withOther : List ℕ → ℕ → ℕ → List ℕ
-withOther s k j = cond (eqb j k) [] (cond (ltb j k) (pairBytes s j k) (pairBytes s k j))
-
--- those of place k with the first m places
-unfoldable pub gatherTo : List ℕ → ℕ → ℕ → List ℕ
-gatherTo s k zero = []
-gatherTo s k (suc m) = gatherTo s k m ++ withOther s k m
-
--- the bytes of the costs that touch unit `own`, 1 to n
-unfoldable pub gathered : List ℕ → ℕ → List ℕ
-gathered s own = gatherTo s (pred own) (unitsOf s)
-
--- ---- what gathering gives, whatever it is lent
 
 -- 01, of making a unit: "5, 10, 6, 7, 13"; 5, 6 and 7 are the stream's, 13 is that the bytes don't fit
 unfoldable pub gatherRefusal : List ℕ → ℕ → ℕ → ℕ

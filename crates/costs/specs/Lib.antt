@@ -2,6 +2,7 @@
 pub mod Instance
 pub mod Bounds
 pub mod Lent
+pub mod Gathered
 pub mod Gather
 pub mod StreamCost
 pub mod Problem

@@ -18,7 +18,8 @@ ghost use Rattle.table.specs.Stream.{unitsOf};
 ghost use Rattle.costs.specs.Lent.Parts.{domFrom};
 ghost use Rattle.costs.specs.Instance.{rowStart, pairStart, domOf};
 ghost use Rattle.costs.specs.Gather.Steps.{SeatIn};
-ghost use Rattle.costs.specs.Gather.{sizesIn, pairBytes, withOther, gathered, gatherRefusal, gatherOf, gatherInto};
+ghost use Rattle.costs.specs.Gather.{sizesIn, gatherRefusal, gatherOf, gatherInto};
+ghost use Rattle.costs.specs.Gathered.{pairBytes, withOther, gathered};
 
 // The bytes of the costs that touch unit `own` are written to the front of `out`: how many, or the refusal and nothing is written.
 pub fn gather(stream: &[u8], own: u8, out: &mut [u8]) -> Length

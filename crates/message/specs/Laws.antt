@@ -5,7 +5,7 @@
 -- Assumes nothing.
 use Prim.Native.Nat.{ℕ, _≤_, _<_}
 use mathlib.Core.Path.{_≡_, refl}
-use mathlib.Core.Bool.{Bool, true, false, _&&_}
+use mathlib.Core.Bool.{Bool, true, false, cond, _&&_}
 use mathlib.Core.List.{List}
 use native.Mathlib.Omega.{arith}
 use borrow.Author.Tests.{leb-true, le-leb, ltb-true, ltb-false, lt-ltb, le-ltb, eqb-true, eq-eqb, ne-eqb}
@@ -17,7 +17,7 @@ use Rattle.base.specs.Shape.{isValue}
 use Rattle.base.specs.Shape.Laws.{and-left, and-right, value-range, range-value}
 use Rattle.message.specs.declared.Kind.{Kind}
 use Rattle.message.specs.declared.Message.{Message}
-use Rattle.message.specs.Message.{placeGood, placeAt, filledTo, boundGood, noneOrBound, noBound, carriedOf, boundFits, directionGood, isUnit, addressGood, wellFormed}
+use Rattle.message.specs.Message.{placeAt, filledTo, boundGood, noneOrBound, noBound, carriedOf, boundFits, directionGood, isUnit, addressGood, wellFormed}
 
 -- ------------------------------------------------------------------------------------------------------------------
 -- `filledTo`, place by place.
@@ -39,7 +39,7 @@ pub filled-by : (k : ℕ) (sizes l : List ℕ) → ((j : ℕ) → j < k → j < 
 unfolding filledTo
 filled-by k sizes l f g = every-by (placeAt k sizes l) places place
   where
-    go : (j : ℕ) (b : Bool) → ltb j k ≡ b → j < places → placeGood b (getD sizes j 0) (getD l j 0) ≡ true
+    go : (j : ℕ) (b : Bool) → ltb j k ≡ b → j < places → cond b (isValue (getD sizes j 0) (getD l j 0)) (eqb (getD l j 0) 0) ≡ true
     go j true q h = let u : j < k = ltb-true j k q in range-value (getD sizes j 0) (getD l j 0) (f j u h .0) (f j u h .1)
     go j false q h = eq-eqb _ _ (g j (ltb-false j k q) h)
 

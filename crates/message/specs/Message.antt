@@ -6,7 +6,7 @@
 --     carriedOf, boundFits, directionGood     what each kind carries, from whom to whom
 --     addressGood, wellFormed           01's checks 10 and 9 on the fields
 -- Assumes nothing.
-use Rattle.base.specs.Library.{ℕ, _+_, _-_, _^_, _<_, _≡_, Bool, true, false, cond, not, _&&_, _||_, List, ltb, leb, eqb, length, getD, replicate}
+use Rattle.base.specs.Library.{ℕ, _+_, _-_, _^_, _<_, _≡_, Bool, cond, not, _&&_, _||_, List, ltb, leb, eqb, length, getD, replicate}
 use Rattle.base.specs.{Limits.places, Limits.totalLimit, Limits.estimateLimit, Limits.prefixLimit, Limits.NONE, Shape.isValue, Every.every}
 use Rattle.message.specs.{declared.Kind.Kind, declared.Read.Read, declared.Read.the-variants.Good, declared.Read.the-variants.Refused, declared.Message.Message, declared.Carried.Carried}
 use Rattle.message.specs.declared.Kind.the-variants.{Cpa, Request, Estimate, Solution, Stop}
@@ -45,14 +45,9 @@ pub record Sized (m : Message) : Type 0 where
   pub cost : m .cost < 2 ^ 32
   pub bound : m .bound < 2 ^ 32
 
--- 01: "Filled stamp and value bytes are 1 to d(k), others 0"
-abbrev pub placeGood : Bool → ℕ → ℕ → Bool
-placeGood true d x = isValue d x
-placeGood false d x = eqb x 0
-
--- place j of l, where the first k are filled
+-- 01: "Filled stamp and value bytes are 1 to d(k), others 0": place j of l, where the first k are filled
 abbrev pub placeAt : ℕ → List ℕ → List ℕ → ℕ → Bool
-placeAt k sizes l j = placeGood (ltb j k) (getD sizes j 0) (getD l j 0)
+placeAt k sizes l j = cond (ltb j k) (isValue (getD sizes j 0) (getD l j 0)) (eqb (getD l j 0) 0)
 
 -- units 1 to k are filled, and no others of the 16
 unfoldable pub filledTo : ℕ → List ℕ → List ℕ → Bool

@@ -4,8 +4,11 @@ use crate::Carried;
 use crate::Kind;
 use crate::Message;
 ghost use mathlib.Core.Path.{_≡_};
+ghost use mathlib.Core.Bool.{cond};
+ghost use lib.Dec.{eqb};
 ghost use Rattle.base.specs.Limits.{prefixLimit};
-ghost use Rattle.message.specs.Message.{placeGood, filledTo, boundGood, noneOrBound, noBound, cpaCount, prefixOf, carriedOf, boundFits, beside, fromTo, directionGood, isUnit, addressGood, wellFormed};
+ghost use Rattle.base.specs.Shape.{isValue};
+ghost use Rattle.message.specs.Message.{filledTo, boundGood, noneOrBound, noBound, cpaCount, prefixOf, carriedOf, boundFits, beside, fromTo, directionGood, isUnit, addressGood, wellFormed};
 
 // Check 10: sender and receiver are units.
 pub fn address_good(n: u8, m: Message) -> bool
@@ -137,7 +140,7 @@ pub fn filled_to(k: u8, sizes: [u8; 16], places: [u8; 16]) -> bool
 
 // A filled place holds 1 to d, another 0.
 fn place_good(filled: bool, d: u8, x: u8) -> bool
-    ensures { λ r. ⌜ r ≡ placeGood filled d x ⌝ }
+    ensures { λ r. ⌜ r ≡ cond filled (isValue d x) (eqb x 0) ⌝ }
 {
     if !filled {
         return x == 0;

@@ -23,7 +23,8 @@ use Rattle.table.specs.StreamLaws.{accepted-units}
 use Rattle.costs.specs.Instance.{viewOf, instanceOf}
 use Rattle.costs.specs.Bounds.{costWith}
 use Rattle.base.specs.declared.Length.{Length}
-use Rattle.costs.specs.Gather.{sizesIn, gathered, gatherOf, gatherInto}
+use Rattle.costs.specs.Gather.{sizesIn, gatherOf, gatherInto}
+use Rattle.costs.specs.Gathered.{gathered}
 use Rattle.costs.specs.Gather.Sizes.{length-sizes, accepted-sizes-first, accepted-sizes-good}
 use Rattle.costs.specs.Gather.Laws.{gathered-view, gathered-good, gathered-most, gather-enough, gather-front}
 use Rattle.message.specs.Decode.{parseFor}

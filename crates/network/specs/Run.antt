@@ -6,7 +6,7 @@
 --     begin, handOver, run           making, one delivery, and a list of them, over 01's pool
 --     written                        the records that a run writes
 -- Assumes nothing.
-use Rattle.base.specs.Library.{ℕ, suc, Bool, true, false, List, [], _∷_, _++_, Option, none, some, leb, length, set, take, drop, replicate}
+use Rattle.base.specs.Library.{ℕ, suc, Bool, true, false, cond, List, [], _∷_, _++_, Option, none, some, leb, length, set, take, drop, replicate}
 use Rattle.base.specs.Limits.{poolCells}
 use Rattle.costs.specs.Instance.{Instance, viewOf, instanceOf}
 use Rattle.message.specs.Message.{Packet}
@@ -94,17 +94,13 @@ abbrev pub firstOf : List Packet → Option Packet
 firstOf [] = none
 firstOf (p ∷ ps) = some p
 
-abbrev pub ifRoom : Bool → List Packet → Option (List Packet)
-ifRoom true ps = some ps
-ifRoom false ps = none
-
 -- 01: "closes the gap by moving later cells down one, and adds what the step sends at the end"
 abbrev pub cells : Pool (List Packet)
 cells = record {
   start = λ ps. ps;
   at = λ ms c. firstOf (drop c ms);
   without = λ ms c. take c ms ++ drop (suc c) ms;
-  put = λ ms ps. ifRoom (leb (length (ms ++ ps)) poolCells) (ms ++ ps);
+  put = λ ms ps. cond (leb (length (ms ++ ps)) poolCells) (some (ms ++ ps)) none;
 }
 
 abbrev pub History : Type 0

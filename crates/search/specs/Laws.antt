@@ -13,7 +13,8 @@ use Rattle.table.specs.Stream.{streamRefusal, Accepted}
 use Rattle.costs.specs.Instance.{instanceOf}
 use Rattle.costs.specs.Bounds.{total}
 use Rattle.costs.specs.Laws.Stream.{sound-of}
-use Rattle.search.specs.Search.{bestOf, assignmentCount, searchRefusal, refusedBy, foundBest, searchOf}
+use Rattle.search.specs.Search.{assignmentCount, searchRefusal, refusedBy, foundBest, searchOf}
+use Rattle.search.specs.Best.{bestOf}
 use Rattle.search.specs.Least.{LeastFirst, Padded}
 use Rattle.search.specs.Least.Order.{least-unique, first-unique}
 use Rattle.search.specs.Least.Picked.{best-least-first, best-of-padded}

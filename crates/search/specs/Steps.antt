@@ -27,7 +27,8 @@ use Rattle.base.specs.Sums.Laws.{sumFrom-last}
 use Rattle.costs.specs.Laws.Prefix.{pre, length-pre, pre-set-next, pair-before, cost-next, total-prefix}
 use Rattle.costs.specs.Laws.Stream.{instance-units, instance-dom, cost-number-at, sound-of, pair-costs}
 use Rattle.search.specs.declared.Best.{Best}
-use Rattle.search.specs.Search.{keep, over, bestFrom, assignmentCount}
+use Rattle.search.specs.Search.{assignmentCount}
+use Rattle.search.specs.Best.{keep, inTurn, bestFrom}
 
 -- ---- where the costs of a pair begin
 
@@ -78,28 +79,28 @@ pub record Filling (s : List ℕ) (n i at : ℕ) (starts : List ℕ) : Type 0 wh
 
 -- ---- one value, one unit more
 
-pub over-next : {A : Type 0} (f : ℕ → A → A) (v d : ℕ) (a : A) → v ≤ d → over f v (d + 1 - v) a ≡ over f (v + 1) (d + 1 - (v + 1)) (f v a)
-unfolding over
-over-next f v d a h = let e : d + 1 - v ≡ suc (d + 1 - (v + 1)) = omega arith in rw (e, add-one v)
+pub in-turn-next : {A : Type 0} (f : ℕ → A → A) (v d : ℕ) (a : A) → v ≤ d → inTurn f v (d + 1 - v) a ≡ inTurn f (v + 1) (d + 1 - (v + 1)) (f v a)
+unfolding inTurn
+in-turn-next f v d a h = let e : d + 1 - v ≡ suc (d + 1 - (v + 1)) = omega arith in rw (e, add-one v)
 
-pub over-done : {A : Type 0} (f : ℕ → A → A) (v d : ℕ) (a : A) → d < v → over f v (d + 1 - v) a ≡ a
-unfolding over
-over-done f v d a h = let e : d + 1 - v ≡ 0 = omega arith in rw e
+pub in-turn-done : {A : Type 0} (f : ℕ → A → A) (v d : ℕ) (a : A) → d < v → inTurn f v (d + 1 - v) a ≡ a
+unfolding inTurn
+in-turn-done f v d a h = let e : d + 1 - v ≡ 0 = omega arith in rw e
 
 -- value v of unit k, with the units after it
 abbrev pub withValue : Instance → ℕ → ℕ → List ℕ → ℕ → Best → Best
 withValue I left k l v a = bestFrom I (left - 1) (k + 1) (set l k v) a
 
 pub best-of-values : (I : Instance) (left k d : ℕ) (l : List ℕ) (b : Best) → (left ≡ 0 → ⊥) → d ≡ I .dom k
-    → bestFrom I left k l b ≡ over (withValue I left k l) 1 (d + 1 - 1) b
+    → bestFrom I left k l b ≡ inTurn (withValue I left k l) 1 (d + 1 - 1) b
 unfolding bestFrom
 best-of-values I zero k d l b h e = absurd (h refl)
 best-of-values I (suc left) k d l b h e =
     let r : d + 1 - 1 ≡ I .dom k = omega arith in
     let q : suc left - 1 ≡ left = omega arith in
     rw r
-    (ap (λ (m : ℕ). over (λ (v : ℕ) (a : Best). bestFrom I m (suc k) (set l k v) a) 1 (I .dom k) b) (sym q)
-    ∙ ap (λ (m : ℕ). over (λ (v : ℕ) (a : Best). bestFrom I (suc left - 1) m (set l k v) a) 1 (I .dom k) b) (sym (add-one k)))
+    (ap (λ (m : ℕ). inTurn (λ (v : ℕ) (a : Best). bestFrom I m (suc k) (set l k v) a) 1 (I .dom k) b) (sym q)
+    ∙ ap (λ (m : ℕ). inTurn (λ (v : ℕ) (a : Best). bestFrom I (suc left - 1) m (set l k v) a) 1 (I .dom k) b) (sym (add-one k)))
 
 pub best-full : (I : Instance) (left k : ℕ) (l : List ℕ) (b : Best) (cost : ℕ) → left ≡ 0 → cost ≡ total I l → keep b cost l ≡ bestFrom I left k l b
 unfolding bestFrom

@@ -8,7 +8,8 @@ ghost use Rattle.base.specs.Limits.{pairLimit, searchLimit};
 ghost use Rattle.table.specs.Stream.{unitsOf, Accepted};
 ghost use Rattle.costs.specs.Instance.{instanceOf, viewOf};
 ghost use Rattle.costs.specs.Bounds.{costWith};
-ghost use Rattle.search.specs.Search.{keep, bestFrom, assignmentCount, searchOf};
+ghost use Rattle.search.specs.Search.{assignmentCount, searchOf};
+ghost use Rattle.search.specs.Best.{keep, bestFrom};
 ghost use Rattle.search.specs.Steps.{Filled, Filling, Adding, Extending};
 
 // What the search gives: the refusal, or 0 with the least total and its first assignment, places past n zero.

@@ -1,8 +1,8 @@
--- A block of the stored table, read alone and written alone. The facts about these are in BlockLaws.
+-- A block of the stored table, read alone; and how many there are. The facts about these are in BlockLaws.
 -- Document 01: "Blocks of 512 bytes. 0-1 block number from 0; 2-3 payload count; 4-509 payload; 510-511 check."
 -- Assumes nothing.
-use Rattle.base.specs.Library.{ℕ, _+_, _-_, Bool, true, cond, _&&_, List, [], _∷_, _++_, eqb, length, take, drop, replicate}
-use Rattle.base.specs.{Limits.blockSize, Limits.payloadSize, Limits.checkedSize, Bytes.u16At, Bytes.le16, Shape.isValue}
+use Rattle.base.specs.Library.{ℕ, _+_, _-_, _/_, Bool, true, cond, _&&_, List, [], _∷_, eqb, length, take, drop}
+use Rattle.base.specs.{Limits.blockSize, Limits.payloadSize, Limits.checkedSize, Bytes.u16At, Shape.isValue}
 use Rattle.checksum.specs.Sum.{sumOf}
 
 -- ---- the fields
@@ -49,9 +49,6 @@ readBlockOf number last b = cond (eqb (blockRefusal number last b) 0) (payloadOf
 
 -- ---- written
 
--- the first 510 bytes of block number k that carries p
-abbrev pub bodyOf : ℕ → List ℕ → List ℕ
-bodyOf k p = le16 k ++ le16 (length p) ++ p ++ replicate (payloadSize - length p) 0
-
-unfoldable pub blockOf : ℕ → List ℕ → List ℕ
-blockOf k p = bodyOf k p ++ le16 (sumOf (bodyOf k p))
+-- how many blocks carry l bytes
+abbrev pub blocksFor : ℕ → ℕ
+blocksFor l = (l + (payloadSize - 1)) / payloadSize

@@ -20,7 +20,8 @@ use Rattle.checksum.specs.Sum.{sumOf}
 use Rattle.checksum.specs.Sum.Laws.{sum-small}
 use Rattle.base.specs.Put.{putAt}
 use Rattle.base.specs.Put.Laws.{put-next}
-use Rattle.table.specs.Block.{blockNumber, payloadCount, payloadOf, unusedOf, checkOf, countGood, allZero, blockRefusal, readBlockOf, bodyOf, blockOf}
+use Rattle.table.specs.Block.{blockNumber, payloadCount, payloadOf, unusedOf, checkOf, countGood, allZero, blockRefusal, readBlockOf}
+use Rattle.table.specs.Written.{bodyOf, blockOf}
 
 -- ---- unused bytes: a turn of a loop from place i to place m, and its end
 

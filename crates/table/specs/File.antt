@@ -1,9 +1,9 @@
 -- A stored table whole: the stream of a file, the file of a stream, and what reading and writing give.
 -- Document 01, "Stored table" and "Refusals". The facts about these are in FileLaws and RoundTrip.
 -- Assumes nothing.
-use Rattle.base.specs.Library.{ℕ, zero, suc, _+_, _*_, _-_, _/_, _%_, Bool, cond, _&&_, not, List, [], _++_, _≡_, eqb, leb, ltb, length, take, drop}
-use Rattle.base.specs.{declared.Length.Length, Limits.blockSize, Limits.payloadSize, Limits.fileSize, Limits.streamSize, Refusal.orElse}
-use Rattle.table.specs.{Stream.streamRefusal, Block.blockRefusal, Block.payloadOf, Block.blockOf}
+use Rattle.base.specs.Library.{ℕ, zero, suc, _*_, _/_, _%_, Bool, cond, _&&_, not, List, [], _++_, _≡_, eqb, leb, ltb, length, take, drop}
+use Rattle.base.specs.{declared.Length.Length, Limits.blockSize, Limits.fileSize, Limits.streamSize, Refusal.orElse}
+use Rattle.table.specs.{Stream.streamRefusal, Block.blockRefusal, Block.payloadOf, Block.blocksFor, Written.fileOf}
 
 -- ---- what a call gives that is to fill a lent buffer
 
@@ -51,18 +51,6 @@ unfoldable pub AcceptedFile : List ℕ → Type 0
 AcceptedFile f = readRefusal f streamSize ≡ 0
 
 -- ---- written
-
--- how many blocks carry l bytes
-abbrev pub blocksFor : ℕ → ℕ
-blocksFor l = (l + (payloadSize - 1)) / payloadSize
-
--- m blocks from number k on that carry s
-unfoldable pub fileFrom : ℕ → ℕ → List ℕ → List ℕ
-fileFrom k zero s = []
-fileFrom k (suc m) s = blockOf k (take payloadSize s) ++ fileFrom (suc k) m (drop payloadSize s)
-
-unfoldable pub fileOf : List ℕ → List ℕ
-fileOf s = fileFrom 0 (blocksFor (length s)) s
 
 -- 01: "Writing a table: 5, 6, 7, 13"; 13: "or the blocks needed"
 unfoldable pub storeRefusal : List ℕ → ℕ → ℕ

@@ -18,9 +18,12 @@ use Rattle.base.specs.Bytes.Laws.{bytes-take, bytes-drop}
 use Rattle.base.specs.Shape.Laws.{and-left}
 use Rattle.table.specs.Stream.{streamRefusal, Accepted}
 use Rattle.table.specs.StreamLaws.{accepted-most, accepted-length}
-use Rattle.table.specs.Block.{payloadCount, payloadOf, countGood, blockOf}
+use Rattle.table.specs.Block.{payloadCount, payloadOf, countGood}
+use Rattle.table.specs.Written.{blockOf}
 use Rattle.table.specs.BlockLaws.{block-count, block-most, block-payload-length, written-good, written-payload, written-again}
-use Rattle.table.specs.File.{answer, leaves, sizeGood, blocksRefusal, joined, streamOf, readRefusal, readOf, readInto, AcceptedFile, blocksFor, fileFrom, fileOf, storeRefusal, storeOf, storeInto}
+use Rattle.table.specs.File.{answer, leaves, sizeGood, blocksRefusal, joined, streamOf, readRefusal, readOf, readInto, AcceptedFile, storeRefusal, storeOf, storeInto}
+use Rattle.table.specs.Block.{blocksFor}
+use Rattle.table.specs.Written.{fileFrom, fileOf}
 use Rattle.table.specs.FileLaws.{first-good, rest-good, full, good-size, block-long, written-length, take-most, read-size, read-blocks, read-stream, by-stream, gives-accepted, write-accepted, write-stream}
 
 -- the file that a writing of s left in a lent buffer, and the stream that a reading of f left: as many bytes as it said

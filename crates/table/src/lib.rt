@@ -18,8 +18,11 @@ ghost use Rattle.base.specs.Bytes.{le16};
 ghost use Rattle.base.specs.Put.{putAt};
 ghost use Rattle.base.specs.Shape.{allInSixteen};
 ghost use Rattle.table.specs.Stream.{pairsIn, costsGood, streamRefusal};
-ghost use Rattle.table.specs.Block.{countGood, allZero, blockRefusal, readBlockOf, blockOf};
-ghost use Rattle.table.specs.File.{sizeGood, blocksRefusal, streamOf, readRefusal, readOf, readInto, blocksFor, fileFrom, storeRefusal, storeOf, storeInto};
+ghost use Rattle.table.specs.Block.{countGood, allZero, blockRefusal, readBlockOf};
+ghost use Rattle.table.specs.Written.{blockOf};
+ghost use Rattle.table.specs.File.{sizeGood, blocksRefusal, streamOf, readRefusal, readOf, readInto, storeRefusal, storeOf, storeInto};
+ghost use Rattle.table.specs.Block.{blocksFor};
+ghost use Rattle.table.specs.Written.{fileFrom};
 ghost use Rattle.table.specs.View.{BlocksAccepted, streamIn, placeInFile, Viewed, RunAt};
 
 // ---- public calls

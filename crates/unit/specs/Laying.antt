@@ -23,7 +23,7 @@ use Rattle.unit.specs.declared.Sending.{Sending}
 use Rattle.unit.specs.declared.Plan.{Plan}
 use Rattle.unit.specs.declared.Plan.the-variants.{Forward, Back}
 use Rattle.unit.specs.Laws.Packets.{each-length}
-use Rattle.unit.specs.Send.{packet, withReceiver, sentTo, noBound, boundOnly, each, handBack, byPlan, packets, encodeAll, laid}
+use Rattle.unit.specs.Send.{packet, withReceiver, sentTo, withoutBound, boundOnly, each, handBack, byPlan, packets, encodeAll, laid}
 
 -- a unit's number, and a buffer for 16 messages
 pub record Room (seat : Seat) (out : List ℕ) : Type 0 where
@@ -124,7 +124,7 @@ spread-first k m z l lo c = laid-first (each (sentTo k m) lo c) l (wide-each k m
 pub bound-sized : (m : Message) → Sized m → Sized (boundOnly m)
 bound-sized m z = record { stamp = refl; values = refl; best = z .best; cost = omega arith; bound = z .bound }
 
-pub bare-sized : (m : Message) → Sized m → Sized (noBound m)
+pub bare-sized : (m : Message) → Sized m → Sized (withoutBound m)
 bare-sized m z = record { stamp = z .stamp; values = z .values; best = refl; cost = z .cost; bound = omega arith }
 
 module _ (n : ℕ) (m : Message) where
@@ -137,14 +137,14 @@ module _ (n own : ℕ) (m : Message) (l : List ℕ) (first : 1 ≤ own) (z : Siz
   place : suc (own - 1) ≡ own
   place = omega arith
 
-  pub forward-laid : (b : Bool) (r : List ℕ) (bare : Message) (sent : ℕ) → r ≡ putAt l (messageSize * 0) (encodeAll (each (sentTo Cpa m) own 1)) → bare ≡ noBound m → sent ≡ 0 + 1 → messageSize ≤ length l
+  pub forward-laid : (b : Bool) (r : List ℕ) (bare : Message) (sent : ℕ) → r ≡ putAt l (messageSize * 0) (encodeAll (each (sentTo Cpa m) own 1)) → bare ≡ withoutBound m → sent ≡ 0 + 1 → messageSize ≤ length l
       → putAt r (messageSize * sent) (encodeAll (each (sentTo Request bare) own (n - own))) ≡ laid (byPlan n (own - 1) Forward b m) l
   unfolding each
   forward-laid b r bare sent e f g h =
-      rw (e, f, place, spread-first Cpa m z l own 1) (spread-laid Request (noBound m) (bare-sized m z) (each (sentTo Cpa m) own 1) l own (n - own) sent (wide-each Cpa m z own 1) g (omega arith))
+      rw (e, f, place, spread-first Cpa m z l own 1) (spread-laid Request (withoutBound m) (bare-sized m z) (each (sentTo Cpa m) own 1) l own (n - own) sent (wide-each Cpa m z own 1) g (omega arith))
 
   pub forward-count : (b : Bool) (sent : ℕ) → sent ≡ 0 + 1 → sent + (n - own) ≡ length (byPlan n (own - 1) Forward b m)
-  forward-count b sent e = omega (arith, each-length (sentTo Request (noBound m)) (suc (own - 1)) (n - suc (own - 1)))
+  forward-count b sent e = omega (arith, each-length (sentTo Request (withoutBound m)) (suc (own - 1)) (n - suc (own - 1)))
 
   pub stops-laid : own ≡ 1 → (stop : Message) → stop ≡ boundOnly m → putAt l (messageSize * 0) (encodeAll (each (sentTo Stop stop) 1 (n - 1))) ≡ laid (handBack n (own - 1) m) l
   stops-laid e stop f = rw (e, f) (spread-first Stop (boundOnly m) (bound-sized m z) l 1 (n - 1))

@@ -19,8 +19,8 @@ abbrev pub sentTo : Kind → Message → ℕ → Packet
 sentTo k m j = packet k (withReceiver (suc j) m)
 
 -- a cpa carries all fields; a request no bound
-abbrev pub noBound : Message → Message
-noBound m = record { sender = m .sender; receiver = m .receiver; stamp = m .stamp; values = m .values; cost = m .cost; bound = 0; best = zeros }
+abbrev pub withoutBound : Message → Message
+withoutBound m = record { sender = m .sender; receiver = m .receiver; stamp = m .stamp; values = m .values; cost = m .cost; bound = 0; best = zeros }
 
 -- solutions and stops carry only bound and best
 abbrev pub boundOnly : Message → Message
@@ -49,7 +49,7 @@ solutions n k false m = []
 
 abbrev pub byPlan : ℕ → ℕ → Plan → Bool → Message → List Packet
 byPlan n k Nothing b m = []
-byPlan n k Forward b m = sentTo Cpa m (suc k) ∷ each (sentTo Request (noBound m)) (suc k) (n - suc k)
+byPlan n k Forward b m = sentTo Cpa m (suc k) ∷ each (sentTo Request (withoutBound m)) (suc k) (n - suc k)
 byPlan n k Back b m = handBack n k m ++ solutions n k b m
 byPlan n k Reply b m = packet Estimate m ∷ []
 

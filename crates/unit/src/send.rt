@@ -12,7 +12,7 @@ ghost use lib.ListN.{length};
 ghost use Rattle.base.specs.Limits.{messageSize};
 ghost use Rattle.base.specs.Put.{putAt};
 ghost use Rattle.unit.specs.declared.Plan.the-variants.{Forward, Back};
-ghost use Rattle.unit.specs.Send.{withReceiver, sentTo, noBound, boundOnly, each, handBack, byPlan, packets, encodeAll, laid};
+ghost use Rattle.unit.specs.Send.{withReceiver, sentTo, withoutBound, boundOnly, each, handBack, byPlan, packets, encodeAll, laid};
 ghost use Rattle.unit.specs.Laying.{Room};
 
 // The messages of a plan are laid at the front; how many.
@@ -102,7 +102,7 @@ fn address(m: Message, receiver: u8) -> Message
 
 // A cpa's fields as a request has them.
 fn no_bound(m: Message) -> Message
-    ensures { λ r. ⌜ r ≡ noBound m ⌝ }
+    ensures { λ r. ⌜ r ≡ withoutBound m ⌝ }
 {
     let mut t = m;
     t.bound = 0;

@@ -21,7 +21,7 @@ use Rattle.cabi.specs.declared.LentNetwork.{LentNetwork}
 use Rattle.cabi.specs.declared.LentOutcome.{LentOutcome}
 use Rattle.cabi.specs.declared.LentUnit.{LentUnit}
 use Rattle.cabi.specs.Lent.{unitFrom, outcomeBack, networkFrom, answerBack}
-use Rattle.cabi.specs.Calls.{codeOf, parsedOf, unknownKind, writeByCode, writtenByCode, stepOf, steppedBytes, deliveredTo, deliveredPool}
+use Rattle.cabi.specs.Calls.{codeOf, parsedOf, unknownKind, writeAs, writtenAs, stepOf, steppedBytes, deliveredTo, deliveredPool}
 
 -- what reading comes to
 pub parsed-is : (p q : Reading) (r k : ℕ) → r ≡ refusalOf (p .answer) → k ≡ codeOf (p .answer) → p ≡ q → record { refusal = r; kind = k; message = p .message } ≡ parsedOf q
@@ -29,20 +29,20 @@ parsed-is p q r k e f g = rw (e, f) (ap parsedOf g)
 
 -- what writing by number comes to, where the number is a kind's and where it is none
 module _ (n : ℕ) (sizes : List ℕ) (code : ℕ) (m : Message) where
-  pub write-known : (k : Kind) (room : ℕ) → kindOf code ≡ Good k → writeByCode n sizes code m room ≡ writeRefusal n sizes k m room
-  unfolding writeByCode
+  pub write-known : (k : Kind) (room : ℕ) → kindOf code ≡ Good k → writeAs (kindOf code) n sizes m room ≡ writeRefusal n sizes k m room
+  unfolding writeAs
   write-known k room e = rw e
 
-  pub written-known : (k : Kind) (out : List ℕ) → kindOf code ≡ Good k → writtenByCode n sizes code m out ≡ packetInto n sizes k m out
-  unfolding writtenByCode
+  pub written-known : (k : Kind) (out : List ℕ) → kindOf code ≡ Good k → writtenAs (kindOf code) n sizes m out ≡ packetInto n sizes k m out
+  unfolding writtenAs
   written-known k out e = rw e
 
-  pub write-unknown : (r room : ℕ) → kindOf code ≡ Refused r → writeByCode n sizes code m room ≡ unknownKind n sizes m
-  unfolding writeByCode
+  pub write-unknown : (r room : ℕ) → kindOf code ≡ Refused r → writeAs (kindOf code) n sizes m room ≡ unknownKind n sizes m
+  unfolding writeAs
   write-unknown r room e = rw e
 
-  pub written-unknown : (r : ℕ) (out : List ℕ) → kindOf code ≡ Refused r → writtenByCode n sizes code m out ≡ out
-  unfolding writtenByCode
+  pub written-unknown : (r : ℕ) (out : List ℕ) → kindOf code ≡ Refused r → writtenAs (kindOf code) n sizes m out ≡ out
+  unfolding writtenAs
   written-unknown r out e = rw e
 
 -- a step: what the call does, one thing after the other

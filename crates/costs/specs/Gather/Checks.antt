@@ -20,7 +20,8 @@ use Rattle.costs.specs.Instance.{otherStart}
 use Rattle.costs.specs.Lent.{lentCount}
 use Rattle.costs.specs.Laws.Stream.{accepted-fit}
 use Rattle.costs.specs.Gather.Steps.{SeatIn}
-use Rattle.costs.specs.Gather.{sizesIn, gathered, gatherRefusal, gatherOf, gatherInto}
+use Rattle.costs.specs.Gather.{sizesIn, gatherRefusal, gatherOf, gatherInto}
+use Rattle.costs.specs.Gathered.{gathered}
 use Rattle.costs.specs.Gather.Sizes.{dom-same}
 use Rattle.costs.specs.Gather.Laws.{gathered-length}
 

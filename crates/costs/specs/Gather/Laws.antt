@@ -24,7 +24,8 @@ use Rattle.costs.specs.Lent.Checks.{refusal-costs}
 use Rattle.base.specs.Sums.Laws.{sumTo-le}
 use Rattle.base.specs.Shape.Laws.{value-range}
 use Rattle.costs.specs.Laws.Stream.{in-pair-lt, cost-number-at, pair-costs, accepted-fit, dom-most}
-use Rattle.costs.specs.Gather.{pairBytes, withOther, gatherTo, gathered, gatherRefusal, gatherOf, gatherInto}
+use Rattle.costs.specs.Gather.{gatherRefusal, gatherOf, gatherInto}
+use Rattle.costs.specs.Gathered.{pairBytes, withOther, gatherTo, gathered}
 
 -- ---- which of two units comes first
 

@@ -16,7 +16,8 @@ use Rattle.costs.specs.Instance.{pairStart, domOf}
 use Rattle.base.specs.Sums.Laws.{sumFrom-last}
 use Rattle.costs.specs.Lent.Steps.{dom-past-count}
 use Rattle.costs.specs.Laws.Stream.{pair-costs}
-use Rattle.costs.specs.Gather.{sizesIn, pairBytes, withOther, gatherTo}
+use Rattle.costs.specs.Gather.{sizesIn}
+use Rattle.costs.specs.Gathered.{pairBytes, withOther, gatherTo}
 use Rattle.costs.specs.Gather.Sizes.{dom-same}
 use Rattle.costs.specs.Gather.Laws.{length-pair-bytes, with-own}
 

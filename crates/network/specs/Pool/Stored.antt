@@ -4,7 +4,7 @@
 -- Assumes nothing.
 use Prim.Native.Nat.{ℕ, zero, suc, _+_, _*_, _-_, _≤_, _<_}
 use mathlib.Core.Path.{_≡_, refl, sym, ap, _∙_, subst}
-use mathlib.Core.Bool.{Bool, true, false}
+use mathlib.Core.Bool.{Bool, true, false, cond}
 use mathlib.Core.List.{List, [], _∷_, _++_, append-assoc}
 use mathlib.Core.Option.{none, some, Option·some-injective, Option·some-ne-none}
 use native.Mathlib.Omega.{arith}
@@ -19,7 +19,7 @@ use Rattle.message.specs.EncodeLaws.{length-encode}
 use Rattle.unit.specs.Send.{encodeAll, laid}
 use Rattle.unit.specs.Laying.{encode-append}
 use Rattle.network.specs.Pool.{cellOf, laterCells, poolAfter}
-use Rattle.network.specs.Run.{ifRoom, cells}
+use Rattle.network.specs.Run.{cells}
 
 -- ---- packets one after the other
 
@@ -89,11 +89,11 @@ none-at (x ∷ ms) zero e = absurd (Option·some-ne-none x e)
 none-at (x ∷ ms) (suc c) e = omega (arith, none-at ms c e)
 
 -- whether others fit
-pub no-room : (t : Bool) (ms : List Packet) → ifRoom t ms ≡ none → t ≡ false
+pub no-room : (t : Bool) (ms : List Packet) → cond t (some ms) none ≡ none → t ≡ false
 no-room true ms e = absurd (Option·some-ne-none ms e)
 no-room false ms e = refl
 
-pub some-room : (t : Bool) (ms w : List Packet) → ifRoom t ms ≡ some w → (t ≡ true) × (ms ≡ w)
+pub some-room : (t : Bool) (ms w : List Packet) → cond t (some ms) none ≡ some w → (t ≡ true) × (ms ≡ w)
 some-room true ms w e = (refl, Option·some-injective ms w e)
 some-room false ms w e = absurd (Option·some-ne-none w (sym e))
 

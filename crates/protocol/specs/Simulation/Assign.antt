@@ -22,7 +22,7 @@ use Rattle.unit.specs.declared.Unit.{Unit as UnitState}
 use Rattle.unit.specs.State.{zeros, withBest}
 use Rattle.unit.specs.Step as U
 use Rattle.unit.specs.Step.{takeOff, carried}
-use Rattle.unit.specs.Send.{packets, each, sentTo, noBound, boundOnly, handBack, solutions}
+use Rattle.unit.specs.Send.{packets, each, sentTo, withoutBound, boundOnly, handBack, solutions}
 use Rattle.protocol.specs.Machine as M
 use Rattle.protocol.specs.Machine.{Msg, Agent}
 use Rattle.protocol.specs.Simulation.Stamps.{rank, rank-set, zero-place, digits-set, filled-next, filled-off, take-is-prefix}
@@ -168,11 +168,11 @@ module _ (I : Instance) where
 
     forward-read : (v c : ℕ) (s : UnitState) (u : Agent) → OwnOff I k v s u → u .counter ≤ 30 → c ≡ costOf I (suc (u .own) ∷ u .prefix)
         → ReadAll I (sentTo Cpa (carried (viewOf I k) (U.write (viewOf I k) (suc v) c s)) (suc k)
-        ∷ each (sentTo Request (noBound (carried (viewOf I k) (U.write (viewOf I k) (suc v) c s)))) (suc k) (I .n - suc k))
+        ∷ each (sentTo Request (withoutBound (carried (viewOf I k) (U.write (viewOf I k) (suc v) c s)))) (suc k) (I .n - suc k))
         (M.sendDown (problemOf I) k (M.write u))
     forward-read v c s u b hc ec = (
       (refl, refl, omega arith, st, vs, ec, b .common .bound-is, b .common .best-is),
-      read-each I (sentTo Request (noBound (carried (viewOf I k) (U.write (viewOf I k) (suc v) c s)))) (λ j. M.request j k (M.stamp (M.write u)) (M.values (M.write u))) (suc k) (I .n - suc k)
+      read-each I (sentTo Request (withoutBound (carried (viewOf I k) (U.write (viewOf I k) (suc v) c s)))) (λ j. M.request j k (M.stamp (M.write u)) (M.values (M.write u))) (suc k) (I .n - suc k)
           (λ j lo hi. (refl, refl, refl, st, vs)),
     )
       where

@@ -6,8 +6,8 @@ use native.Mathlib.Omega.{arith}
 use lib.ListN.{length, getD}
 use borrow.Author.Needs.{needs}
 use Rattle.costs.specs.Instance.{instanceOf}
-use Rattle.search.specs.Search.{over, bestFrom}
-use Rattle.search.specs.Steps.{withValue, over-next, over-done, best-of-values, best-full, cost-is-total, size-is-dom, extending-next}
+use Rattle.search.specs.Best.{inTurn, bestFrom}
+use Rattle.search.specs.Steps.{withValue, in-turn-next, in-turn-done, best-of-values, best-full, cost-is-total, size-is-dom, extending-next}
 use borrow.Fn.Kinds.{In}
 use borrow.Fn.PlainCycle.{Measures, is, falls, and}
 use Rattle.search.proofs.extend.Reads as extend
@@ -29,7 +29,7 @@ abbrev extend-below : ℕ → In 2 extend-kinds.ps
 extend-below t = and 2 extend-kinds.ps (falls 2 extend-kinds.ps _<_ μ-extend t) extend.Pre
 
 abbrev extend-Inv-loop : extend-lts.InvT-loop
-extend-Inv-loop stream starts left level cost chosen d best₀ v₀ best v = (1 ≤ v) × (v ≤ d + 1) × (d < 256) × (d ≡ getD stream (1 + level) 0) × (bestFrom (instanceOf stream) left level chosen best₀ ≡ over (withValue (instanceOf stream) left level chosen) v (d + 1 - v) best)
+extend-Inv-loop stream starts left level cost chosen d best₀ v₀ best v = (1 ≤ v) × (v ≤ d + 1) × (d < 256) × (d ≡ getD stream (1 + level) 0) × (bestFrom (instanceOf stream) left level chosen best₀ ≡ inTurn (withValue (instanceOf stream) left level chosen) v (d + 1 - v) best)
 
 abbrev extend-μ-loop : extend-lts.MeasureT-loop
 extend-μ-loop stream starts left level cost chosen d best₀ v₀ best v = d + 1 - v
@@ -108,14 +108,14 @@ extend-loop-again t c =
     let a = c .before .before .before .before .before .before .before .before .args in
     let l = c .before .before .before .loop in
     let d = c .before .before .before .before .byte .result in
-    (omega arith, omega arith, omega arith, l .inv .3, l .inv .4 ∙ over-next (withValue (instanceOf (a .stream .now)) (a .left) (a .level) (a .chosen)) (l .v) d (l .best) (omega arith) ∙ simp (c .extend .ensures))
+    (omega arith, omega arith, omega arith, l .inv .3, l .inv .4 ∙ in-turn-next (withValue (instanceOf (a .stream .now)) (a .left) (a .level) (a .chosen)) (l .v) d (l .best) (omega arith) ∙ simp (c .extend .ensures))
 
 extend-returns-2 : (t : ℕ) → extend-lts.Need-returns-2 (said t) (extend-at t) extend.Post extend-Inv-loop extend-μ-loop
 extend-returns-2 t c =
     let a = c .before .before .before .before .before .before .args in
     let l = c .before .loop in
     let d = c .before .before .byte .result in
-    sym (l .inv .4 ∙ over-done (withValue (instanceOf (a .stream .now)) (a .left) (a .level) (a .chosen)) (l .v) d (l .best) (omega arith))
+    sym (l .inv .4 ∙ in-turn-done (withValue (instanceOf (a .stream .now)) (a .left) (a .level) (a .chosen)) (l .v) d (l .best) (omega arith))
 
 pub +extend-spec : {M : Type 1} → statement M
 +extend-spec = close μ-extend λ t. extend-lts.spec (said t)

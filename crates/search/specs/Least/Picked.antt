@@ -18,7 +18,7 @@ use Rattle.costs.specs.Bounds.{Assignment, total}
 use Rattle.costs.specs.Laws.{Sound}
 use Rattle.costs.specs.Laws.Prefix.{total-limit}
 use Rattle.search.specs.declared.Best.{Best}
-use Rattle.search.specs.Search.{nothing, keep, over, bestFrom, bestOf}
+use Rattle.search.specs.Best.{nothing, keep, inTurn, bestFrom, bestOf}
 use Rattle.search.specs.Least.{Before, LeastFirst, Padded}
 use Rattle.search.specs.Least.Order.{Agree, agree-next, before-not-after, alike-total}
 
@@ -120,14 +120,14 @@ module _ (I : Instance) (k : ℕ) (p : List ℕ) (inside : k < I .n) (room : k <
         let e = with-value v l x in
         record { place = k; inside = inside; same = λ i h. begins v l x i h ∙ sym (y .0 .0 i h); lower = omega (arith, y .1) }
 
-  over-keeps : (f : ℕ → Best → Best) → ((v : ℕ) (a : Best) → 1 ≤ v → v ≤ I .dom k → Picked I (Extends I (suc k) (set p k v)) a (f v a))
-      → (d v : ℕ) (b : Best) → 1 ≤ v → v + d ≤ suc (I .dom k) → Picked I (Among I k p v d) b (over f v d b)
-  unfolding over
-  over-keeps f each zero v b v1 vd = picked-none I (Among I k p v 0) b (λ m y. omega (arith, y .1, y .2))
-  over-keeps f each (suc d) v b v1 vd =
+  in-turn-keeps : (f : ℕ → Best → Best) → ((v : ℕ) (a : Best) → 1 ≤ v → v ≤ I .dom k → Picked I (Extends I (suc k) (set p k v)) a (f v a))
+      → (d v : ℕ) (b : Best) → 1 ≤ v → v + d ≤ suc (I .dom k) → Picked I (Among I k p v d) b (inTurn f v d b)
+  unfolding inTurn
+  in-turn-keeps f each zero v b v1 vd = picked-none I (Among I k p v 0) b (λ m y. omega (arith, y .1, y .2))
+  in-turn-keeps f each (suc d) v b v1 vd =
       let dom : v ≤ I .dom k = omega arith in
-      picked-same I (λ m. Extends I (suc k) (set p k v) m ⊎ Among I k p (suc v) d m) (Among I k p v (suc d)) b (over f (suc v) d (f v b)) (joins v d v1 dom) (splits v d v1 dom)
-      (picked-then I (Extends I (suc k) (set p k v)) (Among I k p (suc v) d) b (f v b) (over f (suc v) d (f v b)) (ascending v d v1 dom) (each v b v1 dom) (over-keeps f each d (suc v) (f v b) (omega arith) (omega arith)))
+      picked-same I (λ m. Extends I (suc k) (set p k v) m ⊎ Among I k p (suc v) d m) (Among I k p v (suc d)) b (inTurn f (suc v) d (f v b)) (joins v d v1 dom) (splits v d v1 dom)
+      (picked-then I (Extends I (suc k) (set p k v)) (Among I k p (suc v) d) b (f v b) (inTurn f (suc v) d (f v b)) (ascending v d v1 dom) (each v b v1 dom) (in-turn-keeps f each d (suc v) (f v b) (omega arith) (omega arith)))
 
 -- ---- the search keeps the first least of them
 
@@ -155,9 +155,9 @@ module _ (I : Instance) where
   unfolding bestFrom
   best-picks zero k p b e room = keep-full k p b (omega arith)
   best-picks (suc left) k p b e room =
-      picked-same I (Among I k p 1 (I .dom k)) (Extends I k p) b (over (λ (v : ℕ) (a : Best). bestFrom I left (suc k) (set p k v) a) 1 (I .dom k) b)
+      picked-same I (Among I k p 1 (I .dom k)) (Extends I k p) b (inTurn (λ (v : ℕ) (a : Best). bestFrom I left (suc k) (set p k v) a) 1 (I .dom k) b)
       (λ m y. y .0) (λ m x. let h = x .1 k (omega arith) (omega arith) in (x, h .0, omega arith))
-      (over-keeps I k p (omega arith) (omega arith) (λ (v : ℕ) (a : Best). bestFrom I left (suc k) (set p k v) a)
+      (in-turn-keeps I k p (omega arith) (omega arith) (λ (v : ℕ) (a : Best). bestFrom I left (suc k) (set p k v) a)
       (λ v a v1 vd. best-picks left (suc k) (set p k v) a (omega arith) (rw (length-set p k v) room)) (I .dom k) 1 b (omega arith) (omega arith))
 
 -- ---- places past the units
@@ -172,10 +172,10 @@ padded-none n = record { places = refl; zeros = λ i h. go i (ltb i 16) refl }
     go i true e = getD-replicate 16 i 0 0 (ltb-true i 16 e)
     go i false e = List·getD-eq-default (replicate 16 0) 0 (ltb-false i 16 e)
 
-over-padded : (n : ℕ) (f : ℕ → Best → Best) → ((v : ℕ) (a : Best) → Padded n (a .values) → Padded n (f v a .values)) → (d v : ℕ) (b : Best) → Padded n (b .values) → Padded n (over f v d b .values)
-unfolding over
-over-padded n f each zero v b p = p
-over-padded n f each (suc d) v b p = over-padded n f each d (suc v) (f v b) (each v b p)
+in-turn-padded : (n : ℕ) (f : ℕ → Best → Best) → ((v : ℕ) (a : Best) → Padded n (a .values) → Padded n (f v a .values)) → (d v : ℕ) (b : Best) → Padded n (b .values) → Padded n (inTurn f v d b .values)
+unfolding inTurn
+in-turn-padded n f each zero v b p = p
+in-turn-padded n f each (suc d) v b p = in-turn-padded n f each d (suc v) (f v b) (each v b p)
 
 module _ (I : Instance) where
   keep-padded : (b : Best) (l : List ℕ) → Padded (I .n) (b .values) → Padded (I .n) l → Padded (I .n) (keep b (total I l) l .values)
@@ -189,7 +189,7 @@ module _ (I : Instance) where
   unfolding bestFrom
   best-padded zero k l b e q p = keep-padded b l p q
   best-padded (suc left) k l b e q p =
-      over-padded (I .n) (λ (v : ℕ) (a : Best). bestFrom I left (suc k) (set l k v) a)
+      in-turn-padded (I .n) (λ (v : ℕ) (a : Best). bestFrom I left (suc k) (set l k v) a)
       (λ v a r. best-padded left (suc k) (set l k v) a (omega arith) (padded-set (I .n) k v l (omega arith) q) r) (I .dom k) 1 b p
 
 -- ---- the whole search

@@ -3,7 +3,8 @@
 use mathlib.Core.Path.{sym, _∙_}
 use borrow.Author.Needs.{needs}
 use lib.ListN.{length}
-use Rattle.table.specs.File.{fileOf, storeRefusal, storeOf, storeInto}
+use Rattle.table.specs.File.{storeRefusal, storeOf, storeInto}
+use Rattle.table.specs.Written.{fileOf}
 use Rattle.table.specs.FileLaws.{write-most, write-room, written-length, file-in-front, gives-refused, gives-accepted}
 use Rattle.table.proofs.write.Statement.{statement}
 use Rattle.table.proofs.write.Tie as tie

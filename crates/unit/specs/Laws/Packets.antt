@@ -17,7 +17,7 @@ use Rattle.message.specs.Message.{Packet, Sized, filledTo, boundGood, noneOrBou
 use Rattle.message.specs.Laws.{blank-filled, no-bound-by, address-by, formed-by}
 use Rattle.unit.specs.declared.Plan.the-variants.{Forward, Back, Reply}
 use Rattle.unit.specs.State.{zeros}
-use Rattle.unit.specs.Send.{packet, sentTo, noBound, boundOnly, each, others, handBack, solutions, byPlan}
+use Rattle.unit.specs.Send.{packet, sentTo, withoutBound, boundOnly, each, others, handBack, solutions, byPlan}
 
 -- ---- every packet
 
@@ -68,12 +68,12 @@ module _ (n : ℕ) (sizes : List ℕ) (k c : ℕ) (m : Message) (k<n : k < n) (h
       }
 
   -- a request to a later unit
-  request-sendable : c ≡ suc k → (j : ℕ) → k < j → j < n → Sendable n sizes (sentTo Request (noBound m) j)
+  request-sendable : c ≡ suc k → (j : ℕ) → k < j → j < n → Sendable n sizes (sentTo Request (withoutBound m) j)
   request-sendable e j a b =
       record {
-        address = address-by n (sentTo Request (noBound m) j .message) (omega (arith, h .sender)) (omega (arith, h .sender)) (omega arith) (omega arith);
+        address = address-by n (sentTo Request (withoutBound m) j .message) (omega (arith, h .sender)) (omega (arith, h .sender)) (omega arith) (omega arith);
         form =
-            formed-by n sizes Request (sentTo Request (noBound m) j .message)
+            formed-by n sizes Request (sentTo Request (withoutBound m) j .message)
             record {
               direction = lt-ltb (m .sender) (suc j) (omega (arith, h .sender));
               stamps = rw (h .sender, ← e) (h .stamp);
@@ -98,9 +98,9 @@ module _ (n : ℕ) (sizes : List ℕ) (k c : ℕ) (m : Message) (k<n : k < n) (h
 
   pub forward-sendable : c ≡ suc k → suc k < n → (b : Bool) → Every (Sendable n sizes) (byPlan n k Forward b m)
   forward-sendable e l b =
-      every-cons (Sendable n sizes) (sentTo Cpa m (suc k)) (each (sentTo Request (noBound m)) (suc k) (n - suc k))
+      every-cons (Sendable n sizes) (sentTo Cpa m (suc k)) (each (sentTo Request (withoutBound m)) (suc k) (n - suc k))
       (cpa-sendable (suc k) l (simp (eq-eqb (suc (suc k)) (suc k + 1) (omega arith))) (rw (lt-ltb (suc k) (suc (suc k)) (omega arith)) (omega arith)))
-      (every-each (Sendable n sizes) (sentTo Request (noBound m)) (suc k) (n - suc k) (λ j lo hi. request-sendable e j (omega arith) (omega arith)))
+      (every-each (Sendable n sizes) (sentTo Request (withoutBound m)) (suc k) (n - suc k) (λ j lo hi. request-sendable e j (omega arith) (omega arith)))
 
   -- ---- back
 
@@ -136,7 +136,7 @@ reply-sendable n sizes k m b w = every-cons (Sendable n sizes) (packet Estimate 
 
 module _ (n k : ℕ) (m : Message) (k<n : k < n) where
   pub forward-few : (b : Bool) → length (byPlan n k Forward b m) ≤ n
-  forward-few b = omega (arith, each-length (sentTo Request (noBound m)) (suc k) (n - suc k))
+  forward-few b = omega (arith, each-length (sentTo Request (withoutBound m)) (suc k) (n - suc k))
 
   others-few : (g : ℕ → Packet) → length (others n k g) ≡ n - 1
   others-few g = rw (length-append (each g 0 k) (each g (suc k) (n - suc k)), each-length g 0 k, each-length g (suc k) (n - suc k)) (omega arith)

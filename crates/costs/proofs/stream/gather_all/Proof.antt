@@ -8,7 +8,7 @@ use lib.ListN.{length, drop, length-append}
 use Rattle.base.specs.Put.{putAt}
 use Rattle.base.specs.Put.Laws.{put-behind}
 use Rattle.table.specs.Stream.{unitsOf}
-use Rattle.costs.specs.Gather.{gatherTo, gathered, withOther}
+use Rattle.costs.specs.Gathered.{gatherTo, gathered, withOther}
 use Rattle.costs.specs.Gather.Laws.{gather-room}
 use Rattle.costs.specs.Gather.Steps.{gather-next, gather-none}
 use borrow.Author.Needs.{needs}

@@ -9,7 +9,7 @@ use lib.ListN.{length}
 use Rattle.base.specs.Shape.{isValue}
 use Rattle.base.specs.Shape.Laws.{value-range}
 use Rattle.table.specs.Stream.{unitsOf, streamRefusal, Accepted}
-use Rattle.costs.specs.Gather.{gathered}
+use Rattle.costs.specs.Gathered.{gathered}
 use Rattle.costs.specs.Gather.Checks.{refused-5, refused-10, refused-stream, refused-13, refused-none, gathered-count}
 use Rattle.costs.proofs.stream.gather_refusal.Statement.{statement}
 use Rattle.costs.proofs.stream.gather_refusal.Tie as tie

@@ -3,7 +3,7 @@
 use native.Mathlib.Omega.{arith}
 use Prim.Native.Nat.{pred}
 use mathlib.Core.Path.{_≡_, _∙_}
-use Rattle.costs.specs.Gather.{pairBytes, withOther}
+use Rattle.costs.specs.Gathered.{pairBytes, withOther}
 use Rattle.costs.specs.Gather.Laws.{with-before, with-after}
 use Rattle.costs.specs.Gather.Steps.{put-own}
 use borrow.Author.Needs.{needs}

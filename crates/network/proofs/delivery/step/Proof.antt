@@ -5,7 +5,7 @@ use mathlib.Core.Path.{_≡_}
 use native.Mathlib.Omega.{arith}
 use borrow.Author.Needs.{needs}
 use lib.ListN.{take, drop, replicate, length-replicate}
-use Rattle.costs.specs.Gather.{gathered}
+use Rattle.costs.specs.Gathered.{gathered}
 use Rattle.unit.specs.Laws.Range.{SizedUnit}
 use Rattle.network.specs.Code.{lent-count, lent-front, step-told}
 use Rattle.network.proofs.delivery.step.Statement.{statement}

@@ -1,0 +1,23 @@
+-- The bytes of the costs that touch one unit, 01: "by the other unit ascending, each pair in the stream's order". Nobody has to believe it:
+-- that the unit sees in them what the stream says is `gathered-view` of Gather/Laws.
+-- Assumes nothing.
+use Rattle.base.specs.Library.{ℕ, zero, suc, _+_, _*_, pred, cond, List, [], _++_, ltb, eqb, take, drop}
+use Rattle.table.specs.Stream.{unitsOf}
+use Rattle.costs.specs.Instance.{domOf, pairStart}
+
+-- the bytes of the costs of the pair (i, j), i before j
+abbrev pub pairBytes : List ℕ → ℕ → ℕ → List ℕ
+pairBytes s i j = take (2 * (domOf s i * domOf s j)) (drop (1 + unitsOf s + 2 * pairStart (domOf s) (unitsOf s) i j) s)
+
+-- the bytes of the costs of the units at places k and j
+abbrev pub withOther : List ℕ → ℕ → ℕ → List ℕ
+withOther s k j = cond (eqb j k) [] (cond (ltb j k) (pairBytes s j k) (pairBytes s k j))
+
+-- those of place k with the first m places
+unfoldable pub gatherTo : List ℕ → ℕ → ℕ → List ℕ
+gatherTo s k zero = []
+gatherTo s k (suc m) = gatherTo s k m ++ withOther s k m
+
+-- the bytes of the costs that touch unit `own`, 1 to n
+unfoldable pub gathered : List ℕ → ℕ → List ℕ
+gathered s own = gatherTo s (pred own) (unitsOf s)
