@@ -1,5 +1,4 @@
--- A test that holds of every number below one, index by index.
--- Assumes nothing.
+-- A test that holds of every number below one, index by index. Assumes nothing.
 use Rattle.base.specs.Library.{ℕ, zero, suc, Bool, true, _&&_}
 pub mod Laws
 

@@ -1,5 +1,4 @@
--- The symbols of the libraries that definitions are written with, passed on as they are: each means here what its library says.
--- Assumes nothing.
+-- The symbols of the libraries that definitions are written with, passed on as they are: each means here what its library says. Assumes nothing.
 pub use Prim.Native.Nat.{ℕ, zero, suc, pred, min, _+_, _*_, _-_, _/_, _%_, _^_, _≤_, _<_}
 pub use mathlib.Core.Path.{_≡_}
 pub use mathlib.Core.Logic.{_⊎_}

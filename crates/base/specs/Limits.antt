@@ -1,5 +1,4 @@
--- The numbers of document 01 that more than one place goes by, each here alone; src/lib.rt has the same for code.
--- Assumes nothing.
+-- The numbers of document 01 that more than one place goes by, each here alone; src/lib.rt has the same for code. Assumes nothing.
 use Rattle.base.specs.Library.{ℕ, _*_, _-_}
 
 -- ---- units and costs

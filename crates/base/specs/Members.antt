@@ -1,6 +1,5 @@
 -- Membership in a list, and what holds of every element. Membership is the library's `List·Memᴰ`, a place in the list and not merely its
--- existence, under short names.
--- Assumes nothing.
+-- existence, under short names. Assumes nothing.
 use Rattle.base.specs.Library.{List}
 pub use mathlib.Core.List.{List·Memᴰ as In, List·Memᴰ·head as here, List·Memᴰ·tail as there}
 pub mod Laws

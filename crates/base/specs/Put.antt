@@ -1,5 +1,4 @@
--- Bytes written into a lent buffer, the rest as it was: at a place, or at the front; and that writes one behind the other join.
--- Assumes nothing.
+-- Bytes written into a lent buffer, the rest as it was: at a place, or at the front; and that writes one behind the other join. Assumes nothing.
 use Rattle.base.specs.Library.{ℕ, _+_, cond, List, _++_, leb, length, take, drop}
 pub mod Laws
 

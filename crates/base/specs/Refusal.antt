@@ -1,5 +1,4 @@
--- Refusals by number, 0 for none, and the first of two in 01's order.
--- Assumes nothing.
+-- Refusals by number, 0 for none, and the first of two in 01's order. Assumes nothing.
 use Rattle.base.specs.Library.{ℕ, zero, suc}
 pub mod Laws
 

@@ -1,5 +1,4 @@
--- Finite sums and least values over numbers. Their laws are in Sums/Laws.
--- Assumes nothing.
+-- Finite sums and least values over numbers. Their laws are in Sums/Laws. Assumes nothing.
 use Rattle.base.specs.Library.{ℕ, zero, suc, _+_, min}
 pub mod Laws
 

@@ -1,5 +1,4 @@
--- The answers of the calls of document 01 in the structs that C is handed, kinds by their numbers, and step and delivery on what C lends.
--- Assumes nothing.
+-- The answers of the calls of document 01 in the structs that C is handed, kinds by their numbers, and step and delivery on what C lends. Assumes nothing.
 use Rattle.base.specs.Library.{ℕ, pred, cond, not, List, length}
 use Rattle.base.specs.Shape.{shapeGood}
 use Rattle.message.specs.{declared.Message.Message, declared.Parsed.Parsed as Reading, declared.Read.Read, Decode.writeRefusal, Decode.packetInto}

@@ -1,5 +1,4 @@
--- What a unit works out from its view: the cost of a value with a prefix, h, the estimate; and the total of an assignment.
--- Assumes nothing.
+-- What a unit works out from its view: the cost of a value with a prefix, h, the estimate; and the total of an assignment. Assumes nothing.
 use Rattle.base.specs.Library.{ℕ, zero, suc, _+_, _*_, _-_, _≤_, _<_, List, getD}
 use Rattle.base.specs.Sums.{sumFrom, sumTo, least}
 use Rattle.costs.specs.Instance.{Instance, View}

@@ -1,5 +1,4 @@
--- The costs that touch one unit, gathered out of a stream: what is lent with a unit's step. Their bytes are in Gathered.
--- Assumes nothing.
+-- The costs that touch one unit, gathered out of a stream: what is lent with a unit's step. Their bytes are in Gathered. Assumes nothing.
 use Rattle.base.specs.Library.{ℕ, cond, List, _++_, ltb, eqb, length, take, drop, replicate}
 use Rattle.base.specs.{declared.Length.Length, Limits.places, Refusal.orElse, Shape.isValue}
 use Rattle.table.specs.Stream.{unitsOf, sizesOf, streamRefusal}

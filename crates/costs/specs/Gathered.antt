@@ -1,6 +1,5 @@
 -- The bytes of the costs that touch one unit, 01: "by the other unit ascending, each pair in the stream's order". Nobody has to believe it:
--- that the unit sees in them what the stream says is `gathered-view` of Gather/Laws.
--- Assumes nothing.
+-- that the unit sees in them what the stream says is `gathered-view` of Gather/Laws. Assumes nothing.
 use Rattle.base.specs.Library.{ℕ, zero, suc, _+_, _*_, pred, cond, List, [], _++_, ltb, eqb, take, drop}
 use Rattle.table.specs.Stream.{unitsOf}
 use Rattle.costs.specs.Instance.{domOf, pairStart}

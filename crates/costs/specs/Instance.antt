@@ -1,6 +1,5 @@
 -- The instance that a table describes, what one unit sees of it, and where the bytes of a pair cost stand.
--- Units count from 0 here: place k is document 01's unit k + 1. Values count from 1, as in document 01.
--- Assumes nothing.
+-- Units count from 0 here: place k is document 01's unit k + 1. Values count from 1, as in document 01. Assumes nothing.
 use Rattle.base.specs.Library.{ℕ, suc, _+_, _*_, _-_, pred, cond, not, _&&_, List, ltb, eqb, getD, take, drop}
 use Rattle.base.specs.{Bytes.u16At, Shape.isValue, Sums.sumFrom, Sums.sumTo}
 use Rattle.table.specs.Stream.{unitsOf}

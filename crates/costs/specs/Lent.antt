@@ -1,10 +1,5 @@
--- What is checked of the costs lent with one unit.
--- Assumes nothing.
-use Prim.Native.Nat.{ℕ, _*_, pred}
-use mathlib.Core.Bool.{cond}
-use mathlib.Core.List.{List}
-use lib.Dec.{eqb}
-use lib.ListN.{length}
+-- What is checked of the costs lent with one unit. Assumes nothing.
+use Rattle.base.specs.Library.{ℕ, _*_, pred, cond, List, eqb, length}
 use Rattle.table.specs.Stream.{costsGood}
 use Rattle.costs.specs.Instance.{domIn, otherStart}
 pub mod Parts

@@ -1,6 +1,5 @@
 -- A message read from bytes and written into a lent buffer, with the refusals in 01's order. Document 01, 'Refusals':
--- "Reading a message: 5, 8, 10, 9. Writing one: 5, 10, 9, 13."
--- Assumes nothing.
+-- "Reading a message: 5, 8, 10, 9. Writing one: 5, 10, 9, 13." Assumes nothing.
 use Rattle.base.specs.Library.{ℕ, Bool, cond, not, _&&_, List, eqb, length, take, drop, getD}
 use Rattle.base.specs.{Bytes.u16At, Bytes.u32At, Limits.places, Limits.messageSize, Put.putAt, Shape.shapeGood}
 use Rattle.checksum.specs.Sum.{sumOf}

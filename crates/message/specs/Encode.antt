@@ -1,5 +1,4 @@
--- A message as its 64 bytes, put into a lent buffer. Document 01, 'Radio message, 64 bytes'.
--- Assumes nothing.
+-- A message as its 64 bytes, put into a lent buffer. Document 01, 'Radio message, 64 bytes'. Assumes nothing.
 use Rattle.base.specs.Library.{ℕ, _+_, cond, List, [], _∷_, _++_, leb, length}
 use Rattle.base.specs.{Put.putAt, Limits.messageSize, Bytes.le16, Bytes.le32}
 use Rattle.checksum.specs.Sum.{sumOf}

@@ -18,7 +18,8 @@ use Rattle.base.specs.Put.Laws.{put-next}
 use Rattle.message.specs.declared.Kind.{Kind}
 use Rattle.message.specs.declared.Message.{Message}
 use Rattle.message.specs.Layout.{stampByte, valuesByte, costByte, boundByte, bestByte, checkByte}
-use Rattle.message.specs.Message.{kindCode, Sized}
+use Rattle.message.specs.Message.{kindCode}
+use Rattle.message.specs.Sized.{Sized}
 use Rattle.message.specs.Encode.{body, encode, putRefusal, putInto}
 
 pub length-body : (k : Kind) (m : Message) → Sized m → length (body k m) ≡ checkByte

@@ -1,12 +1,12 @@
 -- What a message holds, and which fields go together. Document 01, 'Radio message, 64 bytes'; the limits are base's.
 --     kindCode, kindOf, refusalOf       01's number for each case of the two enums
---     Packet, noMessage, Sized          a message with its kind; one whose fields are all zero; what the types of the code say
+--     Packet, noMessage                 a message with its kind; one whose fields are all zero
 --     filledTo                          which places of a stamp or an assignment are filled
 --     boundGood, noneOrBound, noBound   a bound with its best assignment
 --     carriedOf, boundFits, directionGood     what each kind carries, from whom to whom
 --     addressGood, wellFormed           01's checks 10 and 9 on the fields
 -- Assumes nothing.
-use Rattle.base.specs.Library.{ℕ, _+_, _-_, _^_, _<_, _≡_, Bool, cond, not, _&&_, _||_, List, ltb, leb, eqb, length, getD, replicate}
+use Rattle.base.specs.Library.{ℕ, _+_, _-_, Bool, cond, not, _&&_, _||_, List, ltb, leb, eqb, getD, replicate}
 use Rattle.base.specs.{Limits.places, Limits.totalLimit, Limits.estimateLimit, Limits.prefixLimit, Limits.NONE, Shape.isValue, Every.every}
 use Rattle.message.specs.{declared.Kind.Kind, declared.Read.Read, declared.Read.the-variants.Good, declared.Read.the-variants.Refused, declared.Message.Message, declared.Carried.Carried}
 use Rattle.message.specs.declared.Kind.the-variants.{Cpa, Request, Estimate, Solution, Stop}
@@ -36,14 +36,6 @@ pub record Packet : Type 0 where
 -- the message beside a refusal
 abbrev pub noMessage : Message
 noMessage = record { sender = 0; receiver = 0; stamp = replicate places 0; values = replicate places 0; cost = 0; bound = 0; best = replicate places 0 }
-
--- what the types of the code say of a message
-pub record Sized (m : Message) : Type 0 where
-  pub stamp : length (m .stamp) ≡ places
-  pub values : length (m .values) ≡ places
-  pub best : length (m .best) ≡ places
-  pub cost : m .cost < 2 ^ 32
-  pub bound : m .bound < 2 ^ 32
 
 -- 01: "Filled stamp and value bytes are 1 to d(k), others 0": place j of l, where the first k are filled
 abbrev pub placeAt : ℕ → List ℕ → List ℕ → ℕ → Bool
@@ -90,17 +82,13 @@ boundFits n sizes Estimate bound best = noBound sizes bound best
 boundFits n sizes Solution bound best = boundGood n sizes bound best
 boundFits n sizes Stop bound best = noneOrBound n sizes bound best
 
--- 01: "receiver is sender + 1 (going down) or sender - 1 (going back)"
-abbrev pub beside : ℕ → ℕ → Bool
-beside s r = eqb r (s + 1) || eqb s (r + 1)
-
 -- 01: "from unit n", "from unit 1", "to another unit"
 abbrev pub fromTo : ℕ → ℕ → ℕ → Bool
 fromTo home s r = eqb s home && not (eqb r s)
 
--- who may send to whom; 01: "Copy: sender < receiver", "Estimate: sender > receiver"
+-- who may send to whom; 01: "receiver is sender + 1 (going down) or sender - 1 (going back)", "Copy: sender < receiver", "Estimate: sender > receiver"
 abbrev pub directionGood : ℕ → Kind → ℕ → ℕ → Bool
-directionGood n Cpa s r = beside s r
+directionGood n Cpa s r = eqb r (s + 1) || eqb s (r + 1)
 directionGood n Request s r = ltb s r
 directionGood n Estimate s r = ltb r s
 directionGood n Solution s r = fromTo n s r

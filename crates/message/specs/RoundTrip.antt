@@ -32,7 +32,8 @@ use Rattle.message.specs.declared.Read.the-variants.{Good, Refused}
 use Rattle.message.specs.declared.Message.{Message}
 use Rattle.message.specs.declared.Parsed.{Parsed}
 use Rattle.message.specs.Layout.{stampByte, valuesByte, costByte, boundByte, bestByte, zeroByte, checkByte}
-use Rattle.message.specs.Message.{kindCode, kindOf, noMessage, Sized, addressGood, wellFormed}
+use Rattle.message.specs.Message.{kindCode, kindOf, noMessage, addressGood, wellFormed}
+use Rattle.message.specs.Sized.{Sized}
 use Rattle.message.specs.Encode.{body, encode, putRefusal}
 use Rattle.message.specs.EncodeLaws.{head, length-body, length-encode}
 use Rattle.message.specs.Decode.{messageIn, checkGood, restZero, addressedTo, parseKind, parseFor, parseOf, refused, writeRefusal, packetInto}

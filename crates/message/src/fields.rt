@@ -4,11 +4,12 @@ use crate::Carried;
 use crate::Kind;
 use crate::Message;
 ghost use mathlib.Core.Path.{_≡_};
-ghost use mathlib.Core.Bool.{cond};
+ghost use Prim.Native.Nat.{_+_};
+ghost use mathlib.Core.Bool.{cond, _||_};
 ghost use lib.Dec.{eqb};
 ghost use Rattle.base.specs.Limits.{prefixLimit};
 ghost use Rattle.base.specs.Shape.{isValue};
-ghost use Rattle.message.specs.Message.{filledTo, boundGood, noneOrBound, noBound, cpaCount, prefixOf, carriedOf, boundFits, beside, fromTo, directionGood, isUnit, addressGood, wellFormed};
+ghost use Rattle.message.specs.Message.{filledTo, boundGood, noneOrBound, noBound, cpaCount, prefixOf, carriedOf, boundFits, fromTo, directionGood, isUnit, addressGood, wellFormed};
 
 // Check 10: sender and receiver are units.
 pub fn address_good(n: u8, m: Message) -> bool
@@ -65,7 +66,7 @@ fn direction_good(n: u8, kind: Kind, sender: u8, receiver: u8) -> bool
 
 // One is the unit after the other.
 fn beside(sender: u8, receiver: u8) -> bool
-    ensures { λ r. ⌜ r ≡ beside sender receiver ⌝ }
+    ensures { λ r. ⌜ r ≡ (eqb receiver (sender + 1) || eqb sender (receiver + 1)) ⌝ }
 {
     let s = sender as u32;
     let r = receiver as u32;

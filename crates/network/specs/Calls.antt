@@ -1,7 +1,6 @@
 -- The calls on bytes: making a network and a delivery, refusals in 01's order.
--- 01: "Making .. a shed: 5, 6, 7, 13." "Delivery: 13, 5 (n, sizes), 6, 7, 5 (any unit's state, pool count), 12, 15, the step's from 8 on, 14."
--- Assumes nothing.
-use Rattle.base.specs.Library.{ℕ, zero, suc, _+_, _-_, pred, Bool, true, false, cond, _&&_, List, ltb, leb, length, getD, set, replicate}
+-- 01: "Making .. a shed: 5, 6, 7, 13." "Delivery: 13, 5 (n, sizes), 6, 7, 5 (any unit's state, pool count), 12, 15, the step's from 8 on, 14." Assumes nothing.
+use Rattle.base.specs.Library.{ℕ, zero, suc, _+_, _-_, pred, Bool, cond, _&&_, List, ltb, leb, length, getD, set, replicate}
 use Rattle.base.specs.{Limits.poolSize, Limits.poolCells, Refusal.orElse, Every.every}
 use Rattle.table.specs.Stream.{unitsOf, streamRefusal}
 use Rattle.costs.specs.{Instance.viewOf, Instance.instanceOf, Gather.sizesIn}
@@ -78,16 +77,13 @@ coreAfter core own u records = record { units = set (core .units) (pred own) u; 
 abbrev pub stepped : Network → ℕ → Unit → ℕ → ℕ → Network
 stepped net own u sent records = record { core = coreAfter (net .core) own u records; used = net .used - 1 + sent }
 
-abbrev pub ifFits : Bool → Network → List ℕ → Result → Result
-ifFits true net pool r = r
-ifFits false net pool r = refusedDelivery net pool 14
-
 abbrev pub onOut : Network → List ℕ → ℕ → ℕ → ℕ → Decision → Result
 onOut net pool cell n own (refused r) = refusedDelivery net pool r
 onOut net pool cell n own (accepted u s ws) =
     let ps = packets n (pred own) s in
-    ifFits (leb (net .used - 1 + length ps) poolCells) net pool
+    cond (leb (net .used - 1 + length ps) poolCells)
     (record { answer = record { refusal = 0; network = stepped net own u (length ps) (length ws) }; pool = poolAfter (net .used) cell ps pool })
+    (refusedDelivery net pool 14)
 
 abbrev pub deliverBy : ℕ → Network → List ℕ → List ℕ → ℕ → Result
 deliverBy zero net stream pool cell =

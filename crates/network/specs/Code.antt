@@ -50,9 +50,10 @@ use Rattle.unit.specs.Laws.Calls.{Passed}
 use Rattle.network.specs.declared.Network.{Network}
 use Rattle.network.specs.declared.Answer.{Answer}
 use Rattle.network.specs.Count.{zeroCount, plus}
-use Rattle.network.specs.Pool.{cellOf, closeGap, poolAfter}
+use Rattle.network.specs.Pool.{cellOf, poolAfter}
+use Rattle.network.specs.Pool.Laws.{closeGap}
 use Rattle.network.specs.Pool.Laws.{sent-front, pool-stored}
-use Rattle.network.specs.Calls.{Result, noNetwork, made, makeRefusal, makeOf, networkInRange, networkRefusal, deliverRefusal, receiverOf, stepFrom8, stepped, ifFits, onOut, deliverBy, deliverOf}
+use Rattle.network.specs.Calls.{Result, noNetwork, made, makeRefusal, makeOf, networkInRange, networkRefusal, deliverRefusal, receiverOf, stepFrom8, stepped, refusedDelivery, onOut, deliverBy, deliverOf}
 use Rattle.network.specs.Pool.Stored.{encode-all-length}
 
 -- ---- the checks
@@ -282,8 +283,8 @@ module _ (net : Network) (s pool : List ℕ) (cell own : ℕ) (was : UnitState) 
           }
 
           by-room : (t : Bool)
-              → (cond t (record { refusal = 0; network = stepped net own u (length (packets (unitsOf s) (pred own) m)) (length ws) }) (record { refusal = 14; network = net }) ≡ ifFits t net pool next .answer)
-              × (cond t (paste (closeGap pool (messageSize * cell) (messageSize * net .used)) (messageSize * (net .used - 1)) out (messageSize * length (packets (unitsOf s) (pred own) m))) pool ≡ ifFits t net pool next .pool)
+              → (cond t (record { refusal = 0; network = stepped net own u (length (packets (unitsOf s) (pred own) m)) (length ws) }) (record { refusal = 14; network = net }) ≡ cond t next (refusedDelivery net pool 14) .answer)
+              × (cond t (paste (closeGap pool (messageSize * cell) (messageSize * net .used)) (messageSize * (net .used - 1)) out (messageSize * length (packets (unitsOf s) (pred own) m))) pool ≡ cond t next (refusedDelivery net pool 14) .pool)
           by-room true = (refl, pool-stored pool (net .used) cell inside fits (packets (unitsOf s) (pred own) m) out bytes)
           by-room false = (refl, refl)
 

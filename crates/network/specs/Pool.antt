@@ -1,5 +1,4 @@
--- The pool's bytes, 01: "The pool is 1,024 cells of 64 bytes."
--- Assumes nothing.
+-- The pool's bytes, 01: "The pool is 1,024 cells of 64 bytes." Assumes nothing.
 use Rattle.base.specs.Library.{ℕ, suc, _+_, _*_, _-_, List, _++_, length, take, drop}
 use Rattle.base.specs.Limits.{messageSize}
 use Rattle.message.specs.Message.{Packet}
@@ -18,7 +17,3 @@ laterCells pool used cell = take (messageSize * (used - suc cell)) (drop (messag
 -- 01: "closes the gap by moving later cells down one, and adds what the step sends at the end; bytes past the last cell then in use stay"
 unfoldable pub poolAfter : ℕ → ℕ → List Packet → List ℕ → List ℕ
 poolAfter used cell ps pool = take (messageSize * cell) pool ++ laterCells pool used cell ++ encodeAll ps ++ drop (messageSize * (used - 1 + length ps)) pool
-
--- the 64 bytes at `at` taken out: what lies up to `end` moves down, and the rest stays
-abbrev pub closeGap : List ℕ → ℕ → ℕ → List ℕ
-closeGap pool at end = take at pool ++ take (end - (at + messageSize)) (drop (at + messageSize) pool) ++ drop (end - messageSize) pool

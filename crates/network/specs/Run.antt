@@ -71,10 +71,6 @@ module _ {W : Type 0} (L : Pool W) where
       let ps = packets (I .n) 0 s in
       record { units = set (replicate 16 fresh) 0 u; waiting = L .start ps; written = ws; sent = ps; handed = [] }
 
-  -- 01: "Making unit 1 assigns"
-  abbrev pub beginIn : Instance → HistoryOf W
-  beginIn I = begunWith I (assign (viewOf I 0) fresh)
-
   -- 01, refusal 15: "no message at that cell"
   abbrev pub takeCell : Instance → HistoryOf W → ℕ → Option Packet → DeliveryOf W
   takeCell I H cell none = refusedBy 15
@@ -109,8 +105,9 @@ History = HistoryOf (List Packet)
 abbrev pub Delivery : Type 0
 Delivery = DeliveryOf (List Packet)
 
+-- 01: "Making unit 1 assigns"
 unfoldable pub begin : Instance → History
-begin I = beginIn cells I
+begin I = begunWith cells I (assign (viewOf I 0) fresh)
 
 unfoldable pub handOver : Instance → History → ℕ → Delivery
 handOver I H cell = deliverIn cells I H cell

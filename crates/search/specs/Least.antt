@@ -1,6 +1,5 @@
 -- Which answer of the search is meant, without a word of the search: the least total with its first assignment in ascending order.
--- specs/Laws says that it is the search's answer, and that there is no other.
--- Assumes nothing.
+-- specs/Laws says that it is the search's answer, and that there is no other. Assumes nothing.
 use Rattle.base.specs.Library.{ℕ, _≤_, _<_, _≡_, List, length, getD}
 use Rattle.costs.specs.{Instance.Instance, Bounds.Assignment, Bounds.total}
 pub mod Order

@@ -1,6 +1,5 @@
 -- A block of the stored table, read alone; and how many there are. The facts about these are in BlockLaws.
--- Document 01: "Blocks of 512 bytes. 0-1 block number from 0; 2-3 payload count; 4-509 payload; 510-511 check."
--- Assumes nothing.
+-- Document 01: "Blocks of 512 bytes. 0-1 block number from 0; 2-3 payload count; 4-509 payload; 510-511 check." Assumes nothing.
 use Rattle.base.specs.Library.{ℕ, _+_, _-_, _/_, Bool, true, cond, _&&_, List, [], _∷_, eqb, length, take, drop}
 use Rattle.base.specs.{Limits.blockSize, Limits.payloadSize, Limits.checkedSize, Bytes.u16At, Shape.isValue}
 use Rattle.checksum.specs.Sum.{sumOf}

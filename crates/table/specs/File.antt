@@ -1,6 +1,5 @@
 -- A stored table whole: the stream of a file, the file of a stream, and what reading and writing give.
--- Document 01, "Stored table" and "Refusals". The facts about these are in FileLaws and RoundTrip.
--- Assumes nothing.
+-- Document 01, "Stored table" and "Refusals". The facts about these are in FileLaws and RoundTrip. Assumes nothing.
 use Rattle.base.specs.Library.{ℕ, zero, suc, _*_, _/_, _%_, Bool, cond, _&&_, not, List, [], _++_, _≡_, eqb, leb, ltb, length, take, drop}
 use Rattle.base.specs.{declared.Length.Length, Limits.blockSize, Limits.fileSize, Limits.streamSize, Refusal.orElse}
 use Rattle.table.specs.{Stream.streamRefusal, Block.blockRefusal, Block.payloadOf, Block.blocksFor, Written.fileOf}

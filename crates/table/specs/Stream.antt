@@ -1,6 +1,5 @@
 -- The stream of a table: n, the n sizes, the costs of all pairs; and what is wrong with a list that is none.
--- Document 01, "Stored table" and refusals 5, 6, 7. The facts about these are in StreamLaws.
--- Assumes nothing.
+-- Document 01, "Stored table" and refusals 5, 6, 7. The facts about these are in StreamLaws. Assumes nothing.
 use Rattle.base.specs.Library.{ℕ, zero, suc, _+_, _*_, Bool, true, cond, _&&_, List, [], _∷_, _≡_, eqb, leb, length, getD, take, drop}
 use Rattle.base.specs.{Limits.pairLimit, Bytes.u16At, Shape.shapeGood}
 

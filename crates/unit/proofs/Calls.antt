@@ -16,7 +16,8 @@ use Rattle.costs.specs.Lent.{lentRefusal}
 use Rattle.message.specs.declared.Parsed.{Parsed}
 use Rattle.message.specs.declared.Kind.{Kind}
 use Rattle.message.specs.declared.Read.the-variants.{Good, Refused}
-use Rattle.message.specs.Message.{Sized, isUnit, refusalOf}
+use Rattle.message.specs.Message.{isUnit, refusalOf}
+use Rattle.message.specs.Sized.{Sized}
 use Rattle.message.specs.Decode.{messageIn, parseFor}
 use Rattle.message.specs.RoundTrip.{ParsedGood, parsed-good}
 use Rattle.unit.specs.declared.Unit.{Unit}
@@ -26,7 +27,7 @@ use Rattle.unit.specs.State.{fresh, inRange}
 use Rattle.unit.specs.Step.{Decision, refused, accepted, quiet, assign, respond}
 use Rattle.unit.specs.Send.{packets, laid}
 use Rattle.unit.specs.Laying.{Room, laid-none}
-use Rattle.unit.specs.Calls.{outcomeOf, numbersOf, unitOf, bytesOf, seatRefusal, makeRefusal, rangeRefusal, start, unlessRefused, makeOut, stepRefusal, stepOut}
+use Rattle.unit.specs.Calls.{outcomeOf, bytesOf, seatRefusal, makeRefusal, rangeRefusal, start, unlessRefused, makeOut, stepRefusal, stepOut}
 use Rattle.unit.specs.Ready.{Shaped, Ready, Heard, decidedOf}
 use Rattle.unit.specs.Laws.Views.{unit-range, lent-good}
 use Rattle.unit.specs.Laws.Range.{SizedUnit}
@@ -195,13 +196,3 @@ module _ (u : Unit) (own n : ℕ) (sizes costs out : List ℕ) (q : Passed u own
         let to : p .message .receiver ≡ suc (pred own) = omega (arith, to-own, unit-range n own (q .unit) .0) in
         rw (← pred-sub own) (few-decided n sizes w was (respond w k u (p .message)) d e
         (respond-kept n sizes w (lent-good own n sizes costs (q .shape) long (q .unit) (q .lent)) k u (p .message) (q .state) arrays record { address = rw fields (known .address); form = rw fields (known .formed); arrays = z } to))
-
--- ---- a step in place: the numbers and the state of the outcome
-
-pub reported : (n k : ℕ) (was : Unit) (o : Decision) (r : Outcome) → r ≡ outcomeOf n k was o → record { refusal = r .refusal; sent = r .sent; records = r .records } ≡ numbersOf n k o
-reported n k was (refused x) r e = rw e
-reported n k was (accepted u s ws) r e = rw e
-
-pub left-behind : (n k : ℕ) (was : Unit) (o : Decision) (r : Outcome) → r ≡ outcomeOf n k was o → r .unit ≡ unitOf was o
-left-behind n k was (refused x) r e = rw e
-left-behind n k was (accepted u s ws) r e = rw e

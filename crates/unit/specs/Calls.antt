@@ -1,6 +1,5 @@
 -- The calls: making a unit and a step, refusals in 01's order.
--- 01: "Making a unit ..: 5, 10 (unit only), 6, 7, 13." "Step: 13, 5 (n, sizes), 10 (own number), 6, 7, 5 (state), 8, 10, 9, 12, 11."
--- Assumes nothing.
+-- 01: "Making a unit ..: 5, 10 (unit only), 6, 7, 13." "Step: 13, 5 (n, sizes), 10 (own number), 6, 7, 5 (state), 8, 10, 9, 12, 11." Assumes nothing.
 use Rattle.base.specs.Library.{ℕ, zero, suc, pred, cond, not, List, ltb, length}
 use Rattle.base.specs.{Limits.sendingSize, Refusal.orElse, Shape.shapeGood}
 use Rattle.costs.specs.{Instance.View, Instance.lentView, Lent.lentRefusal}
@@ -14,14 +13,9 @@ abbrev pub outcomeOf : ℕ → ℕ → Unit → Decision → Outcome
 outcomeOf n k was (refused r) = record { refusal = r; unit = was; sent = 0; records = 0 }
 outcomeOf n k was (accepted u s ws) = record { refusal = 0; unit = u; sent = length (packets n k s); records = length ws }
 
--- the same of a step in place: its numbers, and the state left behind the reference
-abbrev pub numbersOf : ℕ → ℕ → Decision → Report
-numbersOf n k (refused r) = record { refusal = r; sent = 0; records = 0 }
-numbersOf n k (accepted u s ws) = record { refusal = 0; sent = length (packets n k s); records = length ws }
-
-abbrev pub unitOf : Unit → Decision → Unit
-unitOf was (refused r) = was
-unitOf was (accepted u s ws) = u
+-- its numbers, which a step in place hands back
+abbrev pub numbersOf : Outcome → Report
+numbersOf r = record { refusal = r .refusal; sent = r .sent; records = r .records }
 
 abbrev pub bytesOf : ℕ → ℕ → List ℕ → Decision → List ℕ
 bytesOf n k out (refused r) = out

@@ -15,7 +15,8 @@ use Rattle.costs.specs.declared.Seat.{Seat}
 use Rattle.message.specs.declared.Message.{Message}
 use Rattle.message.specs.declared.Kind.{Kind}
 use Rattle.message.specs.declared.Kind.the-variants.{Cpa, Request, Estimate, Solution, Stop}
-use Rattle.message.specs.Message.{Packet, Sized}
+use Rattle.message.specs.Message.{Packet}
+use Rattle.message.specs.Sized.{Sized}
 use Rattle.base.specs.Put.{putAt}
 use Rattle.message.specs.Encode.{encode, putInto}
 use Rattle.message.specs.EncodeLaws.{length-encode, put-fits}

@@ -1,5 +1,4 @@
--- The messages of a plan, 01: "Outgoing order: paper first, the rest by receiver ascending", and their bytes in a buffer.
--- Assumes nothing.
+-- The messages of a plan, 01: "Outgoing order: paper first, the rest by receiver ascending", and their bytes in a buffer. Assumes nothing.
 use Rattle.base.specs.Library.{ℕ, zero, suc, _*_, _-_, Bool, true, false, List, [], _∷_, _++_, length, drop}
 use Rattle.base.specs.Limits.{messageSize}
 use Rattle.message.specs.{declared.Message.Message, declared.Kind.Kind, Message.Packet, Encode.encode}

@@ -5,8 +5,7 @@
 --     takeBound, takeOff, carried          small pieces
 --     assign, backtrack                    01: "Assign", "Back up"
 --     onCpa .. onStop, respond             01: "Paper", "Copy", "Estimate", "News", "Stop"
--- Each test is an argument of a definition by clauses. Places count from 0: the unit at place k is 01's unit i = k + 1.
--- Assumes nothing.
+-- Each test is an argument of a definition by clauses. Places count from 0: the unit at place k is 01's unit i = k + 1. Assumes nothing.
 use Rattle.base.specs.Library.{ℕ, zero, suc, _+_, _-_, Bool, true, false, cond, _&&_, _||_, List, [], _∷_, ltb, leb, eqb, getD, set, take}
 use Rattle.base.specs.Sums.{sumFrom}
 use Rattle.costs.specs.{Instance.View, Bounds.costWith, Bounds.h, Bounds.estimate}

@@ -1,5 +1,4 @@
--- Many units, by place: the one that a packet is for and its step, and the records that they write together. No pool is met here.
--- Assumes nothing.
+-- Many units, by place: the one that a packet is for and its step, and the records that they write together. No pool is met here. Assumes nothing.
 use Rattle.base.specs.Library.{ℕ, pred, _≡_, List, [], _∷_, getD}
 use Rattle.base.specs.Members.{Every}
 use Rattle.costs.specs.Instance.{Instance, viewOf}

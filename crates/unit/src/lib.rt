@@ -11,7 +11,7 @@ ghost use Rattle.unit.specs.State.{fresh, noUnit};
 ghost use Rattle.unit.specs.Step.{Decision, refused};
 ghost use Rattle.unit.specs.Send.{packets};
 ghost use Rattle.unit.specs.Laying.{Room};
-ghost use Rattle.unit.specs.Calls.{outcomeOf, numbersOf, unitOf, bytesOf, seatRefusal, makeRefusal, rangeRefusal, start, makeOut, stepRefusal, stepOut};
+ghost use Rattle.unit.specs.Calls.{outcomeOf, numbersOf, bytesOf, seatRefusal, makeRefusal, rangeRefusal, start, makeOut, stepRefusal, stepOut};
 ghost use Rattle.unit.specs.Ready.{Shaped, decidedOf};
 
 mod assign; // assigning: values tried, the first below the bound written
@@ -137,7 +137,7 @@ pub fn step_in_place(
     packet: &[u8],
     out: &mut [u8],
 ) -> Report
-    ensures { λ r. ⌜ (r ≡ numbersOf n (pred own) (stepOut (now (u .entry)) own n sizes (now (costs .entry)) (now (packet .entry)) (length (now (out .entry))))) × (now (u .exit) ≡ unitOf (now (u .entry)) (stepOut (now (u .entry)) own n sizes (now (costs .entry)) (now (packet .entry)) (length (now (out .entry))))) × (now (out .exit) ≡ bytesOf n (pred own) (now (out .entry)) (stepOut (now (u .entry)) own n sizes (now (costs .entry)) (now (packet .entry)) (length (now (out .entry))))) ⌝ }
+    ensures { λ r. ⌜ (r ≡ numbersOf (outcomeOf n (pred own) (now (u .entry)) (stepOut (now (u .entry)) own n sizes (now (costs .entry)) (now (packet .entry)) (length (now (out .entry)))))) × (now (u .exit) ≡ outcomeOf n (pred own) (now (u .entry)) (stepOut (now (u .entry)) own n sizes (now (costs .entry)) (now (packet .entry)) (length (now (out .entry)))) .unit) × (now (out .exit) ≡ bytesOf n (pred own) (now (out .entry)) (stepOut (now (u .entry)) own n sizes (now (costs .entry)) (now (packet .entry)) (length (now (out .entry))))) ⌝ }
 {
     let v = *u;
     let r = step(v, own, n, sizes, costs, packet, out);

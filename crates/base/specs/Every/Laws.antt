@@ -1,5 +1,4 @@
--- A test of every number below one: one number more, at a number, from each, and where one fails. By induction on the count.
--- Assumes nothing.
+-- A test of every number below one: one number more, at a number, from each, and where one fails. By induction on the count. Assumes nothing.
 use Prim.Native.Nat.{ℕ, zero, suc, _+_, _<_}
 use mathlib.Core.Logic.{⊎-elim}
 use mathlib.Core.Path.{_≡_, refl, sym, ap, _∙_}

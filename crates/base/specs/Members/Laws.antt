@@ -1,5 +1,4 @@
--- Members of a list and of two joined, and what holds of every element of these. Some are the library's, under short names.
--- Assumes nothing.
+-- Members of a list and of two joined, and what holds of every element of these. Some are the library's, under short names. Assumes nothing.
 use mathlib.Core.Path.{_≡_, sym, subst}
 use mathlib.Core.Logic.{_⊎_, inl, inr}
 use mathlib.Core.List.{List, [], _∷_, _++_}

@@ -1,5 +1,4 @@
--- What the steps of the calls for C come to: reading, writing by number, a step on a lent state, a delivery to a lent network.
--- Assumes nothing.
+-- What the steps of the calls for C come to: reading, writing by number, a step on a lent state, a delivery to a lent network. Assumes nothing.
 use Prim.Native.Nat.{ℕ, pred}
 use mathlib.Core.Path.{_≡_, ap, _∙_}
 use mathlib.Core.List.{List}

@@ -10,7 +10,11 @@ use Rattle.base.specs.Limits.{messageSize}
 use Rattle.base.specs.Put.Laws.{paste-more}
 use Rattle.message.specs.Message.{Packet}
 use Rattle.unit.specs.Send.{encodeAll, laid}
-use Rattle.network.specs.Pool.{laterCells, poolAfter, closeGap}
+use Rattle.network.specs.Pool.{laterCells, poolAfter}
+
+-- the 64 bytes at `at` taken out: what lies up to `end` moves down, and the rest stays
+abbrev pub closeGap : List ℕ → ℕ → ℕ → List ℕ
+closeGap pool at end = take at pool ++ take (end - (at + messageSize)) (drop (at + messageSize) pool) ++ drop (end - messageSize) pool
 
 -- ---- one turn
 

@@ -191,11 +191,11 @@ module _ (s : List ℕ) (ok : Accepted s) (S : Shed) (H : History) (A : Network)
         pool = poolAfter (S .network .used) c (packets (instanceOf s .n) (placeOf p) o) (S .pool);
       }
 
-      bytes-are : (t : Bool) → leb (length ((b ++ a) ++ ps)) poolCells ≡ t → deliverOf (S .network) s (S .pool) c ≡ C.ifFits t (S .network) (S .pool) stored-after
+      bytes-are : (t : Bool) → leb (length ((b ++ a) ++ ps)) poolCells ≡ t → deliverOf (S .network) s (S .pool) c ≡ cond t stored-after (C.refusedDelivery (S .network) (S .pool) 14)
       unfolding instanceOf
       bytes-are t q =
           goes-on ∙ ap (C.onOut (S .network) (S .pool) c (unitsOf s) (p .message .receiver)) gives
-          ∙ ap (λ y. C.ifFits y (S .network) (S .pool) stored-after) (ap (λ n. leb n poolCells) (used-after (H .waiting) (S .network .used) (S .pool) (i .stored) z c p e (packets (unitsOf s) (placeOf p) o)) ∙ q)
+          ∙ ap (λ y. cond y stored-after (C.refusedDelivery (S .network) (S .pool) 14)) (ap (λ n. leb n poolCells) (used-after (H .waiting) (S .network .used) (S .pool) (i .stored) z c p e (packets (unitsOf s) (placeOf p) o)) ∙ q)
 
       -- what it sends doesn't fit
       too-many : leb (length ((b ++ a) ++ ps)) poolCells ≡ false → Delivers (R.refusedBy 14) (deliverOf (S .network) s (S .pool) c)

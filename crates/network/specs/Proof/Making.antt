@@ -54,7 +54,7 @@ module _ (s pool : List ℕ) (made : Made s pool) where
   pub make-invariant : Invariant s accepted-table (shedOf (makeOf s pool)) (R.begin (instanceOf s)) (M.make (problemOf (instanceOf s)))
   unfolding makeOf R.begin instanceOf times
   make-invariant =
-      subst (λ r. Invariant s accepted-table (shedOf (C.made (unitsOf s) pool (unlessRefused r (assign (viewOf (instanceOf s) 0) fresh)))) (R.beginIn R.cells (instanceOf s)) (M.make (problemOf (instanceOf s)))) (sym no-refusal)
+      subst (λ r. Invariant s accepted-table (shedOf (C.made (unitsOf s) pool (unlessRefused r (assign (viewOf (instanceOf s) 0) fresh)))) (R.begunWith R.cells (instanceOf s) (assign (viewOf (instanceOf s) 0) fresh)) (M.make (problemOf (instanceOf s)))) (sym no-refusal)
       (go (assign (viewOf (instanceOf s) 0) fresh) (M.assign (problemOf (instanceOf s)) 0 M.fresh) (start-simulated (instanceOf s) (sound-of s accepted-table) (stream-free s))
       (start-in-range (instanceOf s) (sizesIn s) (sound-of s accepted-table .n16) (views s accepted-table) (sound-of s accepted-table .n1))
       (make-kept (problemOf (instanceOf s)) (laws s accepted-table) (sound-of s accepted-table .n1)))

@@ -7,7 +7,7 @@ use lib.ListN.{length}
 use Rattle.base.specs.Shape.Laws.{shape-n}
 use Rattle.costs.specs.Instance.{lentView}
 use Rattle.message.specs.declared.Parsed.{Parsed}
-use Rattle.message.specs.Message.{Sized}
+use Rattle.message.specs.Sized.{Sized}
 use Rattle.unit.specs.Step.{respond}
 use Rattle.unit.specs.Laws.Range.{SizedUnit}
 use Rattle.unit.specs.Laws.Calls.{Passed, passed}

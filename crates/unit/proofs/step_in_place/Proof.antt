@@ -44,10 +44,8 @@ use denote.Triple.Walked.{says, Stays, stay-ref, stay-dropped, gave-slice, walkO
 use denote.Exit.{yes}
 use Rattle.unit.specs.declared.Unit.{Unit as State}
 use Rattle.unit.specs.declared.Outcome.{Outcome}
-use Rattle.unit.specs.declared.Report.{Report}
 use Rattle.unit.specs.Step.{Decision}
-use Rattle.unit.specs.Calls.{outcomeOf, bytesOf, stepOut}
-use Rattle.unit.proofs.Calls.{reported, left-behind}
+use Rattle.unit.specs.Calls.{outcomeOf, numbersOf, bytesOf, stepOut}
 use Rattle.unit.proofs.Unit as T
 use Rattle.unit.proofs.Unit.Laws as T′
 use Rattle.unit.proofs.Outcome as O
@@ -135,9 +133,6 @@ module _ {M : Type 1} (𝓤 : URA M) (H : Heap 𝓤) (A : Atoms 𝓤) (W : Given
   abbrev Said : Outcome → List ℕ → Type 0
   Said r zs = (r ≡ outcomeOf n (pred own) h given) × (zs ≡ bytesOf n (pred own) (x .now) given)
 
-  abbrev report : Outcome → Report
-  report r = record { refusal = r .refusal; sent = r .sent; records = r .records }
-
   abbrev mach : Outcome → Val
   mach r = vstruct (vcons (vint w8 (r .refusal)) (vcons (vint w8 (r .sent)) (vcons (vint w8 (r .records)) vnil)))
 
@@ -145,11 +140,11 @@ module _ {M : Type 1} (𝓤 : URA M) (H : Heap 𝓤) (A : Atoms 𝓤) (W : Given
       → ent 𝓤 (⋆ 𝓤 H A (‵ (fobs γ (T.the-row .coded .code (r .unit))) ∷ ‵ (fbor κ (Body (mem T.the-row) b o γ)) ∷ ‵ (flft κ q) ∷ (‵ (flft κ₁ q₁) ⊛ ‵ (flft κ₂ q₂) ⊛ ‵ (flft κ₃ q₃) ⊛ ‵ ftrue) ∷ ‵ (finally u8 (x .name) zs) ∷ [])) (Post (mach r))
   exits r zs e l f₀ f₁ f₂ =
       qed W (‵ (fobs γ (T.the-row .coded .code (r .unit))) ∷ ‵ (fbor κ (Body (mem T.the-row) b o γ)) ∷ ‵ (flft κ q) ∷ (‵ (flft κ₁ q₁) ⊛ ‵ (flft κ₂ q₂) ⊛ ‵ (flft κ₃ q₃) ⊛ ‵ ftrue) ∷ ‵ (finally u8 (x .name) zs) ∷ []) ∵
-      suffices ! _ (ends-at 𝓤 H A self.ended stayed (self.clauses 𝓤 H A at-mem run) W (((κ, (κ₁, (κ₂, (κ₃, tt)))), (q, (q₁, (q₂, (q₃, tt)))), tt, a, at), tt) (mach r) (report r) (r .unit, (tt, (tt, (tt, (tt, (tt, (zs, tt))))))) (tt, (tt, (tt, (tt, (tt, (tt, (l, tt)))))))) $
-      says ! (reported n (pred own) h given r (e .0), left-behind n (pred own) h given r (e .0), e .1) $
+      suffices ! _ (ends-at 𝓤 H A self.ended stayed (self.clauses 𝓤 H A at-mem run) W (((κ, (κ₁, (κ₂, (κ₃, tt)))), (q, (q₁, (q₂, (q₃, tt)))), tt, a, at), tt) (mach r) (numbersOf r) (r .unit, (tt, (tt, (tt, (tt, (tt, (zs, tt))))))) (tt, (tt, (tt, (tt, (tt, (tt, (l, tt)))))))) $
+      says ! (ap numbersOf (e .0), ap (λ (y : Outcome). y .unit) (e .0), e .1) $
       move ! (2 ∷ 3 ∷ []) $ join ! $ frame ! $ feqI ! (List Val) (vptr b o ∷ []) (vptr b o ∷ []) refl $ fjoin3 ! $
       nothing ! $ move ! (2 ∷ 0 ∷ []) $ fjoin ! $ nothing ! $ fjoin ! $ nothing ! $ fjoin ! $ nothing ! $ fjoin ! $ nothing ! $ fjoin ! $ nothing ! $ fjoin ! $ move ! (1 ∷ 0 ∷ []) $ fjoin ! $
-      owned ! P.the-row (Is P.the-row) (LL.makes P.the-type P′.the-plain 𝓤 H A) (report r) _ (LL.owes P.the-type P′.the-laws (report r) ((refl, f₀), ((refl, f₁), ((refl, f₂), tt)))) $ move ! (1 ∷ 0 ∷ []) $ done !
+      owned ! P.the-row (Is P.the-row) (LL.makes P.the-type P′.the-plain 𝓤 H A) (numbersOf r) _ (LL.owes P.the-type P′.the-laws (numbersOf r) ((refl, f₀), ((refl, f₁), ((refl, f₂), tt)))) $ move ! (1 ∷ 0 ∷ []) $ done !
 
   abbrev Lasts : Type 0
   Lasts = Unit {0} × (Unit {0} × (Unit {0} × (Unit {0} × (Unit {0} × (Unit {0} × (List ℕ × Unit {0}))))))

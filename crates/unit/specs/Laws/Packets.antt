@@ -13,7 +13,8 @@ use Rattle.base.specs.Members.Laws.{every-nil, every-cons, every-append}
 use Rattle.message.specs.declared.Message.{Message}
 use Rattle.message.specs.declared.Kind.{Kind}
 use Rattle.message.specs.declared.Kind.the-variants.{Cpa, Request, Estimate, Solution, Stop}
-use Rattle.message.specs.Message.{Packet, Sized, filledTo, boundGood, noneOrBound, cpaCount, carriedOf, boundFits, directionGood, addressGood, wellFormed}
+use Rattle.message.specs.Message.{Packet, filledTo, boundGood, noneOrBound, cpaCount, carriedOf, boundFits, directionGood, addressGood, wellFormed}
+use Rattle.message.specs.Sized.{Sized}
 use Rattle.message.specs.Laws.{blank-filled, no-bound-by, address-by, formed-by}
 use Rattle.unit.specs.declared.Plan.the-variants.{Forward, Back, Reply}
 use Rattle.unit.specs.State.{zeros}

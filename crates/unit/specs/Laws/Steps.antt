@@ -19,7 +19,8 @@ use Rattle.costs.specs.Lent.Bounds.{estimate-most}
 use Rattle.message.specs.declared.Message.{Message}
 use Rattle.message.specs.declared.Kind.{Kind}
 use Rattle.message.specs.declared.Kind.the-variants.{Cpa, Request, Estimate, Solution, Stop}
-use Rattle.message.specs.Message.{Sized, filledTo, noneOrBound, cpaCount}
+use Rattle.message.specs.Message.{filledTo, noneOrBound, cpaCount}
+use Rattle.message.specs.Sized.{Sized}
 use Rattle.message.specs.Laws.{blank-filled, no-bound-by, address-by, Addressed, addressed, Formed, formed-by, formed, filled-at, filled-past}
 use Rattle.unit.specs.declared.Unit.{Unit as State}
 use Rattle.unit.specs.declared.Ordering.{Ordering}

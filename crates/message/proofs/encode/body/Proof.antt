@@ -1,7 +1,7 @@
 -- `body` meets its contract: the fields are laid one after the other over zeros.
 -- Assumes nothing.
 use borrow.Author.Needs.{needs}
-use Rattle.message.specs.Message.{Sized}
+use Rattle.message.specs.Sized.{Sized}
 use Rattle.message.specs.EncodeLaws.{fields-laid}
 use Rattle.message.proofs.encode.body.Statement.{statement}
 use Rattle.message.proofs.encode.body.Tie as tie

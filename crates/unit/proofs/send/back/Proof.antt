@@ -6,7 +6,7 @@ use mathlib.Core.Bool.{true}
 use native.Mathlib.Omega.{arith}
 use lib.ListN.{length}
 use borrow.Author.Tests.{not-true, not-false}
-use Rattle.message.specs.Message.{Sized}
+use Rattle.message.specs.Sized.{Sized}
 use Rattle.unit.specs.Laying.{back-laid, back-count, back-quiet}
 use borrow.Author.Needs.{needs}
 use Rattle.unit.proofs.send.back.Statement.{statement}

@@ -2,7 +2,7 @@
 -- Assumes nothing.
 use mathlib.Core.Path.{_∙_}
 use native.Mathlib.Omega.{arith}
-use Rattle.message.specs.Message.{Sized}
+use Rattle.message.specs.Sized.{Sized}
 use Rattle.unit.specs.Laying.{forward-laid, forward-count}
 use borrow.Author.Needs.{needs}
 use Rattle.unit.proofs.send.forward.Statement.{statement}

@@ -5,7 +5,7 @@ use mathlib.Core.Path.{_≡_, refl, _∙_}
 use native.Mathlib.Omega.{arith}
 use lib.ListN.{length}
 use borrow.Author.Needs.{needs}
-use Rattle.message.specs.Message.{Sized}
+use Rattle.message.specs.Sized.{Sized}
 use Rattle.base.specs.Put.{putAt}
 use Rattle.unit.specs.Send.{sentTo, each, encodeAll}
 use Rattle.unit.specs.Laying.{spread-none, spread-more}
