@@ -1,6 +1,7 @@
 // Reads the packets of data/packets for 4 units of 2, 3, 4 and 5 values, and says of each what reading it gives. A record of the
 // file has 96 bytes: 31 of name, a unit number (0: read by no unit, for any receiver), and the 64 bytes of a message. The last is a
 // byte short. A message that is read is written again, into 65 bytes, for 3 units and for none, and into 63 bytes; and read for none.
+use base::MESSAGE_SIZE;
 use libc::STDOUT_FILENO;
 use message::Kind;
 use message::Message;
@@ -79,7 +80,7 @@ fn again(kind: Kind, m: Message, packet: &[u8]) {
     write(0, kind, m, packet);
     io::write_all(STDOUT_FILENO, b"; into 63 bytes");
     let sizes = SIZES;
-    let mut short = [255u8; 63];
+    let mut short = [255u8; MESSAGE_SIZE - 1];
     outcome(
         message::write(4, sizes, kind, m, &mut short),
         &short,
@@ -95,7 +96,7 @@ fn again(kind: Kind, m: Message, packet: &[u8]) {
 // The same for n units, into 65 bytes of 255.
 fn write(n: u8, kind: Kind, m: Message, packet: &[u8]) {
     let sizes = SIZES;
-    let mut out = [255u8; 65];
+    let mut out = [255u8; MESSAGE_SIZE + 1];
     outcome(message::write(n, sizes, kind, m, &mut out), &out, packet);
 }
 
@@ -115,15 +116,15 @@ fn outcome(refusal: u8, out: &[u8], packet: &[u8]) {
 
 // Whether `out` is the packet and a byte of 255.
 fn same(packet: &[u8], out: &[u8]) -> bool {
-    if out.len() != packet.len() + 1 {
+    let n = packet.len();
+    if out.len() <= n {
         return false;
     }
-    let mut i = 0;
-    while i < packet.len() {
-        if out[i] != packet[i] {
-            return false;
-        }
-        i += 1;
+    if out.len() - n != 1 {
+        return false;
     }
-    out[i] == 255
+    if out[n] != 255 {
+        return false;
+    }
+    check::same(packet, &out[0..n])
 }

@@ -1,4 +1,5 @@
 // Reads the sample tables of data/ and says of each what reading it gives; an accepted one is written again and compared.
+use base::BLOCK_SIZE;
 use base::FILE_ROOM;
 use base::FILE_SIZE;
 use base::STREAM_SIZE;
@@ -45,11 +46,11 @@ fn show(name: &[u8]) {
 fn show_cramped(name: &[u8]) {
     let mut file = [0u8; FILE_ROOM];
     let n = load(name, &mut file);
-    let mut cramped = [0u8; 61456];
+    let mut cramped = [0u8; STREAM_SIZE - 1];
     show_read(name, front(&file, n), &mut cramped);
     let mut stream = [0u8; STREAM_SIZE];
     let r = table::read(front(&file, n), &mut stream);
-    let mut again = [0u8; 511];
+    let mut again = [0u8; BLOCK_SIZE - 1];
     let w = table::write(front(&stream, r.length), &mut again);
     io::write_all(STDOUT_FILENO, name);
     say(b" written refusal ", w.refusal as u64);

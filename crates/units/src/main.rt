@@ -26,7 +26,7 @@ fn main() {
 
 // Each record, from the state that the one before left.
 fn run(file: &[u8]) {
-    let mut u = blank();
+    let mut u = unit::no_unit();
     let mut left = file.len() / 160;
     let mut at = 0;
     while 0 < left {
@@ -168,19 +168,4 @@ fn packet(n: u8, sizes: [u8; 16], bytes: &[u8]) {
     io::write_all(STDOUT_FILENO, b"  sends ");
     let m = p.message;
     print::print_message(kind, m);
-}
-
-// No unit yet.
-fn blank() -> Unit {
-    Unit {
-        threshold: [0u8; 16],
-        bound: 0,
-        best: [0u8; 16],
-        estimates: [0u32; 16],
-        stamp: [0u8; 16],
-        values: [0u8; 16],
-        cost: 0,
-        counter: 0,
-        stopped: false,
-    }
 }

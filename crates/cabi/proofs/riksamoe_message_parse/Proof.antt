@@ -5,18 +5,8 @@ use borrow.Author.Needs.{needs}
 use Rattle.cabi.proofs.riksamoe_message_parse.Statement.{statement}
 use Rattle.cabi.proofs.riksamoe_message_parse.Tie as tie
 
-parse-requires : tie.Need-parse-requires
-parse-requires c κs = search needs
-
-refusal-of-requires : tie.Need-refusal-of-requires
-refusal-of-requires c κs = search needs
-
-code-of-requires : tie.Need-code-of-requires
-code-of-requires c κs = search needs
-
 returns : tie.Need-returns
 returns c = parsed-is _ _ _ _ (c .before .refusal-of .ensures) (c .code-of .ensures) (c .before .before .before .parse .ensures)
 
 pub riksamoe-message-parse-spec : {M : Type 1} → statement M
-riksamoe-message-parse-spec =
-    tie.close (tie.spec parse-requires refusal-of-requires code-of-requires returns)
+riksamoe-message-parse-spec = tie.close (tie.spec (λ c κs. search needs) (λ c κs. search needs) (λ c κs. search needs) returns)

@@ -7,29 +7,11 @@ use borrow.Author.Needs.{needs}
 use Rattle.cabi.proofs.riksamoe_message_write.Statement.{statement}
 use Rattle.cabi.proofs.riksamoe_message_write.Tie as tie
 
-kind-of-requires : tie.Need-kind-of-requires
-kind-of-requires c κs = search needs
-
-enum-known-answer : tie.Need-enum-known-answer
-enum-known-answer c = search needs
-
-enum-told : tie.Need-enum-told
-enum-told c = search needs
-
-unknown-kind-requires : tie.Need-unknown-kind-requires
-unknown-kind-requires c κs = search needs
-
 returns : tie.Need-returns
 returns c =
     let a = c .before .before .before .before .before .before .args in
     let e = sym (c .before .before .before .kind-of .ensures) ∙ c .before .enum-told .given .1 in
     (c .unknown-kind .ensures ∙ sym (write-unknown (a .n) (a .sizes .places) (a .kind) (a .m) _ (length (a .out .now)) e), sym (written-unknown (a .n) (a .sizes .places) (a .kind) (a .m) _ (a .out .now) e))
-
-write-requires : tie.Need-write-requires
-write-requires c κs = search needs
-
-same-length : tie.Need-same-length
-same-length c = search needs
 
 returns-2 : tie.Need-returns-2
 returns-2 c =
@@ -41,12 +23,5 @@ returns-2 c =
 pub riksamoe-message-write-spec : {M : Type 1} → statement M
 riksamoe-message-write-spec =
     tie.close
-    (tie.spec
-    kind-of-requires
-    enum-known-answer
-    enum-told
-    unknown-kind-requires
-    returns
-    write-requires
-    same-length
-    returns-2)
+    (tie.spec (λ c κs. search needs) (λ c. search needs) (λ c. search needs) (λ c κs. search needs) returns (λ c κs. search needs)
+    (λ c. search needs) returns-2)

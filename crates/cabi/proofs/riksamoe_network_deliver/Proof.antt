@@ -5,18 +5,6 @@ use borrow.Author.Needs.{needs}
 use Rattle.cabi.proofs.riksamoe_network_deliver.Statement.{statement}
 use Rattle.cabi.proofs.riksamoe_network_deliver.Tie as tie
 
-network-from-requires : tie.Need-network-from-requires
-network-from-requires c κs = search needs
-
-deliver-requires : tie.Need-deliver-requires
-deliver-requires c κs = search needs
-
-answer-back-requires : tie.Need-answer-back-requires
-answer-back-requires c κs = search needs
-
-same-length : tie.Need-same-length
-same-length c = search needs
-
 returns : tie.Need-returns
 returns c =
     let a = c .before .before .before .before .before .before .before .before .args in
@@ -25,6 +13,4 @@ returns c =
     delivery-is (a .net) (a .stream .now) (a .pool .now) (a .cell) (t .result) (d .result) (c .answer-back .result) _ (t .ensures) (d .ensures) (c .answer-back .ensures)
 
 pub riksamoe-network-deliver-spec : {M : Type 1} → statement M
-riksamoe-network-deliver-spec =
-    tie.close
-    (tie.spec network-from-requires deliver-requires answer-back-requires same-length returns)
+riksamoe-network-deliver-spec = tie.close (tie.spec (λ c κs. search needs) (λ c κs. search needs) (λ c κs. search needs) (λ c. search needs) returns)

@@ -6,11 +6,8 @@ use borrow.Author.Needs.{needs}
 use Rattle.cabi.proofs.riksamoe_search.Statement.{statement}
 use Rattle.cabi.proofs.riksamoe_search.Tie as tie
 
-exhaustive-requires : tie.Need-exhaustive-requires
-exhaustive-requires c κs = search needs
-
 returns : tie.Need-returns
 returns c = ap ofFound (c .before .exhaustive .ensures)
 
 pub riksamoe-search-spec : {M : Type 1} → statement M
-riksamoe-search-spec = tie.close (tie.spec exhaustive-requires returns)
+riksamoe-search-spec = tie.close (tie.spec (λ c κs. search needs) returns)

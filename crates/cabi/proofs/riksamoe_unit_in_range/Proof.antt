@@ -7,16 +7,10 @@ use borrow.Author.Needs.{needs}
 use Rattle.cabi.proofs.riksamoe_unit_in_range.Statement.{statement}
 use Rattle.cabi.proofs.riksamoe_unit_in_range.Tie as tie
 
-unit-from-requires : tie.Need-unit-from-requires
-unit-from-requires c κs = search needs
-
-in-range-requires : tie.Need-in-range-requires
-in-range-requires c κs = search needs
-
 returns : tie.Need-returns
 returns c =
     let a = c .before .before .before .before .args in
     c .in-range .ensures ∙ ap (λ (v : Unit). rangeRefusal v (a .own) (a .n) (a .sizes .places) (a .costs .now)) (c .before .unit-from .ensures)
 
 pub riksamoe-unit-in-range-spec : {M : Type 1} → statement M
-riksamoe-unit-in-range-spec = tie.close (tie.spec unit-from-requires in-range-requires returns)
+riksamoe-unit-in-range-spec = tie.close (tie.spec (λ c κs. search needs) (λ c κs. search needs) returns)

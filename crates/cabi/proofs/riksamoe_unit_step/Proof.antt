@@ -6,18 +6,6 @@ use borrow.Author.Needs.{needs}
 use Rattle.cabi.proofs.riksamoe_unit_step.Statement.{statement}
 use Rattle.cabi.proofs.riksamoe_unit_step.Tie as tie
 
-unit-from-requires : tie.Need-unit-from-requires
-unit-from-requires c κs = search needs
-
-step-requires : tie.Need-step-requires
-step-requires c κs = search needs
-
-outcome-back-requires : tie.Need-outcome-back-requires
-outcome-back-requires c κs = search needs
-
-same-length : tie.Need-same-length
-same-length c = search needs
-
 returns : tie.Need-returns
 returns c =
     let a = c .before .before .before .before .before .before .before .before .before .before .args in
@@ -28,5 +16,4 @@ returns c =
     (is (length (a .out .now)) (s .result) (c .outcome-back .result) (s .ensures .0) (c .outcome-back .ensures), are (a .out .now) _ (s .ensures .1))
 
 pub riksamoe-unit-step-spec : {M : Type 1} → statement M
-riksamoe-unit-step-spec =
-    tie.close (tie.spec unit-from-requires step-requires outcome-back-requires same-length returns)
+riksamoe-unit-step-spec = tie.close (tie.spec (λ c κs. search needs) (λ c κs. search needs) (λ c κs. search needs) (λ c. search needs) returns)

@@ -12,15 +12,9 @@ use Rattle.cabi.proofs.unknown_kind.Tie as tie
 shaped : (c : tie.Else1) → let a = c .before .before .args in shapeGood (a .n) (a .sizes) ≡ true
 shaped c = sym (c .before .shape-good .ensures) ∙ not-false _ (c .if1 .left)
 
-shape-good-requires : tie.Need-shape-good-requires
-shape-good-requires c κs = search needs
-
 returns : tie.Need-returns
 unfolding unknownKind
 returns c = sym (rw (sym (c .before .shape-good .ensures) ∙ not-true _ (c .if1 .taken)))
-
-address-good-requires : tie.Need-address-good-requires
-address-good-requires c κs = search needs
 
 returns-2 : tie.Need-returns-2
 unfolding unknownKind
@@ -31,5 +25,4 @@ unfolding unknownKind
 returns-3 c = sym (rw (shaped (c .before .before), sym (c .before .address-good .ensures) ∙ not-false _ (c .if2 .left)))
 
 pub unknown-kind-spec : {M : Type 1} → statement M
-unknown-kind-spec =
-    tie.close (tie.spec shape-good-requires returns address-good-requires returns-2 returns-3)
+unknown-kind-spec = tie.close (tie.spec (λ c κs. search needs) returns (λ c κs. search needs) returns-2 returns-3)

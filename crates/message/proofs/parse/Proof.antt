@@ -4,14 +4,8 @@ use borrow.Author.Needs.{needs}
 use Rattle.message.proofs.parse.Statement.{statement}
 use Rattle.message.proofs.parse.Tie as tie
 
-byte-at-requires : tie.Need-byte-at-requires
-byte-at-requires c κs = search needs
-
-parse-for-requires : tie.Need-parse-for-requires
-parse-for-requires c κs = search needs
-
 returns : tie.Need-returns
 returns c = rw (← c .before .byte-at .ensures) (c .parse-for .ensures)
 
 pub parse-spec : {M : Type 1} → statement M
-parse-spec = tie.close (tie.spec byte-at-requires parse-for-requires returns)
+parse-spec = tie.close (tie.spec (λ c κs. search needs) (λ c κs. search needs) returns)

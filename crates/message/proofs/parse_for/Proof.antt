@@ -22,20 +22,8 @@ checked c = sym (c .before .check-good .ensures) ∙ not-false _ (c .if2 .left)
 addressed : (c : tie.Else3) → let a = c .before .before .before .before .before .before .before .before .args in addressGood (a .n) (messageIn (a .bytes .now)) ≡ true
 addressed c = rw (← c .before .before .message-in .ensures) (sym (c .before .address-good .ensures) ∙ not-false _ (c .if3 .left))
 
-shape-good-requires : tie.Need-shape-good-requires
-shape-good-requires c κs = search needs
-
-refused-requires : tie.Need-refused-requires
-refused-requires c κs = search needs
-
 returns : tie.Need-returns
 returns c = let a = c .before .before .before .before .args in c .refused .ensures ∙ sym (parse-5 (a .n) (a .sizes) (a .own) (a .bytes .now) (sym (c .before .before .shape-good .ensures) ∙ not-true _ (c .before .if1 .taken)))
-
-check-good-requires : tie.Need-check-good-requires
-check-good-requires c κs = search needs
-
-refused-requires-2 : tie.Need-refused-requires-2
-refused-requires-2 c κs = search needs
 
 returns-2 : tie.Need-returns-2
 returns-2 c = let a = c .before .before .before .before .before .before .args in c .refused2 .ensures ∙ sym (parse-8 (a .n) (a .sizes) (a .own) (a .bytes .now) (shaped (c .before .before .before)) (sym (c .before .before .check-good .ensures) ∙ not-true _ (c .before .if2 .taken)))
@@ -43,20 +31,11 @@ returns-2 c = let a = c .before .before .before .before .before .before .args in
 message-in-requires : tie.Need-message-in-requires
 message-in-requires c κs = check-length (c .before .before .before .before .before .args .bytes .now) (checked c)
 
-address-good-requires : tie.Need-address-good-requires
-address-good-requires c κs = search needs
-
-refused-requires-3 : tie.Need-refused-requires-3
-refused-requires-3 c κs = search needs
-
 returns-3 : tie.Need-returns-3
 returns-3 c =
     let a = c .before .before .before .before .before .before .before .before .before .args in
     let e : addressGood (a .n) (messageIn (a .bytes .now)) ≡ false = rw (← c .before .before .before .message-in .ensures) (sym (c .before .before .address-good .ensures) ∙ not-true _ (c .before .if3 .taken)) in
     c .refused3 .ensures ∙ sym (parse-10 (a .n) (a .sizes) (a .own) (a .bytes .now) (shaped (c .before .before .before .before .before .before)) (checked (c .before .before .before .before)) (rw e))
-
-refused-requires-4 : tie.Need-refused-requires-4
-refused-requires-4 c κs = search needs
 
 returns-4 : tie.Need-returns-4
 returns-4 c =
@@ -64,9 +43,6 @@ returns-4 c =
     let a = e .before .before .before .before .before .before .before .before .args in
     let t : eqb (messageIn (a .bytes .now) .receiver) (a .own) ≡ false = rw (← e .before .before .message-in .ensures) (ne-eqb _ _ (c .before .if4 .taken)) in
     c .refused4 .ensures ∙ sym (parse-10 (a .n) (a .sizes) (a .own) (a .bytes .now) (shaped (e .before .before .before .before .before)) (checked (e .before .before .before)) (rw (addressed e, t)))
-
-parse-kind-requires : tie.Need-parse-kind-requires
-parse-kind-requires c κs = search needs
 
 returns-5 : tie.Need-returns-5
 returns-5 c =
@@ -78,18 +54,6 @@ returns-5 c =
 pub parse-for-spec : {M : Type 1} → statement M
 parse-for-spec =
     tie.close
-    (tie.spec
-    shape-good-requires
-    refused-requires
-    returns
-    check-good-requires
-    refused-requires-2
-    returns-2
-    message-in-requires
-    address-good-requires
-    refused-requires-3
-    returns-3
-    refused-requires-4
-    returns-4
-    parse-kind-requires
+    (tie.spec (λ c κs. search needs) (λ c κs. search needs) returns (λ c κs. search needs) (λ c κs. search needs) returns-2
+    message-in-requires (λ c κs. search needs) (λ c κs. search needs) returns-3 (λ c κs. search needs) returns-4 (λ c κs. search needs)
     returns-5)

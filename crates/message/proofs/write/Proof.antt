@@ -22,32 +22,17 @@ addressed c = sym (c .before .address-good .ensures) ∙ not-false _ (c .if2 .le
 formed : (c : tie.Else3) → let a = c .before .before .before .before .before .before .before .args in wellFormed (a .n) (a .sizes) (a .kind) (a .m) ≡ true
 formed c = sym (c .before .well-formed .ensures) ∙ not-false _ (c .if3 .left)
 
-shape-good-requires : tie.Need-shape-good-requires
-shape-good-requires c κs = search needs
-
 returns : tie.Need-returns
 unfolding writeRefusal
 returns c = let a = c .before .before .before .args in write-stops (a .n) (a .sizes) (a .kind) (a .m) (a .out .now) 5 (rw (sym (c .before .shape-good .ensures) ∙ not-true _ (c .if1 .taken))) (omega arith)
-
-address-good-requires : tie.Need-address-good-requires
-address-good-requires c κs = search needs
 
 returns-2 : tie.Need-returns-2
 unfolding writeRefusal
 returns-2 c = let a = c .before .before .before .before .before .args in write-stops (a .n) (a .sizes) (a .kind) (a .m) (a .out .now) 10 (rw (shaped (c .before .before), sym (c .before .address-good .ensures) ∙ not-true _ (c .if2 .taken))) (omega arith)
 
-well-formed-requires : tie.Need-well-formed-requires
-well-formed-requires c κs = search needs
-
 returns-3 : tie.Need-returns-3
 unfolding writeRefusal
 returns-3 c = let a = c .before .before .before .before .before .before .before .args in write-stops (a .n) (a .sizes) (a .kind) (a .m) (a .out .now) 9 (rw (shaped (c .before .before .before .before), addressed (c .before .before), sym (c .before .well-formed .ensures) ∙ not-true _ (c .if3 .taken))) (omega arith)
-
-put-requires : tie.Need-put-requires
-put-requires c κs = search needs
-
-same-length : tie.Need-same-length
-same-length c = search needs
 
 returns-4 : tie.Need-returns-4
 returns-4 c =
@@ -61,13 +46,5 @@ returns-4 c =
 pub write-spec : {M : Type 1} → statement M
 write-spec =
     tie.close
-    (tie.spec
-    shape-good-requires
-    returns
-    address-good-requires
-    returns-2
-    well-formed-requires
-    returns-3
-    put-requires
-    same-length
-    returns-4)
+    (tie.spec (λ c κs. search needs) returns (λ c κs. search needs) returns-2 (λ c κs. search needs) returns-3 (λ c κs. search needs)
+    (λ c. search needs) returns-4)

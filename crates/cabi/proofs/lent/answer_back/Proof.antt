@@ -4,11 +4,8 @@ use borrow.Author.Needs.{needs}
 use Rattle.cabi.proofs.lent.answer_back.Statement.{statement}
 use Rattle.cabi.proofs.lent.answer_back.Tie as tie
 
-units-back-requires : tie.Need-units-back-requires
-units-back-requires c κs = search needs
-
 returns : tie.Need-returns
 returns c = rw (c .before .before .units-back .ensures)
 
 pub answer-back-spec : {M : Type 1} → statement M
-answer-back-spec = tie.close (tie.spec units-back-requires returns)
+answer-back-spec = tie.close (tie.spec (λ c κs. search needs) returns)

@@ -4,11 +4,8 @@ use borrow.Author.Needs.{needs}
 use Rattle.cabi.proofs.lent.lent_of.Statement.{statement}
 use Rattle.cabi.proofs.lent.lent_of.Tie as tie
 
-flag-requires : tie.Need-flag-requires
-flag-requires c κs = search needs
-
 returns : tie.Need-returns
 returns c = rw (c .flag .ensures)
 
 pub lent-of-spec : {M : Type 1} → statement M
-lent-of-spec = tie.close (tie.spec flag-requires returns)
+lent-of-spec = tie.close (tie.spec (λ c κs. search needs) returns)

@@ -4,11 +4,8 @@ use borrow.Author.Needs.{needs}
 use Rattle.cabi.proofs.lent.network_from.Statement.{statement}
 use Rattle.cabi.proofs.lent.network_from.Tie as tie
 
-units-from-requires : tie.Need-units-from-requires
-units-from-requires c κs = search needs
-
 returns : tie.Need-returns
 returns c = rw (c .before .before .units-from .ensures)
 
 pub network-from-spec : {M : Type 1} → statement M
-network-from-spec = tie.close (tie.spec units-from-requires returns)
+network-from-spec = tie.close (tie.spec (λ c κs. search needs) returns)

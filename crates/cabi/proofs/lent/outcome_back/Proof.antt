@@ -4,11 +4,8 @@ use borrow.Author.Needs.{needs}
 use Rattle.cabi.proofs.lent.outcome_back.Statement.{statement}
 use Rattle.cabi.proofs.lent.outcome_back.Tie as tie
 
-unit-back-requires : tie.Need-unit-back-requires
-unit-back-requires c κs = search needs
-
 returns : tie.Need-returns
 returns c = rw (c .unit-back .ensures)
 
 pub outcome-back-spec : {M : Type 1} → statement M
-outcome-back-spec = tie.close (tie.spec unit-back-requires returns)
+outcome-back-spec = tie.close (tie.spec (λ c κs. search needs) returns)

@@ -7,9 +7,6 @@ use borrow.Author.Needs.{needs}
 use Rattle.cabi.proofs.lent.unit_back.Statement.{statement}
 use Rattle.cabi.proofs.lent.unit_back.Tie as tie
 
-lent-of-requires : tie.Need-lent-of-requires
-lent-of-requires c κs = search needs
-
 returns : tie.Need-returns
 unfolding unitBack
 returns c = c .lent-of .ensures ∙ sym (rw (le-leb _ _ (c .before .if1 .taken)))
@@ -19,4 +16,4 @@ unfolding unitBack
 returns-2 c = sym (rw (lt-leb _ _ (c .if1 .left)))
 
 pub unit-back-spec : {M : Type 1} → statement M
-unit-back-spec = tie.close (tie.spec lent-of-requires returns returns-2)
+unit-back-spec = tie.close (tie.spec (λ c κs. search needs) returns returns-2)

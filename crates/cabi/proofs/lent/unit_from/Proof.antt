@@ -5,12 +5,9 @@ use borrow.Author.Needs.{needs}
 use Rattle.cabi.proofs.lent.unit_from.Statement.{statement}
 use Rattle.cabi.proofs.lent.unit_from.Tie as tie
 
-threshold-from-requires : tie.Need-threshold-from-requires
-threshold-from-requires c κs = search needs
-
 returns : tie.Need-returns
 unfolding unitFrom
 returns c = rw (c .before .before .before .before .before .threshold-from .ensures)
 
 pub unit-from-spec : {M : Type 1} → statement M
-unit-from-spec = tie.close (tie.spec threshold-from-requires returns)
+unit-from-spec = tie.close (tie.spec (λ c κs. search needs) returns)

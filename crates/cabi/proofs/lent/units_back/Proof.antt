@@ -22,33 +22,6 @@ loop-holds : tie.Need-loop-holds Inv-loop μ-loop
 unfolding upTo
 loop-holds c = (search needs, refl)
 
-mul-s : tie.Need-mul-s Inv-loop μ-loop
-mul-s c = search needs
-
-array-copy-out-s : tie.Need-array-copy-out-s Inv-loop μ-loop
-array-copy-out-s c = search needs
-
-mul-u : tie.Need-mul-u Inv-loop μ-loop
-mul-u c = search needs
-
-array-copy-out-u : tie.Need-array-copy-out-u Inv-loop μ-loop
-array-copy-out-u c = search needs
-
-unit-back-requires : tie.Need-unit-back-requires Inv-loop μ-loop
-unit-back-requires c κs = search needs
-
-mul-back : tie.Need-mul-back Inv-loop μ-loop
-mul-back c = search needs
-
-array-set-from-back : tie.Need-array-set-from-back Inv-loop μ-loop
-array-set-from-back c = search needs
-
-add-i : tie.Need-add-i Inv-loop μ-loop
-add-i c = search needs
-
-loop-less : tie.Need-loop-less Inv-loop μ-loop
-loop-less c = search needs
-
 loop-again : tie.Need-loop-again Inv-loop μ-loop
 loop-again c =
     let a = c .before .before .before .before .before .args in
@@ -67,18 +40,5 @@ returns c =
 pub units-back-spec : {M : Type 1} → statement M
 units-back-spec =
     tie.close
-    (tie.spec
-    Inv-loop
-    μ-loop
-    loop-holds
-    mul-s
-    array-copy-out-s
-    mul-u
-    array-copy-out-u
-    unit-back-requires
-    mul-back
-    array-set-from-back
-    add-i
-    loop-less
-    loop-again
-    returns)
+    (tie.spec Inv-loop μ-loop loop-holds (λ c. search needs) (λ c. search needs) (λ c. search needs) (λ c. search needs)
+    (λ c κs. search needs) (λ c. search needs) (λ c. search needs) (λ c. search needs) (λ c. search needs) loop-again returns)

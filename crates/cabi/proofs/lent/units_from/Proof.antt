@@ -18,33 +18,9 @@ Inv-loop ss us₀ i₀ us i = (i ≤ 16) × (us ≡ upTo i (λ (k : ℕ). unitFr
 abbrev μ-loop : tie.MeasureT-loop
 μ-loop ss us₀ i₀ us i = 16 - i
 
-no-unit-requires : tie.Need-no-unit-requires Inv-loop μ-loop
-no-unit-requires c κs = search needs
-
 loop-holds : tie.Need-loop-holds Inv-loop μ-loop
 unfolding upTo
 loop-holds c = (search needs, rw (c .no-unit .ensures))
-
-mul-s : tie.Need-mul-s Inv-loop μ-loop
-mul-s c = search needs
-
-array-copy-out-s : tie.Need-array-copy-out-s Inv-loop μ-loop
-array-copy-out-s c = search needs
-
-unit-from-requires : tie.Need-unit-from-requires Inv-loop μ-loop
-unit-from-requires c κs = search needs
-
-mul-us : tie.Need-mul-us Inv-loop μ-loop
-mul-us c = search needs
-
-array-set-from-us : tie.Need-array-set-from-us Inv-loop μ-loop
-array-set-from-us c = search needs
-
-add-i : tie.Need-add-i Inv-loop μ-loop
-add-i c = search needs
-
-loop-less : tie.Need-loop-less Inv-loop μ-loop
-loop-less c = search needs
 
 loop-again : tie.Need-loop-again Inv-loop μ-loop
 loop-again c =
@@ -62,17 +38,5 @@ returns c =
 pub units-from-spec : {M : Type 1} → statement M
 units-from-spec =
     tie.close
-    (tie.spec
-    Inv-loop
-    μ-loop
-    no-unit-requires
-    loop-holds
-    mul-s
-    array-copy-out-s
-    unit-from-requires
-    mul-us
-    array-set-from-us
-    add-i
-    loop-less
-    loop-again
-    returns)
+    (tie.spec Inv-loop μ-loop (λ c κs. search needs) loop-holds (λ c. search needs) (λ c. search needs) (λ c κs. search needs)
+    (λ c. search needs) (λ c. search needs) (λ c. search needs) (λ c. search needs) loop-again returns)

@@ -17,24 +17,6 @@ Inv-loop bytes at r₀ i₀ r i = (i ≤ 16) × (r ≡ take i (drop at bytes) ++
 abbrev μ-loop : tie.MeasureT-loop
 μ-loop bytes at r₀ i₀ r i = 16 - i
 
-loop-holds : tie.Need-loop-holds Inv-loop μ-loop
-loop-holds c = search needs
-
-add-r : tie.Need-add-r Inv-loop μ-loop
-add-r c = search needs
-
-shared-slice-read-r : tie.Need-shared-slice-read-r Inv-loop μ-loop
-shared-slice-read-r c = search needs
-
-array-write-r : tie.Need-array-write-r Inv-loop μ-loop
-array-write-r c = search needs
-
-add-i : tie.Need-add-i Inv-loop μ-loop
-add-i c = search needs
-
-loop-less : tie.Need-loop-less Inv-loop μ-loop
-loop-less c = search needs
-
 loop-again : tie.Need-loop-again Inv-loop μ-loop
 loop-again c =
     let l = c .before .before .loop in
@@ -48,14 +30,5 @@ returns c = let l = c .before .loop in let e : l .i ≡ 16 = omega arith in rw (
 pub bytes16-spec : {M : Type 1} → statement M
 bytes16-spec =
     tie.close
-    (tie.spec
-    Inv-loop
-    μ-loop
-    loop-holds
-    add-r
-    shared-slice-read-r
-    array-write-r
-    add-i
-    loop-less
-    loop-again
-    returns)
+    (tie.spec Inv-loop μ-loop (λ c. search needs) (λ c. search needs) (λ c. search needs) (λ c. search needs) (λ c. search needs)
+    (λ c. search needs) loop-again returns)

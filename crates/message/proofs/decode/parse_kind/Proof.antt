@@ -22,46 +22,16 @@ kind-good-read c = kind-read (c .before .before) ∙ c .answer .given .1
 zeros : (c : tie.Else1) → restZero (c .before .before .before .before .before .before .before .before .args .bytes .now) ≡ true
 zeros c = sym (c .before .rest-zero .ensures) ∙ not-false _ (c .if1 .left)
 
-byte-at-requires : tie.Need-byte-at-requires
-byte-at-requires c κs = search needs
-
-kind-of-requires : tie.Need-kind-of-requires
-kind-of-requires c κs = search needs
-
-enum-known-answer : tie.Need-enum-known-answer
-enum-known-answer c = search needs
-
-enum-told : tie.Need-enum-told
-enum-told c = search needs
-
-refusal-of-requires : tie.Need-refusal-of-requires
-refusal-of-requires c κs = search needs
-
-refused-requires : tie.Need-refused-requires
-refused-requires c κs = search needs
-
 returns : tie.Need-returns
 returns c =
     let a = c .before .before .before .before .before .before .before .args in
     let e = kind-read (c .before .before .before .before) ∙ c .before .before .enum-told .given .1 in
     c .refused .ensures ∙ ap refused (c .before .refusal-of .ensures ∙ ap refusalOf (c .before .before .enum-told .given .1)) ∙ sym (kind-refused (a .n) (a .sizes) (a .bytes .now) (a .m) _ (c .before .before .enum-told .given .0 .0) e)
 
-rest-zero-requires : tie.Need-rest-zero-requires
-rest-zero-requires c κs = search needs
-
-refused-requires-2 : tie.Need-refused-requires-2
-refused-requires-2 c κs = search needs
-
 returns-2 : tie.Need-returns-2
 returns-2 c =
     let a = c .before .before .before .before .before .before .before .before .before .args in
     c .refused2 .ensures ∙ sym (kind-rest (a .n) (a .sizes) (a .bytes .now) (a .m) _ (c .before .before .before .before .answer .given .0 .0) (kind-good-read (c .before .before .before .before)) (sym (c .before .before .rest-zero .ensures) ∙ not-true _ (c .before .if1 .taken)))
-
-well-formed-requires : tie.Need-well-formed-requires
-well-formed-requires c κs = search needs
-
-refused-requires-3 : tie.Need-refused-requires-3
-refused-requires-3 c κs = search needs
 
 returns-3 : tie.Need-returns-3
 returns-3 c =
@@ -76,18 +46,6 @@ returns-4 c =
 pub parse-kind-spec : {M : Type 1} → statement M
 parse-kind-spec =
     tie.close
-    (tie.spec
-    byte-at-requires
-    kind-of-requires
-    enum-known-answer
-    enum-told
-    refusal-of-requires
-    refused-requires
-    returns
-    rest-zero-requires
-    refused-requires-2
-    returns-2
-    well-formed-requires
-    refused-requires-3
-    returns-3
-    returns-4)
+    (tie.spec (λ c κs. search needs) (λ c κs. search needs) (λ c. search needs) (λ c. search needs) (λ c κs. search needs)
+    (λ c κs. search needs) returns (λ c κs. search needs) (λ c κs. search needs) returns-2 (λ c κs. search needs) (λ c κs. search needs)
+    returns-3 returns-4)

@@ -9,19 +9,13 @@ use Rattle.message.specs.Decode.{restZero}
 use Rattle.message.proofs.decode.rest_zero.Statement.{statement}
 use Rattle.message.proofs.decode.rest_zero.Tie as tie
 
-byte-at-requires : tie.Need-byte-at-requires
-byte-at-requires c κs = search needs
-
 returns : tie.Need-returns
 unfolding restZero
 returns c = rw (← c .before .byte-at .ensures, ne-eqb _ _ (c .if1 .taken))
-
-u16-at-requires : tie.Need-u16-at-requires
-u16-at-requires c κs = search needs
 
 returns-2 : tie.Need-returns-2
 unfolding restZero
 returns-2 c = rw (← c .before .before .byte-at .ensures, eq-eqb _ _ (c .before .if1 .left)) (ap (λ (x : ℕ). eqb x 0) (c .u16-at .ensures .0))
 
 pub rest-zero-spec : {M : Type 1} → statement M
-rest-zero-spec = tie.close (tie.spec byte-at-requires returns u16-at-requires returns-2)
+rest-zero-spec = tie.close (tie.spec (λ c κs. search needs) returns (λ c κs. search needs) returns-2)

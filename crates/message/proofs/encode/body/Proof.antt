@@ -6,33 +6,6 @@ use Rattle.message.specs.EncodeLaws.{fields-laid}
 use Rattle.message.proofs.encode.body.Statement.{statement}
 use Rattle.message.proofs.encode.body.Tie as tie
 
-kind-code-requires : tie.Need-kind-code-requires
-kind-code-requires c κs = search needs
-
-array-write-r0 : tie.Need-array-write-r0
-array-write-r0 c = search needs
-
-array-write-r0-2 : tie.Need-array-write-r0-2
-array-write-r0-2 c = search needs
-
-array-write-r0-3 : tie.Need-array-write-r0-3
-array-write-r0-3 c = search needs
-
-with-places-requires : tie.Need-with-places-requires
-with-places-requires c κs = search needs
-
-with-places-requires-2 : tie.Need-with-places-requires-2
-with-places-requires-2 c κs = search needs
-
-with-number-requires : tie.Need-with-number-requires
-with-number-requires c κs = search needs
-
-with-number-requires-2 : tie.Need-with-number-requires-2
-with-number-requires-2 c κs = search needs
-
-with-places-requires-3 : tie.Need-with-places-requires-3
-with-places-requires-3 c κs = search needs
-
 returns : tie.Need-returns
 returns c =
     let a = c .before .before .before .before .before .before .before .before .before .args in
@@ -42,14 +15,5 @@ returns c =
 pub body-spec : {M : Type 1} → statement M
 body-spec =
     tie.close
-    (tie.spec
-    kind-code-requires
-    array-write-r0
-    array-write-r0-2
-    array-write-r0-3
-    with-places-requires
-    with-places-requires-2
-    with-number-requires
-    with-number-requires-2
-    with-places-requires-3
-    returns)
+    (tie.spec (λ c κs. search needs) (λ c. search needs) (λ c. search needs) (λ c. search needs) (λ c κs. search needs)
+    (λ c κs. search needs) (λ c κs. search needs) (λ c κs. search needs) (λ c κs. search needs) returns)

@@ -13,36 +13,6 @@ use Rattle.message.specs.EncodeLaws.{length-body, sum-laid}
 use Rattle.message.proofs.encode.encode.Statement.{statement}
 use Rattle.message.proofs.encode.encode.Tie as tie
 
-body-requires : tie.Need-body-requires
-body-requires c κs = search needs
-
-sub-sum : tie.Need-sub-sum
-sub-sum c = search needs
-
-part-sum-start : tie.Need-part-sum-start
-part-sum-start c = search needs
-
-part-sum-end : tie.Need-part-sum-end
-part-sum-end c = search needs
-
-sum-requires : tie.Need-sum-requires
-sum-requires c κs = search needs
-
-cast-r : tie.Need-cast-r
-cast-r c = search needs
-
-array-write-r : tie.Need-array-write-r
-array-write-r c = search needs
-
-cast-r-2 : tie.Need-cast-r-2
-cast-r-2 c = search needs
-
-add-r : tie.Need-add-r
-add-r c = search needs
-
-array-write-r-2 : tie.Need-array-write-r-2
-array-write-r-2 c = search needs
-
 returns : tie.Need-returns
 unfolding encode
 returns c =
@@ -56,15 +26,4 @@ returns c =
 pub encode-spec : {M : Type 1} → statement M
 encode-spec =
     tie.close
-    (tie.spec
-    body-requires
-    sub-sum
-    part-sum-start
-    part-sum-end
-    sum-requires
-    cast-r
-    array-write-r
-    cast-r-2
-    add-r
-    array-write-r-2
-    returns)
+    (tie.spec (λ c κs. search needs) (λ c. search needs) (λ c. search needs) (λ c. search needs) (λ c κs. search needs) (λ c. search needs) (λ c. search needs) (λ c. search needs) (λ c. search needs) (λ c. search needs) returns)

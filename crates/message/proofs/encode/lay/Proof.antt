@@ -5,16 +5,10 @@ use Rattle.base.specs.Put.Laws.{put-fits}
 use Rattle.message.proofs.encode.lay.Statement.{statement}
 use Rattle.message.proofs.encode.lay.Tie as tie
 
-put-requires : tie.Need-put-requires
-put-requires c κs = search needs
-
-same-length : tie.Need-same-length
-same-length c = search needs
-
 returns : tie.Need-returns
 returns c =
     let st = c .before .before .before .before .before .before in
     c .before .before .put .ensures ∙ put-fits (st .args .out .now) (st .args .bytes .now) (st .args .at) (st .pre)
 
 pub lay-spec : {M : Type 1} → statement M
-lay-spec = tie.close (tie.spec put-requires same-length returns)
+lay-spec = tie.close (tie.spec (λ c κs. search needs) (λ c. search needs) returns)

@@ -10,23 +10,8 @@ use Rattle.message.proofs.encode.put.Tie as tie
 returns : tie.Need-returns
 returns c = let a = c .before .before .args in let s = put-short (a .kind) (a .m) (a .out .now) (a .at) (omega arith) in (sym (s .0), sym (s .1))
 
-sub-if2 : tie.Need-sub-if2
-sub-if2 c = search needs
-
 returns-2 : tie.Need-returns-2
 returns-2 c = let a = c .before .before .before .args in let s = put-short (a .kind) (a .m) (a .out .now) (a .at) (omega arith) in (sym (s .0), sym (s .1))
-
-encode-requires : tie.Need-encode-requires
-encode-requires c κs = search needs
-
-slice-aggregate-lay : tie.Need-slice-aggregate-lay
-slice-aggregate-lay c = search needs
-
-lay-requires : tie.Need-lay-requires
-lay-requires c κs = search needs
-
-same-length : tie.Need-same-length
-same-length c = search needs
 
 returns-3 : tie.Need-returns-3
 returns-3 c =
@@ -37,12 +22,4 @@ returns-3 c =
 pub put-spec : {M : Type 1} → statement M
 put-spec =
     tie.close
-    (tie.spec
-    returns
-    sub-if2
-    returns-2
-    encode-requires
-    slice-aggregate-lay
-    lay-requires
-    same-length
-    returns-3)
+    (tie.spec returns (λ c. search needs) returns-2 (λ c κs. search needs) (λ c. search needs) (λ c κs. search needs) (λ c. search needs) returns-3)

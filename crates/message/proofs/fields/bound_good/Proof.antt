@@ -10,12 +10,9 @@ returns : tie.Need-returns
 unfolding boundGood
 returns c = simp (lt-leb _ _ (c .if1 .taken))
 
-filled-to-requires : tie.Need-filled-to-requires
-filled-to-requires c κs = search needs
-
 returns-2 : tie.Need-returns-2
 unfolding boundGood
 returns-2 c = simp (le-leb _ _ (c .before .if1 .left)) (c .filled-to .ensures)
 
 pub bound-good-spec : {M : Type 1} → statement M
-bound-good-spec = tie.close (tie.spec returns filled-to-requires returns-2)
+bound-good-spec = tie.close (tie.spec returns (λ c κs. search needs) returns-2)

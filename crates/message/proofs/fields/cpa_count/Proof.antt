@@ -5,9 +5,6 @@ use borrow.Author.Needs.{needs}
 use Rattle.message.proofs.fields.cpa_count.Statement.{statement}
 use Rattle.message.proofs.fields.cpa_count.Tie as tie
 
-sub-result : tie.Need-sub-result
-sub-result c = search needs
-
 returns : tie.Need-returns
 returns c = simp (lt-ltb _ _ (c .if1 .taken))
 
@@ -15,4 +12,4 @@ returns-2 : tie.Need-returns-2
 returns-2 c = simp (le-ltb _ _ (c .if1 .left))
 
 pub cpa-count-spec : {M : Type 1} → statement M
-cpa-count-spec = tie.close (tie.spec sub-result returns returns-2)
+cpa-count-spec = tie.close (tie.spec (λ c. search needs) returns returns-2)

@@ -4,30 +4,6 @@ use borrow.Author.Needs.{needs}
 use Rattle.message.proofs.fields.direction_good.Statement.{statement}
 use Rattle.message.proofs.fields.direction_good.Tie as tie
 
-enum-told : tie.Need-enum-told
-enum-told c = search needs
-
-beside-requires : tie.Need-beside-requires
-beside-requires c κs = search needs
-
-enum-told-2 : tie.Need-enum-told-2
-enum-told-2 c = search needs
-
-enum-told-3 : tie.Need-enum-told-3
-enum-told-3 c = search needs
-
-enum-told-4 : tie.Need-enum-told-4
-enum-told-4 c = search needs
-
-from-to-requires : tie.Need-from-to-requires
-from-to-requires c κs = search needs
-
-enum-told-5 : tie.Need-enum-told-5
-enum-told-5 c = search needs
-
-from-to-requires-2 : tie.Need-from-to-requires-2
-from-to-requires-2 c κs = search needs
-
 returns : tie.Need-returns
 returns c = rw (c .before .enum-told .given .1) (c .beside .ensures)
 
@@ -46,17 +22,5 @@ returns-5 c = rw (c .before .enum-told5 .given .1) (c .from-to2 .ensures)
 pub direction-good-spec : {M : Type 1} → statement M
 direction-good-spec =
     tie.close
-    (tie.spec
-    enum-told
-    beside-requires
-    enum-told-2
-    enum-told-3
-    enum-told-4
-    from-to-requires
-    enum-told-5
-    from-to-requires-2
-    returns
-    returns-2
-    returns-3
-    returns-4
-    returns-5)
+    (tie.spec (λ c. search needs) (λ c κs. search needs) (λ c. search needs) (λ c. search needs) (λ c. search needs) (λ c κs. search needs)
+    (λ c. search needs) (λ c κs. search needs) returns returns-2 returns-3 returns-4 returns-5)

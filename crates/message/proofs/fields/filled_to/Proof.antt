@@ -21,27 +21,12 @@ abbrev μ-loop : tie.MeasureT-loop
 loop-holds : tie.Need-loop-holds Inv-loop μ-loop
 loop-holds c = (refl, omega arith, refl)
 
-array-read-place-good : tie.Need-array-read-place-good Inv-loop μ-loop
-array-read-place-good c = search needs
-
-array-read-place-good-2 : tie.Need-array-read-place-good-2 Inv-loop μ-loop
-array-read-place-good-2 c = search needs
-
-place-good-requires : tie.Need-place-good-requires Inv-loop μ-loop
-place-good-requires c κs = search needs
-
 returns : tie.Need-returns Inv-loop μ-loop
 unfolding filledTo
 returns c =
     let a = c .before .before .before .before .args in
     let l = c .before .before .before .loop in
     sym (every-not (placeAt (a .k) (a .t2) (a .t3)) 16 (l .i) (c .before .before .loop-test .taken) (sym (c .before .place-good .ensures) ∙ not-true _ (c .if1 .taken)))
-
-add-i : tie.Need-add-i Inv-loop μ-loop
-add-i c = search needs
-
-loop-less : tie.Need-loop-less Inv-loop μ-loop
-loop-less c = search needs
 
 loop-again : tie.Need-loop-again Inv-loop μ-loop
 loop-again c =
@@ -56,15 +41,5 @@ returns-2 c = let l = c .before .loop in let e : l .i ≡ 16 = omega arith in sy
 pub filled-to-spec : {M : Type 1} → statement M
 filled-to-spec =
     tie.close
-    (tie.spec
-    Inv-loop
-    μ-loop
-    loop-holds
-    array-read-place-good
-    array-read-place-good-2
-    place-good-requires
-    returns
-    add-i
-    loop-less
-    loop-again
-    returns-2)
+    (tie.spec Inv-loop μ-loop loop-holds (λ c. search needs) (λ c. search needs) (λ c κs. search needs) returns (λ c. search needs)
+    (λ c. search needs) loop-again returns-2)

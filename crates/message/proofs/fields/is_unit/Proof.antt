@@ -5,17 +5,8 @@ use borrow.Author.Needs.{needs}
 use Rattle.message.proofs.fields.is_unit.Statement.{statement}
 use Rattle.message.proofs.fields.is_unit.Tie as tie
 
-wide-requires : tie.Need-wide-requires
-wide-requires c κs = search needs
-
-wide-requires-2 : tie.Need-wide-requires-2
-wide-requires-2 c κs = search needs
-
-is-value-requires : tie.Need-is-value-requires
-is-value-requires c κs = search needs
-
 returns : tie.Need-returns
 returns c = c .is-value .ensures ∙ rw (c .before .before .wide .ensures .0, c .before .wide2 .ensures .0)
 
 pub is-unit-spec : {M : Type 1} → statement M
-is-unit-spec = tie.close (tie.spec wide-requires wide-requires-2 is-value-requires returns)
+is-unit-spec = tie.close (tie.spec (λ c κs. search needs) (λ c κs. search needs) (λ c κs. search needs) returns)

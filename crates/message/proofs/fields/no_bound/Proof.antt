@@ -10,12 +10,9 @@ returns : tie.Need-returns
 unfolding noBound
 returns c = simp (ne-eqb _ _ (c .if1 .taken))
 
-filled-to-requires : tie.Need-filled-to-requires
-filled-to-requires c κs = search needs
-
 returns-2 : tie.Need-returns-2
 unfolding noBound
 returns-2 c = simp (eq-eqb _ _ (c .before .if1 .left)) (c .filled-to .ensures)
 
 pub no-bound-spec : {M : Type 1} → statement M
-no-bound-spec = tie.close (tie.spec returns filled-to-requires returns-2)
+no-bound-spec = tie.close (tie.spec returns (λ c κs. search needs) returns-2)

@@ -6,19 +6,13 @@ use Rattle.message.specs.Message.{noneOrBound}
 use Rattle.message.proofs.fields.none_or_bound.Statement.{statement}
 use Rattle.message.proofs.fields.none_or_bound.Tie as tie
 
-filled-to-requires : tie.Need-filled-to-requires
-filled-to-requires c κs = search needs
-
 returns : tie.Need-returns
 unfolding noneOrBound
 returns c = simp (eq-eqb _ _ (c .before .if1 .taken)) (c .filled-to .ensures)
-
-bound-good-requires : tie.Need-bound-good-requires
-bound-good-requires c κs = search needs
 
 returns-2 : tie.Need-returns-2
 unfolding noneOrBound
 returns-2 c = simp (ne-eqb _ _ (c .before .if1 .left)) (c .bound-good .ensures)
 
 pub none-or-bound-spec : {M : Type 1} → statement M
-none-or-bound-spec = tie.close (tie.spec filled-to-requires returns bound-good-requires returns-2)
+none-or-bound-spec = tie.close (tie.spec (λ c κs. search needs) returns (λ c κs. search needs) returns-2)

@@ -9,20 +9,10 @@ use Rattle.message.proofs.fields.place_good.Tie as tie
 returns : tie.Need-returns
 returns c = simp (not-true (c .before .args .filled) (c .if1 .taken))
 
-wide-requires : tie.Need-wide-requires
-wide-requires c κs = search needs
-
-wide-requires-2 : tie.Need-wide-requires-2
-wide-requires-2 c κs = search needs
-
-is-value-requires : tie.Need-is-value-requires
-is-value-requires c κs = search needs
-
 returns-2 : tie.Need-returns-2
 returns-2 c =
     let a = c .before .before .before .before .args in
     c .is-value .ensures ∙ rw (not-false (a .filled) (c .before .before .before .if1 .left), c .before .before .wide .ensures .0, c .before .wide2 .ensures .0)
 
 pub place-good-spec : {M : Type 1} → statement M
-place-good-spec =
-    tie.close (tie.spec returns wide-requires wide-requires-2 is-value-requires returns-2)
+place-good-spec = tie.close (tie.spec returns (λ c κs. search needs) (λ c κs. search needs) (λ c κs. search needs) returns-2)

@@ -4,11 +4,8 @@ use borrow.Author.Needs.{needs}
 use Rattle.message.proofs.fields.prefix.Statement.{statement}
 use Rattle.message.proofs.fields.prefix.Tie as tie
 
-prefix-limit-requires : tie.Need-prefix-limit-requires
-prefix-limit-requires c κs = search needs
-
 returns : tie.Need-returns
 returns c = rw (c .prefix-limit .ensures)
 
 pub prefix-spec : {M : Type 1} → statement M
-prefix-spec = tie.close (tie.spec prefix-limit-requires returns)
+prefix-spec = tie.close (tie.spec (λ c κs. search needs) returns)

@@ -23,25 +23,13 @@ held : (c : tie.Else3) → let a = c .before .before .before .before .before .be
     (directionGood (a .n) (a .kind) (a .m .sender) (a .m .receiver) && filledTo (carriedOf (a .kind) (a .m) .stamps) (a .sizes) (a .m .stamp) && filledTo (carriedOf (a .kind) (a .m) .values) (a .sizes) (a .m .values)) ≡ true
 held c = rw (directed (c .before .before .before .before .before .before .before), stamped (c .before .before .before)) (valued c)
 
-direction-good-requires : tie.Need-direction-good-requires
-direction-good-requires c κs = search needs
-
 returns : tie.Need-returns
 unfolding wellFormed
 returns c = rw (sym (c .before .direction-good .ensures) ∙ not-true _ (c .if1 .taken))
 
-carried-requires : tie.Need-carried-requires
-carried-requires c κs = search needs
-
-filled-to-requires : tie.Need-filled-to-requires
-filled-to-requires c κs = search needs
-
 returns-2 : tie.Need-returns-2
 unfolding wellFormed
 returns-2 c = rw (directed (c .before .before .before .before), ← c .before .before .before .carried .ensures, sym (c .before .filled-to .ensures) ∙ not-true _ (c .if2 .taken))
-
-filled-to-requires-2 : tie.Need-filled-to-requires-2
-filled-to-requires-2 c κs = search needs
 
 returns-3 : tie.Need-returns-3
 unfolding wellFormed
@@ -51,9 +39,6 @@ returns-4 : tie.Need-returns-4
 unfolding wellFormed
 returns-4 c = rw (held (c .before .before .before), ← c .before .before .before .before .before .before .before .before .before .carried .ensures, lt-leb _ _ (c .if4 .taken))
 
-bound-fits-requires : tie.Need-bound-fits-requires
-bound-fits-requires c κs = search needs
-
 returns-5 : tie.Need-returns-5
 unfolding wellFormed
 returns-5 c = rw (held (c .before .before .before .before .before), ← c .before .before .before .before .before .before .before .before .before .before .before .carried .ensures, le-leb _ _ (c .before .before .if4 .left)) (c .bound-fits .ensures)
@@ -61,14 +46,5 @@ returns-5 c = rw (held (c .before .before .before .before .before), ← c .befor
 pub well-formed-spec : {M : Type 1} → statement M
 well-formed-spec =
     tie.close
-    (tie.spec
-    direction-good-requires
-    returns
-    carried-requires
-    filled-to-requires
-    returns-2
-    filled-to-requires-2
-    returns-3
-    returns-4
-    bound-fits-requires
-    returns-5)
+    (tie.spec (λ c κs. search needs) returns (λ c κs. search needs) (λ c κs. search needs) returns-2 (λ c κs. search needs) returns-3
+    returns-4 (λ c κs. search needs) returns-5)

@@ -1,6 +1,7 @@
 -- `own_cost` meets its contract: the value's costs are taken at the unit's place, and no value costs nothing.
 -- Assumes nothing.
-use Rattle.unit.proofs.Lent.{place-lent, no-value-no-cost}
+use mathlib.Core.Path.{_∙_}
+use Rattle.unit.proofs.Lent.{own-cost-lent, no-value-no-cost}
 use borrow.Author.Needs.{needs}
 use Rattle.unit.proofs.state.own_cost.Statement.{statement}
 use Rattle.unit.proofs.state.own_cost.Tie as tie
@@ -9,7 +10,7 @@ returns : tie.Need-returns
 returns c = let a = c .before .before .before .before .args in no-value-no-cost (a .seat) (a .costs .now) (a .u) (c .if1 .taken)
 
 returns-2 : tie.Need-returns-2
-returns-2 c = let a = c .before .before .before .before .before .args in cc (place-lent (a .seat) (a .costs .now))
+returns-2 c = let a = c .before .before .before .before .before .args in c .cost-with .ensures ∙ own-cost-lent (a .seat) (a .costs .now) (a .u)
 
 pub own-cost-spec : {M : Type 1} → statement M
 own-cost-spec = tie.close (tie.spec (λ c. search needs) (λ c. search needs) (λ c. search needs) returns (λ c κs. search needs) returns-2)
