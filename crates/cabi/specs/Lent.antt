@@ -1,7 +1,7 @@
 -- A unit's state, and a network, as C lends them: the flag `stopped` is a byte there, and any byte can stand in it. One that is neither 0
 -- nor 1 makes the state one out of range: refusal 5, at its place in the order of step and delivery.
 --     unitFrom, unitBack            a lent state read, and what stands there after the call
---     networkFrom, networkBack      the same of a network
+--     networkFrom, answerBack       the same of a network
 -- Lent/Laws shows that such a state is out of range, and that what a call leaves alone comes back as lent. Assumes nothing.
 use Rattle.base.specs.Library.{ℕ, zero, suc, Bool, cond, List, [], _∷_, _++_, leb, eqb, getD, replicate}
 use Rattle.unit.specs.{declared.Unit.Unit, declared.Outcome.Outcome, State.unit, State.emptyUnit}
@@ -55,8 +55,7 @@ unitsBack ss us = upTo 16 (λ (k : ℕ). unitBack (getD ss k emptyLent) (getD us
 abbrev pub networkFrom : LentNetwork → Network
 networkFrom s = record { core = record { units = unitsFrom (s .core .units); records = s .core .records; deliveries = s .core .deliveries }; used = s .used }
 
-abbrev pub networkBack : LentNetwork → Network → LentNetwork
-networkBack s t = record { core = record { units = unitsBack (s .core .units) (t .core .units); records = t .core .records; deliveries = t .core .deliveries }; used = t .used }
-
 abbrev pub answerBack : LentNetwork → Answer → LentAnswer
-answerBack s a = record { refusal = a .refusal; network = networkBack s (a .network) }
+answerBack s a =
+    let t = a .network in
+    record { refusal = a .refusal; network = record { core = record { units = unitsBack (s .core .units) (t .core .units); records = t .core .records; deliveries = t .core .deliveries }; used = t .used } }

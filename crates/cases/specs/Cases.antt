@@ -12,10 +12,10 @@ use Rattle.base.specs.Limits.{streamSize}
 use Rattle.base.specs.Shape.{allInSixteen, shapeGood}
 use Rattle.checksum.specs.Sum.{sumOf}
 use Rattle.table.specs.Stream.{sumList, pairsIn, costsGood, streamRefusal}
-use Rattle.table.specs.Block.{allZero, blockRefusal, checkOf}
-use Rattle.table.specs.Written.{blockOf}
+use Rattle.table.specs.Block.{allZero, blockRefusal}
+use Rattle.table.specs.BlockLaws.{checkOf}
+use Rattle.table.specs.Written.{blockOf, fileFrom, fileOf}
 use Rattle.table.specs.File.{blocksRefusal, joined, streamOf, readRefusal}
-use Rattle.table.specs.Written.{fileFrom, fileOf}
 use Rattle.costs.specs.Instance.{Instance, viewOf, instanceOf}
 use Rattle.costs.specs.Bounds.{costWith, h, estimate, total}
 use Rattle.search.specs.Search.{searchRefusal, searchOf}

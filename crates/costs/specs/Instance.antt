@@ -29,13 +29,10 @@ viewOf I k = record { place = k; n = I .n; dom = I .dom; pair = λ j u v. cond (
 abbrev pub domIn : ℕ → List ℕ → ℕ → ℕ
 domIn n sizes k = getD (take n sizes) k 0
 
--- how many costs a table has before those of the pairs of unit i, and of the pair (i, j)
+-- how many costs a table has before those of the pair (i, j): those of the units before i, and of i with the units before j
 -- 01: "for pairs (1,2), (1,3) .. (n-1,n)"
-abbrev pub rowStart : (ℕ → ℕ) → ℕ → ℕ → ℕ
-rowStart dom n i = sumTo (λ a. dom a * sumFrom dom (suc a) (n - suc a)) i
-
 abbrev pub pairStart : (ℕ → ℕ) → ℕ → ℕ → ℕ → ℕ
-pairStart dom n i j = rowStart dom n i + dom i * sumFrom dom (suc i) (j - suc i)
+pairStart dom n i j = sumTo (λ a. dom a * sumFrom dom (suc a) (n - suc a)) i + dom i * sumFrom dom (suc i) (j - suc i)
 
 -- the place of a cost among those of its pair, 01: "by the value of the lower unit, then of the higher"
 abbrev pub inPair : ℕ → ℕ → ℕ → ℕ

@@ -37,16 +37,12 @@ unfoldable pub parseKind : ℕ → List ℕ → List ℕ → Message → Read �
 parseKind n sizes s m (Good k) = cond (restZero s && wellFormed n sizes k m) (record { answer = Good k; message = m }) (refused 9)
 parseKind n sizes s m (Refused r) = refused r
 
--- 01, refusal 10: "sender or receiver not 1 to n; in a step, message for another unit"
-abbrev pub addressedTo : ℕ → ℕ → Message → Bool
-addressedTo n own m = addressGood n m && eqb (m .receiver) own
-
--- 01: "5, 8, 10, 9", read by unit own
+-- 01: "5, 8, 10, 9", read by unit own; 10: "sender or receiver not 1 to n; in a step, message for another unit"
 unfoldable pub parseFor : ℕ → List ℕ → ℕ → List ℕ → Parsed
 parseFor n sizes own s =
     cond (not (shapeGood n sizes)) (refused 5)
     (cond (not (checkGood s)) (refused 8)
-    (cond (not (addressedTo n own (messageIn s))) (refused 10)
+    (cond (not (addressGood n (messageIn s) && eqb (messageIn s .receiver) own)) (refused 10)
     (parseKind n sizes s (messageIn s) (kindOf (getD s 0 0)))))
 
 -- read by any unit: by the one that byte 2 names

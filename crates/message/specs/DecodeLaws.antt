@@ -2,11 +2,11 @@
 -- By the definitions, test by test. Assumes nothing.
 use Prim.Native.Nat.{ℕ, _+_, _<_}
 use mathlib.Core.Path.{_≡_, refl, sym, _∙_}
-use mathlib.Core.Bool.{Bool, true, false}
+use mathlib.Core.Bool.{Bool, true, false, _&&_}
 use mathlib.Core.List.{List}
 use native.Mathlib.Omega.{arith}
 use borrow.Author.Tests.{leb-true, leb-false, eqb-true, ne-eqb}
-use lib.Dec.{leb}
+use lib.Dec.{leb, eqb}
 use lib.ListN.{length, getD}
 use Rattle.base.specs.Limits.{messageSize}
 use Rattle.base.specs.Put.{putAt}
@@ -19,7 +19,11 @@ use Rattle.message.specs.declared.Message.{Message}
 use Rattle.message.specs.Message.{kindOf, addressGood, wellFormed}
 use Rattle.message.specs.Encode.{encode, putRefusal, putInto}
 use Rattle.message.specs.EncodeLaws.{put-fits, put-short}
-use Rattle.message.specs.Decode.{messageIn, checkGood, restZero, addressedTo, refused, parseKind, parseFor, writeRefusal, packetInto}
+use Rattle.message.specs.Decode.{messageIn, checkGood, restZero, refused, parseKind, parseFor, writeRefusal, packetInto}
+
+-- check 10
+abbrev pub addressedTo : ℕ → ℕ → Message → Bool
+addressedTo n own m = addressGood n m && eqb (m .receiver) own
 
 -- ------------------------------------------------------------------------------------------------------------------
 -- Reading.

@@ -3,7 +3,7 @@
 --     bound-by, bound-parts, not-none-is, no-bound-by, blank-filled     a bound with its best assignment
 --     address-by, addressed; formed-by, formed     checks 10 and 9 from their parts, and their parts
 -- Assumes nothing.
-use Prim.Native.Nat.{ℕ, _≤_, _<_}
+use Prim.Native.Nat.{ℕ, _-_, _≤_, _<_}
 use mathlib.Core.Path.{_≡_, refl}
 use mathlib.Core.Bool.{Bool, true, false, cond, _&&_}
 use mathlib.Core.List.{List}
@@ -18,6 +18,10 @@ use Rattle.base.specs.Shape.Laws.{and-left, and-right, value-range, range-value
 use Rattle.message.specs.declared.Kind.{Kind}
 use Rattle.message.specs.declared.Message.{Message}
 use Rattle.message.specs.Message.{placeAt, filledTo, boundGood, noneOrBound, noBound, carriedOf, boundFits, directionGood, isUnit, addressGood, wellFormed}
+
+-- how many units of a CPA are filled
+abbrev pub cpaCount : ℕ → ℕ → ℕ
+cpaCount s r = cond (ltb s r) (r - 1) r
 
 -- ------------------------------------------------------------------------------------------------------------------
 -- `filledTo`, place by place.

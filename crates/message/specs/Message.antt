@@ -57,18 +57,15 @@ noneOrBound n sizes bound best = cond (eqb bound NONE) (filledTo 0 sizes best) (
 unfoldable pub noBound : List ℕ → ℕ → List ℕ → Bool
 noBound sizes bound best = eqb bound 0 && filledTo 0 sizes best
 
--- 01: "units 1 to receiver - 1, or 1 to receiver going back, are filled"
-abbrev pub cpaCount : ℕ → ℕ → ℕ
-cpaCount s r = cond (ltb s r) (r - 1) r
-
 -- units 1 to k filled, in stamp and values, at the cost that they can have
 abbrev pub prefixOf : ℕ → Carried
 prefixOf k = record { stamps = k; values = k; cost = prefixLimit k }
 
--- what a kind carries besides a bound. 01: copy: "units 1 to sender filled"; estimate: "stamp filled for units 1 to receiver, cost is
+-- what a kind carries besides a bound. 01: paper: "units 1 to receiver - 1, or 1 to receiver going back, are filled"; copy: "units 1 to
+-- sender filled"; estimate: "stamp filled for units 1 to receiver, cost is
 -- the estimate, all else zero"; news and stop: "only bound and best"
 abbrev pub carriedOf : Kind → Message → Carried
-carriedOf Cpa m = prefixOf (cpaCount (m .sender) (m .receiver))
+carriedOf Cpa m = prefixOf (cond (ltb (m .sender) (m .receiver)) (m .receiver - 1) (m .receiver))
 carriedOf Request m = prefixOf (m .sender)
 carriedOf Estimate m = record { stamps = m .receiver; values = 0; cost = estimateLimit }
 carriedOf Solution m = prefixOf 0

@@ -17,8 +17,8 @@ use borrow.Author.Tests.{eq-eqb, ne-eqb, eqb-true, eqb-false, ltb-true, ltb-fals
 use lib.Dec.{ltb, leb, eqb}
 use lib.ListN.{length, take, drop, getD, set, length-append, length-take, length-drop, length-set}
 use lib.Seq.{take-at, drop-at, take-all, take-add, take-set-lt, take-set-le, length-take-le, getD-take, getD-append-add, getD-set-same, getD-set-other}
-use Rattle.base.specs.Bytes.{AllBytes, u16At, u32At, le16, le32}
-use Rattle.base.specs.Bytes.Laws.{u16-of-le16, u32-of-le32, four-bytes, le16-again, le32-again}
+use Rattle.base.specs.Bytes.{u16At, u32At, le16, le32}
+use Rattle.base.specs.Bytes.Laws.{AllBytes, u16-of-le16, u32-of-le32, four-bytes, le16-again, le32-again}
 use Rattle.base.specs.Limits.{messageSize}
 use Rattle.base.specs.Shape.{shapeGood}
 use Rattle.base.specs.Shape.Laws.{and-left, and-right}
@@ -36,8 +36,8 @@ use Rattle.message.specs.Message.{kindCode, kindOf, noMessage, addressGo
 use Rattle.message.specs.Sized.{Sized}
 use Rattle.message.specs.Encode.{body, encode, putRefusal}
 use Rattle.message.specs.EncodeLaws.{head, length-body, length-encode}
-use Rattle.message.specs.Decode.{messageIn, checkGood, restZero, addressedTo, parseKind, parseFor, parseOf, refused, writeRefusal, packetInto}
-use Rattle.message.specs.DecodeLaws.{check-length, parse-5, parse-8, parse-10, parse-on, kind-refused, kind-rest, kind-unfit, kind-good, write-done}
+use Rattle.message.specs.Decode.{messageIn, checkGood, restZero, parseKind, parseFor, parseOf, refused, writeRefusal, packetInto}
+use Rattle.message.specs.DecodeLaws.{addressedTo, check-length, parse-5, parse-8, parse-10, parse-on, kind-refused, kind-rest, kind-unfit, kind-good, write-done}
 
 -- ------------------------------------------------------------------------------------------------------------------
 -- Fields in bytes.

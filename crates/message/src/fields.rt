@@ -9,7 +9,8 @@ ghost use mathlib.Core.Bool.{cond, _||_};
 ghost use lib.Dec.{eqb};
 ghost use Rattle.base.specs.Limits.{prefixLimit};
 ghost use Rattle.base.specs.Shape.{isValue};
-ghost use Rattle.message.specs.Message.{filledTo, boundGood, noneOrBound, noBound, cpaCount, prefixOf, carriedOf, boundFits, fromTo, directionGood, isUnit, addressGood, wellFormed};
+ghost use Rattle.message.specs.Message.{filledTo, boundGood, noneOrBound, noBound, prefixOf, carriedOf, boundFits, fromTo, directionGood, isUnit, addressGood, wellFormed};
+ghost use Rattle.message.specs.Laws.{cpaCount};
 
 // Check 10: sender and receiver are units.
 pub fn address_good(n: u8, m: Message) -> bool

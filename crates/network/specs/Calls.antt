@@ -7,7 +7,7 @@ use Rattle.costs.specs.{Instance.viewOf, Instance.instanceOf, Gather.sizesIn}
 use Rattle.message.specs.{Message.isUnit, Decode.parseFor}
 use Rattle.unit.specs.{declared.Unit.Unit, State.noUnit, State.fresh, State.inRange, Send.packets, Send.laid, Calls.unlessRefused, Calls.onRead, Units.unitAt}
 use Rattle.unit.specs.Step.{Decision, refused, accepted, assign}
-use Rattle.network.specs.{declared.Core.Core, declared.Network.Network, declared.Answer.Answer, Count.zeroCount, Count.plus, Pool.cellOf, Pool.poolAfter}
+use Rattle.network.specs.{declared.Network.Network, declared.Answer.Answer, Count.zeroCount, Count.plus, Pool.cellOf, Pool.poolAfter}
 
 -- what a call gives: the answer, and the bytes of the lent pool
 pub record Result : Type 0 where
@@ -69,13 +69,10 @@ stepFrom8 stream units own bytes =
 abbrev pub refusedDelivery : Network → List ℕ → ℕ → Result
 refusedDelivery net pool r = record { answer = record { refusal = r; network = net }; pool = pool }
 
--- the units and counts once unit `own` has stepped
-abbrev pub coreAfter : Core → ℕ → Unit → ℕ → Core
-coreAfter core own u records = record { units = set (core .units) (pred own) u; records = plus records (core .records); deliveries = plus 1 (core .deliveries) }
-
--- the network, once it has sent so many
+-- the network once unit `own` has stepped, sent so many messages and written so many records
 abbrev pub stepped : Network → ℕ → Unit → ℕ → ℕ → Network
-stepped net own u sent records = record { core = coreAfter (net .core) own u records; used = net .used - 1 + sent }
+stepped net own u sent records =
+    record { core = record { units = set (net .core .units) (pred own) u; records = plus records (net .core .records); deliveries = plus 1 (net .core .deliveries) }; used = net .used - 1 + sent }
 
 abbrev pub onOut : Network → List ℕ → ℕ → ℕ → ℕ → Decision → Result
 onOut net pool cell n own (refused r) = refusedDelivery net pool r

@@ -31,7 +31,7 @@ use Rattle.message.specs.Decode.{parseFor}
 use Rattle.base.specs.Every.{every}
 use Rattle.base.specs.Every.Laws.{every-at}
 use Rattle.message.specs.Message.{Packet, isUnit}
-use Rattle.base.specs.Bytes.{AllBytes}
+use Rattle.base.specs.Bytes.Laws.{AllBytes}
 use Rattle.unit.specs.declared.Unit.{Unit as UnitState}
 use Rattle.unit.specs.declared.Outcome.{Outcome}
 use Rattle.unit.specs.State.{noUnit, fresh, paidInRange, inRange}
@@ -51,8 +51,7 @@ use Rattle.network.specs.declared.Network.{Network}
 use Rattle.network.specs.declared.Answer.{Answer}
 use Rattle.network.specs.Count.{zeroCount, plus}
 use Rattle.network.specs.Pool.{cellOf, poolAfter}
-use Rattle.network.specs.Pool.Laws.{closeGap}
-use Rattle.network.specs.Pool.Laws.{sent-front, pool-stored}
+use Rattle.network.specs.Pool.Laws.{closeGap, sent-front, pool-stored}
 use Rattle.network.specs.Calls.{Result, noNetwork, made, makeRefusal, makeOf, networkInRange, networkRefusal, deliverRefusal, receiverOf, stepFrom8, stepped, refusedDelivery, onOut, deliverBy, deliverOf}
 use Rattle.network.specs.Pool.Stored.{encode-all-length}
 

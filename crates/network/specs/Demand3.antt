@@ -84,10 +84,6 @@ unfoldable pub times : (Packet → Bool) → List Packet → ℕ
 times t [] = 0
 times t (p ∷ ps) = cond (t p) 1 0 + times t ps
 
--- the bytes of a packet
-abbrev pub packetBytes : Packet → List ℕ
-packetBytes p = encode (p .kind) (p .message)
-
 -- 12 after the stop, 14 or 15
 abbrev pub Honest : Bool → ℕ → Type 0
 Honest ended r = ((r ≡ 12) × (ended ≡ true)) ⊎ ((r ≡ 14) ⊎ (r ≡ 15))
@@ -121,7 +117,7 @@ pub record Served (stream pool cells : List ℕ) : Type 0 where
   -- what accepted deliveries handed over was sent, every message at most once
   pub handed : (t : Packet → Bool) → times t (run (instanceOf stream) cells .handed) + times t (run (instanceOf stream) cells .waiting) ≡ times t (run (instanceOf stream) cells .sent)
   -- these messages, in this order, are the bytes that were handed over
-  pub taken : handedIn stream (shedMade stream pool) cells ≡ map packetBytes (run (instanceOf stream) cells .handed)
+  pub taken : handedIn stream (shedMade stream pool) cells ≡ map (λ p. encode (p .kind) (p .message)) (run (instanceOf stream) cells .handed)
   -- the counts are exact
   pub records : valueOf (runBytes stream pool cells .network .core .records) ≡ length (written stream cells)
   pub deliveries : valueOf (runBytes stream pool cells .network .core .deliveries) ≡ acceptedIn stream (shedMade stream pool) cells

@@ -10,10 +10,6 @@ pub mod Stored
 abbrev pub cellOf : List ℕ → ℕ → List ℕ
 cellOf pool cell = take messageSize (drop (messageSize * cell) pool)
 
--- the cells behind one, up to those in use
-abbrev pub laterCells : List ℕ → ℕ → ℕ → List ℕ
-laterCells pool used cell = take (messageSize * (used - suc cell)) (drop (messageSize * suc cell) pool)
-
 -- 01: "closes the gap by moving later cells down one, and adds what the step sends at the end; bytes past the last cell then in use stay"
 unfoldable pub poolAfter : ℕ → ℕ → List Packet → List ℕ → List ℕ
-poolAfter used cell ps pool = take (messageSize * cell) pool ++ laterCells pool used cell ++ encodeAll ps ++ drop (messageSize * (used - 1 + length ps)) pool
+poolAfter used cell ps pool = take (messageSize * cell) pool ++ take (messageSize * (used - suc cell)) (drop (messageSize * suc cell) pool) ++ encodeAll ps ++ drop (messageSize * (used - 1 + length ps)) pool

@@ -1,12 +1,12 @@
 -- A network of units over messages: making, a delivery, and a run, fed only the table and the list of cells. No byte is met here.
 -- 01, 'Runs, for demand 3': "A run is a list of deliveries to a shed as making left it."
 --     Pool                           what a pool is: the message at a cell, what is left without it, and with others put in
---     HistoryOf, hand, deliverIn     what has happened so far; a packet handed to its unit; a delivery, over any pool
+--     HistoryOf, onOut, deliverIn    what has happened so far; a packet handed to its unit; a delivery, over any pool
 --     cells                          01's pool: the messages that wait, one after the other
 --     begin, handOver, run           making, one delivery, and a list of them, over 01's pool
 --     written                        the records that a run writes
 -- Assumes nothing.
-use Rattle.base.specs.Library.{ℕ, suc, Bool, true, false, cond, List, [], _∷_, _++_, Option, none, some, leb, length, set, take, drop, replicate}
+use Rattle.base.specs.Library.{ℕ, suc, Bool, cond, List, [], _∷_, _++_, Option, none, some, leb, length, set, take, drop, replicate}
 use Rattle.base.specs.Limits.{poolCells}
 use Rattle.costs.specs.Instance.{Instance, viewOf, instanceOf}
 use Rattle.message.specs.Message.{Packet}
@@ -54,9 +54,6 @@ module _ {W : Type 0} where
   onOut I H p put (refused r) = refusedBy r
   onOut I H p put (accepted u s ws) = ifFits H p u (packets (I .n) (placeOf p) s) ws (put (packets (I .n) (placeOf p) s))
 
-  abbrev pub hand : Instance → HistoryOf W → Packet → (List Packet → Option W) → DeliveryOf W
-  hand I H p put = onOut I H p put (stepOn I (H .units) p)
-
   -- 01: "A refused delivery stays in the list and changes nothing"
   abbrev pub onward : HistoryOf W → DeliveryOf W → HistoryOf W
   onward H (refusedBy r) = H
@@ -74,15 +71,11 @@ module _ {W : Type 0} (L : Pool W) where
   -- 01, refusal 15: "no message at that cell"
   abbrev pub takeCell : Instance → HistoryOf W → ℕ → Option Packet → DeliveryOf W
   takeCell I H cell none = refusedBy 15
-  takeCell I H cell (some p) = hand I H p (L .put (L .without (H .waiting) cell))
+  takeCell I H cell (some p) = onOut I H p (L .put (L .without (H .waiting) cell)) (stepOn I (H .units) p)
 
   -- 01, refusal 12: "(in the shed: unit 1) has stopped"
-  abbrev pub unlessStopped : Bool → Instance → HistoryOf W → ℕ → DeliveryOf W
-  unlessStopped true I H cell = refusedBy 12
-  unlessStopped false I H cell = takeCell I H cell (L .at (H .waiting) cell)
-
   abbrev pub deliverIn : Instance → HistoryOf W → ℕ → DeliveryOf W
-  deliverIn I H cell = unlessStopped (stopped H) I H cell
+  deliverIn I H cell = cond (stopped H) (refusedBy 12) (takeCell I H cell (L .at (H .waiting) cell))
 
 -- ---- 01's pool: "The pool is 1,024 cells"
 
@@ -102,14 +95,11 @@ cells = record {
 abbrev pub History : Type 0
 History = HistoryOf (List Packet)
 
-abbrev pub Delivery : Type 0
-Delivery = DeliveryOf (List Packet)
-
 -- 01: "Making unit 1 assigns"
 unfoldable pub begin : Instance → History
 begin I = begunWith cells I (assign (viewOf I 0) fresh)
 
-unfoldable pub handOver : Instance → History → ℕ → Delivery
+unfoldable pub handOver : Instance → History → ℕ → DeliveryOf (List Packet)
 handOver I H cell = deliverIn cells I H cell
 
 unfoldable pub runFrom : Instance → History → List ℕ → History

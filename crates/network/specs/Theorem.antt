@@ -18,6 +18,7 @@ use Rattle.table.specs.Stream.{Accepted}
 use Rattle.costs.specs.Instance.{instanceOf}
 use Rattle.costs.specs.Laws.{problemOf}
 use Rattle.costs.specs.Laws.Stream.{sound-of}
+use Rattle.message.specs.Message.{Packet}
 use Rattle.unit.specs.declared.Unit.{Unit as UnitState}
 use Rattle.unit.specs.Units.{unitAt}
 use Rattle.protocol.specs.Machine as M
@@ -30,10 +31,10 @@ use Rattle.protocol.specs.Simulation.Report.{Reports, reports}
 use Rattle.network.specs.Count.{valueOf}
 use Rattle.network.specs.Pool.{cellOf}
 use Rattle.network.specs.Run as R
-use Rattle.network.specs.Run.{History, Delivery, stopped, onward, handOver, runFrom, run}
+use Rattle.network.specs.Run.{History, DeliveryOf, stopped, onward, handOver, runFrom, run}
 use Rattle.network.specs.Calls.{deliverOf}
-use Rattle.network.specs.Demand3.{Shed, shedOf, shedMade, shedAfter, deliverAll, runBytes, refusalAt, acceptedIn, handedIn, Made, over, reportOf, most, packetBytes, Honest, Served, Demand3}
-use Rattle.network.specs.Proof.Core.{laws}
+use Rattle.network.specs.Demand3.{Shed, shedOf, shedMade, shedAfter, deliverAll, runBytes, refusalAt, acceptedIn, handedIn, Made, over, reportOf, most, Honest, Served, Demand3}
+use Rattle.network.specs.Proof.Core.{packetBytes, laws}
 use Rattle.network.specs.Proof.Invariant.{Invariant}
 use Rattle.network.specs.Proof.Making.{none-handed, accepted-table, make-invariant}
 use Rattle.network.specs.Proof.Delivery.{numberOf, HonestDelivery, Delivers, after-stop, delivers}
@@ -114,7 +115,7 @@ module _ (s pool : List ℕ) (made : Made s pool) where
       (subst (λ (u : UnitState). (numberOf (handOver (instanceOf s) (run (instanceOf s) cs) c) ≡ 0) ⊎ Honest (u .stopped) (numberOf (handOver (instanceOf s) (run (instanceOf s) cs) c))) (sym (unit-is cs))
       (go (handOver (instanceOf s) (run (instanceOf s) cs) c) (next cs c .honest)))
     where
-      go : (d : Delivery) → HonestDelivery (run (instanceOf s) cs) d → (numberOf d ≡ 0) ⊎ Honest (stopped (run (instanceOf s) cs)) (numberOf d)
+      go : (d : DeliveryOf (List Packet)) → HonestDelivery (run (instanceOf s) cs) d → (numberOf d ≡ 0) ⊎ Honest (stopped (run (instanceOf s) cs)) (numberOf d)
       go (R.refusedBy r) h = inr h
       go (R.delivered K) h = inl refl
 
@@ -122,7 +123,7 @@ module _ (s pool : List ℕ) (made : Made s pool) where
   accepted-by : (cs : List ℕ) (c : ℕ) → M.deliver (problemOf (instanceOf s)) poolCells (machine cs) c .accepted ≡ suc (machine cs .accepted) → refusalAt s (runBytes s pool cs) c ≡ 0
   accepted-by cs c a = go (handOver (instanceOf s) (run (instanceOf s) cs) c) (next cs c)
     where
-      go : (d : Delivery) → Delivers s ok (runBytes s pool cs) (run (instanceOf s) cs) (machine cs) (invariant cs) c d (deliverOf (runBytes s pool cs .network) s (runBytes s pool cs .pool) c)
+      go : (d : DeliveryOf (List Packet)) → Delivers s ok (runBytes s pool cs) (run (instanceOf s) cs) (machine cs) (invariant cs) c d (deliverOf (runBytes s pool cs .network) s (runBytes s pool cs .pool) c)
           → refusalAt s (runBytes s pool cs) c ≡ 0
       go (R.refusedBy r) x = absurd (omega (arith, a, invariant cs .accepted, x .next .accepted))
       go (R.delivered K) x = x .number

@@ -15,7 +15,7 @@ ghost use lib.ListN.{length, getD};
 ghost use Rattle.base.specs.Limits.{poolCells, sendingSize};
 ghost use Rattle.table.specs.Stream.{unitsOf, Accepted};
 ghost use Rattle.base.specs.Every.{every};
-ghost use Rattle.base.specs.Bytes.{AllBytes};
+ghost use Rattle.base.specs.Bytes.Laws.{AllBytes};
 ghost use Rattle.costs.specs.Instance.{viewOf, instanceOf};
 ghost use Rattle.costs.specs.Bounds.{costWith};
 ghost use Rattle.unit.specs.State.{paidInRange};

@@ -7,17 +7,28 @@ use mathlib.Core.Bool.{Bool, true, false, cond}
 use mathlib.Core.List.{List}
 use native.Mathlib.Omega.{arith}
 use lib.Dec.{eqb, ltb}
+use lib.ListN.{replicate}
 use borrow.Author.Tests.{ltb-false, eq-eqb, ne-eqb, eqb-true, eqb-false}
 use Rattle.base.specs.Limits.{searchLimit}
 use Rattle.table.specs.Stream.{streamRefusal, Accepted}
 use Rattle.costs.specs.Instance.{instanceOf}
 use Rattle.costs.specs.Bounds.{total}
 use Rattle.costs.specs.Laws.Stream.{sound-of}
-use Rattle.search.specs.Search.{assignmentCount, searchRefusal, refusedBy, foundBest, searchOf}
+use Rattle.search.specs.declared.Best.{Best}
+use Rattle.search.specs.declared.Found.{Found}
+use Rattle.search.specs.Search.{assignmentCount, searchRefusal, searchOf}
 use Rattle.search.specs.Best.{bestOf}
 use Rattle.search.specs.Least.{LeastFirst, Padded}
 use Rattle.search.specs.Least.Order.{least-unique, first-unique}
 use Rattle.search.specs.Least.Picked.{best-least-first, best-of-padded}
+
+-- ---- the two answers
+
+abbrev pub refusedBy : ℕ → Found
+refusedBy k = record { refusal = k; total = 0; values = replicate 16 0 }
+
+abbrev pub foundBest : Best → Found
+foundBest b = record { refusal = 0; total = b .total; values = b .values }
 
 -- ---- the refusal
 

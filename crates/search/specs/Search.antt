@@ -4,7 +4,7 @@ use Rattle.base.specs.Library.{ℕ, cond, List, ltb, eqb, replicate}
 use Rattle.base.specs.Limits.{searchLimit}
 use Rattle.table.specs.Stream.{streamRefusal}
 use Rattle.costs.specs.{Instance.Instance, Instance.instanceOf, Bounds.prefixCount}
-use Rattle.search.specs.{declared.Best.Best, declared.Found.Found, Best.bestOf}
+use Rattle.search.specs.{declared.Found.Found, Best.bestOf}
 
 -- how many assignments there are
 abbrev pub assignmentCount : Instance → ℕ
@@ -14,11 +14,7 @@ assignmentCount I = prefixCount (I .dom) (I .n)
 unfoldable pub searchRefusal : List ℕ → ℕ
 searchRefusal s = cond (eqb (streamRefusal s) 0) (cond (ltb searchLimit (assignmentCount (instanceOf s))) 16 0) (streamRefusal s)
 
-abbrev pub refusedBy : ℕ → Found
-refusedBy k = record { refusal = k; total = 0; values = replicate 16 0 }
-
-abbrev pub foundBest : Best → Found
-foundBest b = record { refusal = 0; total = b .total; values = b .values }
-
 unfoldable pub searchOf : List ℕ → Found
-searchOf s = cond (eqb (searchRefusal s) 0) (foundBest (bestOf (instanceOf s))) (refusedBy (searchRefusal s))
+searchOf s =
+    let best = bestOf (instanceOf s) in
+    cond (eqb (searchRefusal s) 0) (record { refusal = 0; total = best .total; values = best .values }) (record { refusal = searchRefusal s; total = 0; values = replicate 16 0 })

@@ -6,9 +6,6 @@ use Rattle.checksum.specs.Sum.{sumOf}
 
 -- ---- the fields
 
-abbrev pub blockNumber : List ℕ → ℕ
-blockNumber b = u16At b 0
-
 abbrev pub payloadCount : List ℕ → ℕ
 payloadCount b = u16At b 2
 
@@ -18,9 +15,6 @@ payloadOf b = take (payloadCount b) (drop 4 b)
 -- the payload bytes after the count
 abbrev pub unusedOf : List ℕ → List ℕ
 unusedOf b = drop (4 + payloadCount b) (take checkedSize b)
-
-abbrev pub checkOf : List ℕ → ℕ
-checkOf b = u16At b checkedSize
 
 -- ---- read
 
@@ -37,8 +31,8 @@ allZero (x ∷ l) = eqb x 0 && allZero l
 unfoldable pub blockRefusal : ℕ → Bool → List ℕ → ℕ
 blockRefusal number last b =
     cond (eqb (length b) blockSize)
-    (cond (eqb (checkOf b) (sumOf (take checkedSize b)))
-    (cond (eqb (blockNumber b) number) (cond (countGood last (payloadCount b) && allZero (unusedOf b)) 0 3) 2)
+    (cond (eqb (u16At b checkedSize) (sumOf (take checkedSize b)))
+    (cond (eqb (u16At b 0) number) (cond (countGood last (payloadCount b) && allZero (unusedOf b)) 0 3) 2)
     4)
     1
 

@@ -13,15 +13,22 @@ use lib.ListN.{length, getD, take, drop, replicate, length-take, length-drop, le
 use lib.Seq.{drop-cons, length-take-le, getD-take, take-add, take-all, take-take, take-at, drop-at, drop-drop, getD-append-add}
 use borrow.Author.Tests.{eqb-true, leb-true, eq-eqb, ne-eqb}
 use Rattle.base.specs.Limits.{blockSize, payloadSize, checkedSize}
-use Rattle.base.specs.Bytes.{u16At, le16, AllBytes}
-use Rattle.base.specs.Bytes.Laws.{u16-of-le16, le16-again}
+use Rattle.base.specs.Bytes.{u16At, le16}
+use Rattle.base.specs.Bytes.Laws.{AllBytes, u16-of-le16, le16-again}
 use Rattle.base.specs.Shape.Laws.{and-left, and-right}
 use Rattle.checksum.specs.Sum.{sumOf}
 use Rattle.checksum.specs.Sum.Laws.{sum-small}
 use Rattle.base.specs.Put.{putAt}
 use Rattle.base.specs.Put.Laws.{put-next}
-use Rattle.table.specs.Block.{blockNumber, payloadCount, payloadOf, unusedOf, checkOf, countGood, allZero, blockRefusal, readBlockOf}
+use Rattle.table.specs.Block.{payloadCount, payloadOf, unusedOf, countGood, allZero, blockRefusal, readBlockOf}
 use Rattle.table.specs.Written.{bodyOf, blockOf}
+
+-- the number and the check that a block says
+abbrev pub blockNumber : List ℕ → ℕ
+blockNumber b = u16At b 0
+
+abbrev pub checkOf : List ℕ → ℕ
+checkOf b = u16At b checkedSize
 
 -- ---- unused bytes: a turn of a loop from place i to place m, and its end
 

@@ -1,6 +1,6 @@
 -- A stored table whole: the stream of a file, the file of a stream, and what reading and writing give.
 -- Document 01, "Stored table" and "Refusals". The facts about these are in FileLaws and RoundTrip. Assumes nothing.
-use Rattle.base.specs.Library.{ℕ, zero, suc, _*_, _/_, _%_, Bool, cond, _&&_, not, List, [], _++_, _≡_, eqb, leb, ltb, length, take, drop}
+use Rattle.base.specs.Library.{ℕ, zero, suc, _*_, _/_, _%_, Bool, cond, _&&_, not, List, [], _++_, eqb, leb, ltb, length, take, drop}
 use Rattle.base.specs.{declared.Length.Length, Limits.blockSize, Limits.fileSize, Limits.streamSize, Refusal.orElse}
 use Rattle.table.specs.{Stream.streamRefusal, Block.blockRefusal, Block.payloadOf, Block.blocksFor, Written.fileOf}
 
@@ -44,10 +44,6 @@ readOf f room = answer (readRefusal f room) (length (streamOf f))
 
 unfoldable pub readInto : List ℕ → List ℕ → List ℕ
 readInto f out = leaves (readRefusal f (length out)) (streamOf f) out
-
--- the file passes 1, 4, 2, 3, 5, 6, 7
-unfoldable pub AcceptedFile : List ℕ → Type 0
-AcceptedFile f = readRefusal f streamSize ≡ 0
 
 -- ---- written
 

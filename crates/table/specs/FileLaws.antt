@@ -22,12 +22,10 @@ use Rattle.base.specs.Refusal.{orElse}
 use Rattle.base.specs.Refusal.Laws.{or-left, or-right, or-first}
 use Rattle.table.specs.Stream.{costsGood, streamRefusal, Accepted}
 use Rattle.table.specs.StreamLaws.{costs-same, accepted-most}
-use Rattle.table.specs.Block.{payloadCount, payloadOf, blockRefusal, readBlockOf}
-use Rattle.table.specs.Written.{blockOf}
+use Rattle.table.specs.Block.{payloadCount, payloadOf, blockRefusal, readBlockOf, blocksFor}
+use Rattle.table.specs.Written.{blockOf, fileFrom, fileOf}
 use Rattle.table.specs.BlockLaws.{block-count, block-most, block-payload-length, read-accepted, written-size}
 use Rattle.table.specs.File.{answer, leaves, sizeGood, blocksRefusal, joined, streamOf, readRefusal, storeRefusal}
-use Rattle.table.specs.Block.{blocksFor}
-use Rattle.table.specs.Written.{fileFrom, fileOf}
 use Rattle.table.specs.View.{placeInFile, Viewed}
 
 -- ---- a turn of a loop over m blocks, at block k, and its end: w is what all of them give

@@ -13,18 +13,19 @@ use lib.ListN.{length, take, drop, length-take, length-drop, length-append, take
 use lib.Seq.{take-at, drop-at, take-all}
 use borrow.Author.Tests.{leb-true, eq-eqb, ne-eqb, le-leb}
 use Rattle.base.specs.Limits.{fileSize, streamSize, blockSize, payloadSize}
-use Rattle.base.specs.Bytes.{AllBytes}
-use Rattle.base.specs.Bytes.Laws.{bytes-take, bytes-drop}
+use Rattle.base.specs.Bytes.Laws.{AllBytes, bytes-take, bytes-drop}
 use Rattle.base.specs.Shape.Laws.{and-left}
 use Rattle.table.specs.Stream.{streamRefusal, Accepted}
 use Rattle.table.specs.StreamLaws.{accepted-most, accepted-length}
-use Rattle.table.specs.Block.{payloadCount, payloadOf, countGood}
-use Rattle.table.specs.Written.{blockOf}
+use Rattle.table.specs.Block.{payloadCount, payloadOf, countGood, blocksFor}
+use Rattle.table.specs.Written.{blockOf, fileFrom, fileOf}
 use Rattle.table.specs.BlockLaws.{block-count, block-most, block-payload-length, written-good, written-payload, written-again}
-use Rattle.table.specs.File.{answer, leaves, sizeGood, blocksRefusal, joined, streamOf, readRefusal, readOf, readInto, AcceptedFile, storeRefusal, storeOf, storeInto}
-use Rattle.table.specs.Block.{blocksFor}
-use Rattle.table.specs.Written.{fileFrom, fileOf}
+use Rattle.table.specs.File.{answer, leaves, sizeGood, blocksRefusal, joined, streamOf, readRefusal, readOf, readInto, storeRefusal, storeOf, storeInto}
 use Rattle.table.specs.FileLaws.{first-good, rest-good, full, good-size, block-long, written-length, take-most, read-size, read-blocks, read-stream, by-stream, gives-accepted, write-accepted, write-stream}
+
+-- the file passes 1, 4, 2, 3, 5, 6, 7
+unfoldable pub AcceptedFile : List ℕ → Type 0
+AcceptedFile f = readRefusal f streamSize ≡ 0
 
 -- the file that a writing of s left in a lent buffer, and the stream that a reading of f left: as many bytes as it said
 abbrev pub fileLeft : List ℕ → List ℕ → List ℕ

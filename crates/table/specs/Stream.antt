@@ -19,10 +19,6 @@ unfoldable pub pairsIn : List ℕ → ℕ
 pairsIn [] = 0
 pairsIn (d ∷ ds) = d * sumList ds + pairsIn ds
 
--- how many bytes n and the sizes need
-abbrev pub needed : List ℕ → ℕ
-needed s = 1 + unitsOf s + 2 * pairsIn (sizesOf s)
-
 -- 01: "the costs as 16-bit numbers": the m that stand in s from byte k on are within the limit
 unfoldable pub costsGood : List ℕ → ℕ → ℕ → Bool
 costsGood s k zero = true
@@ -33,7 +29,7 @@ unfoldable pub streamRefusal : List ℕ → ℕ
 streamRefusal s =
     cond (eqb (length s) 0) 6
     (cond (shapeGood (unitsOf s) (drop 1 s))
-    (cond (eqb (length s) (needed s)) (cond (costsGood s (1 + unitsOf s) (pairsIn (sizesOf s))) 0 7) 6)
+    (cond (eqb (length s) (1 + unitsOf s + 2 * pairsIn (sizesOf s))) (cond (costsGood s (1 + unitsOf s) (pairsIn (sizesOf s))) 0 7) 6)
     5)
 
 -- the stream passes 5, 6 and 7

@@ -15,9 +15,9 @@ use borrow.Author.Tests.{eqb-true, leb-true, eq-eqb, ne-eqb, le-leb, lt-leb}
 use Rattle.base.specs.Limits.{pairLimit, streamSize}
 use Rattle.base.specs.Bytes.{u16At}
 use Rattle.base.specs.Bytes.Laws.{u16-past}
-use Rattle.base.specs.Shape.{inSixteen, allInSixteen, shapeGood}
-use Rattle.base.specs.Shape.Laws.{and-left, and-right, in-range, shape-n, shape-size, all-step, all-none}
-use Rattle.table.specs.Stream.{unitsOf, sizesOf, sumList, pairsIn, needed, costsGood, streamRefusal, Accepted}
+use Rattle.base.specs.Shape.{allInSixteen, shapeGood}
+use Rattle.base.specs.Shape.Laws.{inSixteen, and-left, and-right, in-range, shape-n, shape-size, all-step, all-none}
+use Rattle.table.specs.Stream.{unitsOf, sizesOf, sumList, pairsIn, costsGood, streamRefusal, Accepted}
 
 -- ---- how pairsIn and costsGood grow
 
@@ -56,6 +56,10 @@ pairs-most (x ∷ l) e =
     let p : x * sumList l ≤ 16 * (16 * length l) = mul-le-mul h (sum-most l g) in
     let q : suc (length l) * suc (length l) ≡ length l * length l + 2 * length l + 1 = simp (suc-mul, mul-suc) (omega arith) in
     rw q (omega arith)
+
+-- how many bytes n and the sizes need
+abbrev pub needed : List ℕ → ℕ
+needed s = 1 + unitsOf s + 2 * pairsIn (sizesOf s)
 
 -- cost number k of a stream, from 0
 abbrev pub streamCost : List ℕ → ℕ → ℕ

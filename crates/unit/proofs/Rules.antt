@@ -18,7 +18,8 @@ use Rattle.unit.specs.declared.Unit.{Unit}
 use Rattle.unit.specs.declared.Ordering.{Ordering}
 use Rattle.unit.specs.declared.Ordering.the-variants.{Less, Equal, Greater}
 use Rattle.unit.specs.State.{zeros, withThreshold, withCpa, withCounter, withEstimates, ownValue, compareOn, sameOn, notLess}
-use Rattle.unit.specs.Step.{refused, quiet, takeLower, takeBound, bareCost, takeOff, backtrack, tryAfter, begun, assign, resume, onDown, isOut, isCpaOut, onOwn, onBack, onCpa, onFresh, onRequest, stored, sumLater, reachedByEstimates, onOwnEstimate, onTimely, onEstimate, byKind, unlessStopped, respond}
+use Rattle.unit.specs.Step.{refused, quiet, takeBound, bareCost, takeOff, backtrack, tryAfter, begun, assign, resume, onDown, isOut, isCpaOut, onBack, onCpa, onFresh, onRequest, onOwnEstimate, onTimely, onEstimate, byKind, respond}
+use Rattle.unit.specs.Tests.{stored, sumLater, onOwn, takeLower, reachedByEstimates, unlessStopped}
 use Rattle.unit.specs.Ready.{Ready, Heard}
 use Rattle.unit.proofs.Lent.{dom-lent, value-lent}
 

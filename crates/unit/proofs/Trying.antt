@@ -13,7 +13,8 @@ use Rattle.unit.specs.declared.Unit.{Unit}
 use Rattle.unit.specs.declared.Decided.{Decided}
 use Rattle.unit.specs.declared.Plan.the-variants.{Forward}
 use Rattle.unit.specs.State.{withBest}
-use Rattle.unit.specs.Step.{Decision, refused, accepted, Written, after, silent, carried, takeOff, write, recordOf, costAt, backtrack, tryAfter}
+use Rattle.unit.specs.Step.{Decision, refused, accepted, Written, after, carried, takeOff, write, recordOf, backtrack, tryAfter}
+use Rattle.unit.specs.Tests.{silent, costAt}
 use Rattle.unit.specs.Ready.{decidedOf}
 
 -- a decision as the code has it, after k records

@@ -9,7 +9,8 @@ use Rattle.costs.specs.declared.Seat.{Seat}
 use Rattle.message.specs.declared.Message.{Message}
 use Rattle.unit.specs.declared.Unit.{Unit}
 use Rattle.unit.specs.declared.Decided.{Decided}
-use Rattle.unit.specs.Step.{Decision, refused, accepted, silent}
+use Rattle.unit.specs.Step.{Decision, refused, accepted}
+use Rattle.unit.specs.Tests.{silent}
 
 -- a unit's number
 pub record Own (own : ℕ) : Type 0 where

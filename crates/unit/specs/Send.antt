@@ -32,10 +32,6 @@ unfoldable pub each : (ℕ → Packet) → ℕ → ℕ → List Packet
 each g lo zero = []
 each g lo (suc m) = g lo ∷ each g (suc lo) m
 
--- to every unit but the one at place k
-abbrev pub others : ℕ → ℕ → (ℕ → Packet) → List Packet
-others n k g = each g 0 k ++ each g (suc k) (n - suc k)
-
 -- 01: "Unit 1 stops and sends stop to all others; others send the paper to the unit before."
 abbrev pub handBack : ℕ → ℕ → Message → List Packet
 handBack n zero m = each (sentTo Stop (boundOnly m)) 1 (n - 1)
@@ -43,7 +39,7 @@ handBack n (suc k) m = sentTo Cpa m k ∷ []
 
 -- 01: "unit n sends one news, after its last improvement in a step, to all others"
 abbrev pub solutions : ℕ → ℕ → Bool → Message → List Packet
-solutions n k true m = others n k (sentTo Solution (boundOnly m))
+solutions n k true m = each (sentTo Solution (boundOnly m)) 0 k ++ each (sentTo Solution (boundOnly m)) (suc k) (n - suc k)
 solutions n k false m = []
 
 abbrev pub byPlan : ℕ → ℕ → Plan → Bool → Message → List Packet

@@ -5,7 +5,7 @@
 --     takeBound, takeOff, carried          small pieces
 --     assign, backtrack                    01: "Assign", "Back up"
 --     onCpa .. onStop, respond             01: "Paper", "Copy", "Estimate", "News", "Stop"
--- Each test is an argument of a definition by clauses. Places count from 0: the unit at place k is 01's unit i = k + 1. Assumes nothing.
+-- Places count from 0: the unit at place k is 01's unit i = k + 1. Assumes nothing.
 use Rattle.base.specs.Library.{ℕ, zero, suc, _+_, _-_, Bool, true, false, cond, _&&_, _||_, List, [], _∷_, ltb, leb, eqb, getD, set, take}
 use Rattle.base.specs.Sums.{sumFrom}
 use Rattle.costs.specs.{Instance.View, Bounds.costWith, Bounds.h, Bounds.estimate}
@@ -14,7 +14,7 @@ use Rattle.message.specs.declared.Kind.the-variants.{Cpa, Request, Estimate, So
 use Rattle.unit.specs.{declared.Unit.Unit, declared.Ordering.Ordering, declared.Sending.Sending}
 use Rattle.unit.specs.declared.Ordering.the-variants.{Less, Equal, Greater}
 use Rattle.unit.specs.declared.Plan.the-variants.{Nothing, Forward, Back, Reply}
-use Rattle.unit.specs.State.{zeros, withThreshold, withBest, withEstimates, withCpa, withCounter, withStopped, ownValue, ownCost, next, left, compareOn, sameOn}
+use Rattle.unit.specs.State.{zeros, withThreshold, withBest, withEstimates, withCpa, withCounter, withStopped, ownValue, ownCost, next, left, compareOn, sameOn, notLess}
 
 -- 01: "At each record unit i writes a beginning: the values of units 1 to i"; beside it the stamp on these units
 pub record Written : Type 0 where
@@ -34,21 +34,13 @@ after r (accepted u s ws) = accepted u s (r ∷ ws)
 
 -- ---- small pieces
 
--- nothing is sent
-abbrev pub silent : Sending
-silent = record { plan = Nothing; improved = false; message = noMessage }
-
 -- this state, nothing sent and no record written; 01: "A stale message changes nothing and sends nothing."
 abbrev pub quiet : Unit → Decision
-quiet u = accepted u silent []
+quiet u = accepted u (record { plan = Nothing; improved = false; message = noMessage }) []
 
 -- 01: "Take its bound and best if lower."
-abbrev pub takeLower : Bool → ℕ → List ℕ → Unit → Unit
-takeLower true B l u = withBest B l u
-takeLower false B l u = u
-
 abbrev pub takeBound : Message → Unit → Unit
-takeBound m u = takeLower (ltb (m .bound) (u .bound)) (m .bound) (m .best) u
+takeBound m u = cond (ltb (m .bound) (u .bound)) (withBest (m .bound) (m .best) u) u
 
 -- 01: "the cost without the own value"
 abbrev pub bareCost : View → Unit → ℕ
@@ -92,25 +84,14 @@ abbrev pub afterWrite : View → Bool → Unit → (Bool → Unit → Decision) 
 afterWrite w true u again = after (recordOf w u) (again true (takeOff w (withBest (u .cost) (u .values) u)))
 afterWrite w false u again = accepted u (record { plan = Forward; improved = false; message = carried w u }) (recordOf w u ∷ [])
 
-abbrev pub isLast : View → Bool
-isLast w = eqb (suc (w .place)) (w .n)
-
--- 01: "The first with cost + h(v) below the bound is written"
-abbrev pub tryValue : View → Bool → ℕ → ℕ → Bool → Unit → (Bool → Unit → Decision) → Decision
-tryValue w true v c improved u again = afterWrite w (isLast w) (write w v c u) again
-tryValue w false v c improved u again = again improved u
-
--- the cost with own value v
-abbrev pub costAt : View → ℕ → Unit → ℕ
-costAt w v u = u .cost + costWith w (u .values) (w .place) v
-
--- 01: "Try the values after the current one, ascending": m values after v are left, the own value is off. "No value: back up."
+-- 01: "Try the values after the current one, ascending. The first with cost + h(v) below the bound is written": m values after v are left,
+-- the own value is off. "No value: back up."
 unfoldable pub tryAfter : View → ℕ → ℕ → Bool → Unit → Decision
 tryAfter w zero v improved u = backtrack w improved u
 tryAfter w (suc m) v improved u =
     let x = next v in
-    let c = costAt w x u in
-    tryValue w (ltb (c + h w x) (u .bound)) x c improved u (λ (b : Bool) (t : Unit). tryAfter w m x b t)
+    let c = u .cost + costWith w (u .values) (w .place) x in
+    cond (ltb (c + h w x) (u .bound)) (afterWrite w (eqb (suc (w .place)) (w .n)) (write w x c u) (λ (b : Bool) (t : Unit). tryAfter w m x b t)) (tryAfter w m x improved u)
 
 -- 01: "Clear estimates; if the paper has no own value the counter becomes 0."
 abbrev pub begun : View → Unit → Unit
@@ -122,12 +103,8 @@ assign w u = tryAfter w (left w (ownValue w u)) (ownValue w u) false (begun w u)
 -- ---- 01: "Paper"
 
 -- 01: "If the cost without the own value is at least the bound, back up; else assign."
-abbrev pub reachedBound : View → Bool → Unit → Decision
-reachedBound w true u = backtrack w false (takeOff w u)
-reachedBound w false u = assign w u
-
 unfoldable pub resume : View → Unit → Decision
-resume w u = reachedBound w (leb (u .bound) (bareCost w u)) u
+resume w u = cond (leb (u .bound) (bareCost w u)) (backtrack w false (takeOff w u)) (assign w u)
 
 -- a message's cpa is the one out, and its bound is taken
 abbrev pub received : Message → Unit → Unit
@@ -147,22 +124,14 @@ abbrev pub isCpaOut : View → Unit → Message → Bool
 isCpaOut w u m =
     isOut w u && sameOn (suc (w .place)) (m .stamp) (u .stamp) && sameOn (suc (w .place)) (m .values) (u .values) && eqb (m .cost) (u .cost)
 
-abbrev pub onOwn : View → Bool → Unit → Message → Decision
-onOwn w true u m = resume w (takeBound m u)
-onOwn w false u m = refused 11
-
 abbrev pub onBack : View → Ordering → Unit → Message → Decision
-onBack w Less u m = quiet u
-onBack w Equal u m = onOwn w (isCpaOut w u m) u m
-onBack w Greater u m = onOwn w (isCpaOut w u m) u m
+onBack w o u m = cond (notLess o) (cond (isCpaOut w u m) (resume w (takeBound m u)) (refused 11)) (quiet u)
 
 -- 01: "Compare stamps on units 1 to i." A lower sender's cpa goes down.
-abbrev pub onEither : View → Bool → Unit → Message → Decision
-onEither w true u m = onDown w (compareOn (suc (w .place)) (m .stamp) (u .threshold)) u m
-onEither w false u m = onBack w (compareOn (suc (w .place)) (m .stamp) (u .threshold)) u m
-
 unfoldable pub onCpa : View → Unit → Message → Decision
-onCpa w u m = onEither w (ltb (m .sender) (suc (w .place))) u m
+onCpa w u m =
+    let o = compareOn (suc (w .place)) (m .stamp) (u .threshold) in
+    cond (ltb (m .sender) (suc (w .place))) (onDown w o u m) (onBack w o u m)
 
 -- ---- 01: "Copy"
 
@@ -187,24 +156,14 @@ onRequest w u m = onFresh w (compareOn (w .place) (m .stamp) (u .threshold)) u m
 -- ---- 01: "Estimate"
 
 -- 01: "if paper cost plus the estimates of units i+1 to n reaches the bound, assign"
-abbrev pub sumLater : View → List ℕ → ℕ
-sumLater w e = sumFrom (λ (j : ℕ). getD e j 0) (suc (w .place)) (w .n - suc (w .place))
-
-abbrev pub reachedByEstimates : View → Bool → Unit → Decision
-reachedByEstimates w true u = assign w u
-reachedByEstimates w false u = quiet u
-
-abbrev pub stored : Message → Unit → Unit
-stored m u = withEstimates (set (u .estimates) (m .sender - 1) (m .cost)) u
-
 abbrev pub onOwnEstimate : View → Bool → Unit → Decision
-onOwnEstimate w true u = reachedByEstimates w (leb (u .bound) (u .cost + sumLater w (u .estimates))) u
+onOwnEstimate w true u = cond (leb (u .bound) (u .cost + sumFrom (λ (j : ℕ). getD (u .estimates) j 0) (suc (w .place)) (w .n - suc (w .place)))) (assign w u) (quiet u)
 onOwnEstimate w false u = refused 11
 
 -- 01: "Smaller: stale. Bigger, no paper out, or a stamp that isn't the paper out's on those units: refusal 11. Store it; .."
 abbrev pub onTimely : View → Ordering → Unit → Message → Decision
 onTimely w Less u m = quiet u
-onTimely w Equal u m = onOwnEstimate w (isOut w u && sameOn (suc (w .place)) (m .stamp) (u .stamp)) (stored m u)
+onTimely w Equal u m = onOwnEstimate w (isOut w u && sameOn (suc (w .place)) (m .stamp) (u .stamp)) (withEstimates (set (u .estimates) (m .sender - 1) (m .cost)) u)
 onTimely w Greater u m = refused 11
 
 -- 01: "Compare on 1 to i."
@@ -231,9 +190,5 @@ byKind w Solution u m = onSolution w u m
 byKind w Stop u m = onStop w u m
 
 -- 01, refusal 12: "unit has stopped"
-abbrev pub unlessStopped : Bool → View → Kind → Unit → Message → Decision
-unlessStopped true w k u m = refused 12
-unlessStopped false w k u m = byKind w k u m
-
 unfoldable pub respond : View → Kind → Unit → Message → Decision
-respond w k u m = unlessStopped (u .stopped) w k u m
+respond w k u m = cond (u .stopped) (refused 12) (byKind w k u m)

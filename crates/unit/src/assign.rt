@@ -16,7 +16,8 @@ ghost use lib.Dec.{eqb};
 ghost use lib.ListN.{getD};
 ghost use Rattle.costs.specs.Instance.{View, viewFrom};
 ghost use Rattle.unit.specs.State.{withBest};
-ghost use Rattle.unit.specs.Step.{takeOff, carried, write, costAt, tryAfter, begun, assign};
+ghost use Rattle.unit.specs.Step.{takeOff, carried, write, tryAfter, begun, assign};
+ghost use Rattle.unit.specs.Tests.{costAt};
 ghost use Rattle.unit.specs.Ready.{Own, Shaped, Ready, decidedOf};
 
 // Assign: the first value after the own one that stays below the bound is written and sent on; without one, backtrack.

@@ -14,7 +14,8 @@ use message::Kind;
 use message::Message;
 ghost use mathlib.Core.Path.{_≡_};
 ghost use Rattle.costs.specs.Instance.{View, viewFrom};
-ghost use Rattle.unit.specs.Step.{silent, quiet, refused, takeBound, onSolution, onStop, respond};
+ghost use Rattle.unit.specs.Step.{quiet, refused, takeBound, onSolution, onStop, respond};
+ghost use Rattle.unit.specs.Tests.{silent};
 ghost use Rattle.unit.specs.Ready.{Shaped, Ready, Heard, decidedOf};
 
 // What a message that was read makes a unit do.

@@ -18,7 +18,8 @@ ghost use mathlib.Core.List.{[]};
 ghost use Prim.Native.Nat.{suc, _*_, _≤_};
 ghost use Rattle.base.specs.Limits.{NONE, places};
 ghost use Rattle.costs.specs.Instance.{View, viewFrom};
-ghost use Rattle.unit.specs.Step.{reply, onRequest, sumLater, stored, onTimely, onEstimate, accepted};
+ghost use Rattle.unit.specs.Step.{reply, onRequest, onTimely, onEstimate, accepted};
+ghost use Rattle.unit.specs.Tests.{sumLater, stored};
 ghost use Rattle.unit.specs.Ready.{Own, Shaped, Ready, Heard, decidedOf};
 
 // A request.

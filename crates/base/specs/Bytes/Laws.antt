@@ -10,7 +10,11 @@ use borrow.Author.Tests.{ltb-true, ltb-false}
 use lib.Dec.{ltb}
 use lib.ListN.{getD, length, take, drop, length-take, List·getD-eq-default}
 use lib.Seq.{drop-cons, getD-take, getD-drop}
-use Rattle.base.specs.Bytes.{u16At, u32At, le16, le32, AllBytes}
+use Rattle.base.specs.Bytes.{u16At, u32At, le16, le32}
+
+-- every number of the list is a byte
+abbrev pub AllBytes : List ℕ → Type 0
+AllBytes s = (i : ℕ) → getD s i 0 < 256
 
 -- past the end there are only zeros
 pub u16-past : (s : List ℕ) (k : ℕ) → length s ≤ k → u16At s k ≡ 0

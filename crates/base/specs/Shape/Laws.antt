@@ -12,7 +12,7 @@ use lib.Dec.{leb}
 use lib.ListN.{getD, length, take, drop, length-take, drop-of-length-le}
 use lib.Seq.{drop-cons, getD-take, length-take-le}
 use Rattle.base.specs.Limits.{places}
-use Rattle.base.specs.Shape.{isValue, inSixteen, allInSixteen, shapeGood}
+use Rattle.base.specs.Shape.{isValue, allInSixteen, shapeGood}
 
 pub and-left : (a b : Bool) → (a && b) ≡ true → a ≡ true
 and-left true b e = refl
@@ -29,6 +29,10 @@ module _ (d x : ℕ) where
 
   pub range-value : 1 ≤ x → x ≤ d → isValue d x ≡ true
   range-value l h = simp (le-leb 1 x l, le-leb x d h)
+
+-- 1 to 16
+abbrev pub inSixteen : ℕ → Bool
+inSixteen = isValue places
 
 pub in-range : (x : ℕ) → inSixteen x ≡ true → (1 ≤ x) × (x ≤ 16)
 in-range = value-range places

@@ -14,15 +14,14 @@ use lib.Seq.{getD-drop, getD-take, length-take-le, getD-append-add, take-append-
 use borrow.Author.Tests.{lt-ltb, le-ltb, ltb-true, ltb-false, eq-eqb, ne-eqb, le-leb}
 use Rattle.base.specs.Limits.{pairLimit, costsSize}
 use Rattle.base.specs.Sums.{sumTo}
-use Rattle.table.specs.Stream.{unitsOf, sizesOf, needed, costsGood, Accepted}
-use Rattle.table.specs.StreamLaws.{streamCost, accepted-units, accepted-cost}
+use Rattle.table.specs.Stream.{unitsOf, sizesOf, costsGood, Accepted}
+use Rattle.table.specs.StreamLaws.{needed, streamCost, accepted-units, accepted-cost}
 use Rattle.base.specs.Shape.{isValue}
-use Rattle.base.specs.Shape.Laws.{range-value}
+use Rattle.base.specs.Shape.Laws.{range-value, value-range}
 use Rattle.costs.specs.Instance.{View, viewOf, pairStart, inPair, costNumber, instanceOf, otherStart, lentCost, lentView, domOf, costsOf}
 use Rattle.costs.specs.Lent.{lentCount, lentRefusal}
 use Rattle.costs.specs.Lent.Checks.{refusal-costs}
 use Rattle.base.specs.Sums.Laws.{sumTo-le}
-use Rattle.base.specs.Shape.Laws.{value-range}
 use Rattle.costs.specs.Laws.Stream.{in-pair-lt, cost-number-at, pair-costs, accepted-fit, dom-most}
 use Rattle.costs.specs.Gather.{gatherRefusal, gatherOf, gatherInto}
 use Rattle.costs.specs.Gathered.{pairBytes, withOther, gatherTo, gathered}

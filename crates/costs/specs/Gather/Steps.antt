@@ -9,7 +9,8 @@ use lib.ListN.{length, getD, take, drop, drop-of-length-le}
 use lib.Seq.{take-all, getD-take, getD-drop, paste, paste-zero}
 use Rattle.base.specs.Sums.{sumFrom}
 use Rattle.base.specs.Put.{putAt}
-use Rattle.table.specs.Stream.{unitsOf, needed}
+use Rattle.table.specs.Stream.{unitsOf}
+use Rattle.table.specs.StreamLaws.{needed}
 use Rattle.costs.specs.declared.Seat.{Seat}
 use Rattle.costs.specs.Lent.Parts.{domFrom}
 use Rattle.costs.specs.Instance.{pairStart, domOf}

@@ -12,15 +12,19 @@ use lib.ListN.{length, getD, drop, length-drop}
 use lib.Seq.{getD-drop, getD-take, length-take-le}
 use borrow.Author.Tests.{ltb-true, ltb-false}
 use Rattle.base.specs.Limits.{pairLimit}
-use Rattle.base.specs.Sums.{sumFrom}
-use Rattle.table.specs.Stream.{unitsOf, sizesOf, sumList, pairsIn, needed, Accepted}
-use Rattle.table.specs.StreamLaws.{streamCost, accepted-units, accepted-size, accepted-length, accepted-cost}
+use Rattle.base.specs.Sums.{sumFrom, sumTo}
+use Rattle.table.specs.Stream.{unitsOf, sizesOf, sumList, pairsIn, Accepted}
+use Rattle.table.specs.StreamLaws.{needed, streamCost, accepted-units, accepted-size, accepted-length, accepted-cost}
 use Rattle.base.specs.Shape.{isValue}
 use Rattle.base.specs.Shape.Laws.{value-range}
-use Rattle.costs.specs.Instance.{rowStart, pairStart, inPair, costNumber, tableCost, instanceOf, domOf, costsOf}
+use Rattle.costs.specs.Instance.{pairStart, inPair, costNumber, tableCost, instanceOf, domOf, costsOf}
 use Rattle.base.specs.Sums.Laws.{sumTo-mono, sumTo-sumFrom, sumFrom-last, sumFrom-split}
 use Rattle.costs.specs.Lent.Steps.{dom-past-count}
 use Rattle.costs.specs.Laws.{Sound}
+
+-- how many costs a table has before those of the pairs of unit i
+abbrev pub rowStart : (ℕ → ℕ) → ℕ → ℕ → ℕ
+rowStart dom n i = sumTo (λ a. dom a * sumFrom dom (suc a) (n - suc a)) i
 
 -- ---- a cost's place
 

@@ -10,7 +10,11 @@ use Rattle.base.specs.Limits.{messageSize}
 use Rattle.base.specs.Put.Laws.{paste-more}
 use Rattle.message.specs.Message.{Packet}
 use Rattle.unit.specs.Send.{encodeAll, laid}
-use Rattle.network.specs.Pool.{laterCells, poolAfter}
+use Rattle.network.specs.Pool.{poolAfter}
+
+-- the cells behind one, up to those in use
+abbrev pub laterCells : List ℕ → ℕ → ℕ → List ℕ
+laterCells pool used cell = take (messageSize * (used - suc cell)) (drop (messageSize * suc cell) pool)
 
 -- the 64 bytes at `at` taken out: what lies up to `end` moves down, and the rest stays
 abbrev pub closeGap : List ℕ → ℕ → ℕ → List ℕ

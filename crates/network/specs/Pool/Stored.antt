@@ -19,7 +19,8 @@ use Rattle.message.specs.Encode.{encode}
 use Rattle.message.specs.EncodeLaws.{length-encode}
 use Rattle.unit.specs.Send.{encodeAll, laid}
 use Rattle.unit.specs.Laying.{encode-append}
-use Rattle.network.specs.Pool.{cellOf, laterCells, poolAfter}
+use Rattle.network.specs.Pool.{cellOf, poolAfter}
+use Rattle.network.specs.Pool.Laws.{laterCells}
 use Rattle.network.specs.Run.{cells}
 
 -- ---- packets one after the other

@@ -2,7 +2,7 @@
 -- (`core-starts`), and a packet handed to its unit keeps it (`core-steps`). And a packet that can be written reads back from its bytes as itself.
 -- In order: an accepted table; a packet and its bytes; the core; the counts; making and a step.
 -- Assumes nothing.
-use Prim.Native.Nat.{ℕ, _+_, _*_, _^_, _≤_, _<_}
+use Prim.Native.Nat.{ℕ, _+_, _*_, _^_, _≤_, _<_, pred}
 use mathlib.Core.Path.{_≡_, refl, sym, ap, _∙_, subst}
 use mathlib.Core.Bool.{Bool, true, false, cond, _&&_}
 use mathlib.Core.List.{List, [], _∷_, _++_}
@@ -20,6 +20,7 @@ use Rattle.costs.specs.Gather.{sizesIn}
 use Rattle.costs.specs.Gather.Sizes.{length-sizes, sizes-at, accepted-sizes-good}
 use Rattle.message.specs.declared.Parsed.{Parsed}
 use Rattle.message.specs.Message.{Packet, isUnit}
+use Rattle.message.specs.Encode.{encode}
 use Rattle.message.specs.RoundTrip.{parse-encode, receiver-of-encode}
 use Rattle.unit.specs.declared.Unit.{Unit as UnitState}
 use Rattle.unit.specs.declared.Sending.{Sending}
@@ -44,8 +45,11 @@ use Rattle.network.specs.declared.Core.{Core}
 use Rattle.network.specs.Count.{zeroCount, valueOf, plus}
 use Rattle.network.specs.Count.Laws.{plus-exact}
 use Rattle.network.specs.Run.{Pool, HistoryOf, after, begunWith}
-use Rattle.network.specs.Calls.{receiverOf, stepFrom8, coreAfter}
-use Rattle.network.specs.Demand3.{packetBytes}
+use Rattle.network.specs.Calls.{receiverOf, stepFrom8}
+
+-- the bytes of a packet
+abbrev pub packetBytes : Packet → List ℕ
+packetBytes p = encode (p .kind) (p .message)
 
 -- ---- an accepted table
 
@@ -117,7 +121,7 @@ module _ (s : List ℕ) (ok : Accepted s) where
   pub core-steps : {W : Type 0} (core : Core) (H : HistoryOf W) (us : ℕ → Agent) → CoreFollows s core H us → (p : Packet) (m : Msg) → Reads (instanceOf s) p m → (res : Result) (u : UnitState) (o : Sending) (ws : List Written)
       (x : StepsTo (instanceOf s) (H .units) (H .written) us (placeOf p) res u o ws) → Leaves (instanceOf s) (sizesIn s) (H .units) (placeOf p) u o ws
       → Safe (problemOf (instanceOf s)) (M.put us (to m) (x .agent)) → length (H .handed ++ (p ∷ [])) < 2 ^ 64 * 2 ^ 64 → (w : W)
-      → CoreFollows s (coreAfter core (p .message .receiver) u (length ws)) (after H p u (packets (instanceOf s .n) (placeOf p) o) ws w) (M.put us (to m) (x .agent))
+      → CoreFollows s (record { units = set (core .units) (pred (p .message .receiver)) u; records = plus (length ws) (core .records); deliveries = plus 1 (core .deliveries) }) (after H p u (packets (instanceOf s .n) (placeOf p) o) ws w) (M.put us (to m) (x .agent))
   core-steps core H us f p m rd res u o ws x l safe below w =
       record {
         matches = matched;

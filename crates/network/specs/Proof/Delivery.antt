@@ -43,22 +43,22 @@ use Rattle.protocol.specs.Simulation.Units.{read-length, Simulated, StepsTo}
 use Rattle.network.specs.Pool.{cellOf, poolAfter}
 use Rattle.network.specs.Pool.Stored.{AllSized, StandsAt, stands-at, none-at, no-room, some-room, cell-in-use, cell-bytes, used-after, put-stored}
 use Rattle.network.specs.Run as R
-use Rattle.network.specs.Run.{History, Delivery, cells, stopped, onward, handOver}
+use Rattle.network.specs.Run.{History, DeliveryOf, cells, stopped, onward, handOver}
 use Rattle.network.specs.Calls as C
 use Rattle.network.specs.Calls.{Result, deliverRefusal, receiverOf, stepFrom8, refusedDelivery, deliverBy, deliverOf}
-use Rattle.network.specs.Demand3.{Shed, shedOf, times, packetBytes, Honest}
+use Rattle.network.specs.Demand3.{Shed, shedOf, times, Honest}
+use Rattle.network.specs.Proof.Core.{packetBytes, laws, views, receiver-is, step-is, core-steps}
 use Rattle.network.specs.Code.{unitInRange, check-stopped, check-cell, check-none, deliver-goes}
 use Rattle.network.specs.Proof.Walk.{hand-cases, deliver-cases}
-use Rattle.network.specs.Proof.Core.{laws, views, receiver-is, step-is, core-steps}
 use Rattle.network.specs.Proof.Invariant.{Invariant, sized, accepted-below, same-stop, cut, step-accepted}
 
 -- the number of a refusal, 0 where the delivery was accepted
-abbrev pub numberOf : Delivery → ℕ
+abbrev pub numberOf : DeliveryOf (List Packet) → ℕ
 numberOf (R.refusedBy r) = r
 numberOf (R.delivered K) = 0
 
 -- a refusal is 12 after the stop, 14 or 15
-abbrev pub HonestDelivery : History → Delivery → Type 0
+abbrev pub HonestDelivery : History → DeliveryOf (List Packet) → Type 0
 HonestDelivery H (R.refusedBy r) = Honest (stopped H) r
 HonestDelivery H (R.delivered K) = Unit {0}
 
@@ -79,7 +79,7 @@ times-none t = refl
 
 module _ (s : List ℕ) (ok : Accepted s) (S : Shed) (H : History) (A : Network) (i : Invariant s ok S H A) (c : ℕ) where
   -- what a delivery gives: over messages d, on bytes r
-  pub record Delivers (d : Delivery) (r : Result) : Type 0 where
+  pub record Delivers (d : DeliveryOf (List Packet)) (r : Result) : Type 0 where
     pub number : r .answer .refusal ≡ numberOf d
     pub honest : HonestDelivery H d
     pub bytes : map packetBytes (H .handed) ++ cond (eqb (r .answer .refusal) 0) (cellOf (S .pool) c ∷ []) [] ≡ map packetBytes (onward H d .handed)

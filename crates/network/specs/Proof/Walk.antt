@@ -3,7 +3,7 @@
 -- Assumes nothing.
 use Prim.Native.Nat.{ℕ}
 use mathlib.Core.Path.{_≡_, refl}
-use mathlib.Core.Bool.{Bool, true, false}
+use mathlib.Core.Bool.{Bool, true, false, cond}
 use mathlib.Core.List.{List}
 use mathlib.Core.Option.{Option, none, some}
 use Rattle.costs.specs.Instance.{Instance}
@@ -13,7 +13,7 @@ use Rattle.unit.specs.declared.Sending.{Sending}
 use Rattle.unit.specs.Step as U
 use Rattle.unit.specs.Step.{Decision, Written}
 use Rattle.unit.specs.Send.{packets}
-use Rattle.network.specs.Run.{Pool, HistoryOf, DeliveryOf, refusedBy, delivered, placeOf, stepOn, stopped, after, ifFits, onOut, hand, takeCell, unlessStopped, deliverIn}
+use Rattle.network.specs.Run.{Pool, HistoryOf, DeliveryOf, refusedBy, delivered, placeOf, stepOn, stopped, after, ifFits, onOut, takeCell, deliverIn}
 
 module _ {W : Type 0} (I : Instance) (H : HistoryOf W) (Q : DeliveryOf W → Type 0) where
   -- the step is accepted: what it sends doesn't fit, or w waits then
@@ -21,7 +21,7 @@ module _ {W : Type 0} (I : Instance) (H : HistoryOf W) (Q : DeliveryOf W → Typ
   OnAccepted p put = (u : UnitState) (s : Sending) (ws : List Written) → stepOn I (H .units) p ≡ U.accepted u s ws
       → (put (packets (I .n) (placeOf p) s) ≡ none → Q (refusedBy 14)) × ((w : W) → put (packets (I .n) (placeOf p) s) ≡ some w → Q (delivered (after H p u (packets (I .n) (placeOf p) s) ws w)))
 
-  pub hand-cases : (p : Packet) (put : List Packet → Option W) → ((r : ℕ) → stepOn I (H .units) p ≡ U.refused r → Q (refusedBy r)) → OnAccepted p put → Q (hand I H p put)
+  pub hand-cases : (p : Packet) (put : List Packet → Option W) → ((r : ℕ) → stepOn I (H .units) p ≡ U.refused r → Q (refusedBy r)) → OnAccepted p put → Q (onOut I H p put (stepOn I (H .units) p))
   hand-cases p put refuses accepts = go (stepOn I (H .units) p) refl
     where
       fits : (u : UnitState) (ps : List Packet) (ws : List Written) (x : Option W) → put ps ≡ x
@@ -34,13 +34,13 @@ module _ {W : Type 0} (I : Instance) (H : HistoryOf W) (Q : DeliveryOf W → Typ
       go (U.accepted u s ws) e = fits u (packets (I .n) (placeOf p) s) ws (put (packets (I .n) (placeOf p) s)) refl (accepts u s ws e)
 
   pub deliver-cases : (L : Pool W) (c : ℕ) → (stopped H ≡ true → Q (refusedBy 12)) → (stopped H ≡ false → L .at (H .waiting) c ≡ none → Q (refusedBy 15))
-      → (stopped H ≡ false → (p : Packet) → L .at (H .waiting) c ≡ some p → Q (hand I H p (L .put (L .without (H .waiting) c)))) → Q (deliverIn L I H c)
+      → (stopped H ≡ false → (p : Packet) → L .at (H .waiting) c ≡ some p → Q (onOut I H p (L .put (L .without (H .waiting) c)) (stepOn I (H .units) p))) → Q (deliverIn L I H c)
   deliver-cases L c over gone there = go (stopped H) refl
     where
       cell : stopped H ≡ false → (x : Option Packet) → L .at (H .waiting) c ≡ x → Q (takeCell L I H c x)
       cell st none e = gone st e
       cell st (some p) e = there st p e
 
-      go : (t : Bool) → stopped H ≡ t → Q (unlessStopped L t I H c)
+      go : (t : Bool) → stopped H ≡ t → Q (cond t (refusedBy 12) (takeCell L I H c (L .at (H .waiting) c)))
       go true e = over e
       go false e = cell e (L .at (H .waiting) c) refl

@@ -21,6 +21,7 @@ use Rattle.message.specs.Message.{Packet}
 use Rattle.unit.specs.declared.Unit.{Unit as UnitState}
 use Rattle.unit.specs.State.{zeros, withBest}
 use Rattle.unit.specs.Step as U
+use Rattle.unit.specs.Tests.{tryValue}
 use Rattle.unit.specs.Step.{takeOff, carried}
 use Rattle.unit.specs.Send.{packets, each, sentTo, withoutBound, boundOnly, handBack, solutions}
 use Rattle.protocol.specs.Machine as M
@@ -244,7 +245,7 @@ module _ (I : Instance) where
     unfolding U.tryAfter packets
     try-agrees zero v better s u b z e hc = backtrack-agrees k k16 v better s u b (omega (arith, b .common .threshold-is, b .common .digits k))
     try-agrees (suc m) v better s u b z e hc =
-        subst (λ t. Agrees I k (u .log) (U.tryValue (viewOf I k) t (suc v) c better s (λ (x : Bool) (t : UnitState). U.tryAfter (viewOf I k) m (suc v) x t))
+        subst (λ t. Agrees I k (u .log) (tryValue (viewOf I k) t (suc v) c better s (λ (x : Bool) (t : UnitState). U.tryAfter (viewOf I k) m (suc v) x t))
         (M.tryNext (problemOf I) k (ltb (lookaheadOf I (suc (u .own) ∷ u .prefix)) (u .bound)) better u (λ x t. M.tryFrom (problemOf I) k m x t)))
         (sym (less-test (next-lookahead v s u b) (b .common .bound-is)))
         (next (ltb (lookaheadOf I (suc (u .own) ∷ u .prefix)) (u .bound)) (λ x t q y f. try-agrees m (suc v) x t q y f))
@@ -273,7 +274,7 @@ module _ (I : Instance) where
         )
 
         next : (t : Bool) → IH
-            → Agrees I k (u .log) (U.tryValue (viewOf I k) t (suc v) c better s (λ (x : Bool) (t : UnitState). U.tryAfter (viewOf I k) m (suc v) x t))
+            → Agrees I k (u .log) (tryValue (viewOf I k) t (suc v) c better s (λ (x : Bool) (t : UnitState). U.tryAfter (viewOf I k) m (suc v) x t))
             (M.tryNext (problemOf I) k t better u (λ x t. M.tryFrom (problemOf I) k m x t))
         next true ih = last (eqb (suc k) (I .n)) refl ih
         next false ih =

@@ -14,7 +14,8 @@ use Rattle.message.specs.declared.Message.{Message}
 use Rattle.unit.specs.declared.Unit.{Unit as UnitState}
 use Rattle.unit.specs.State.{ownValue}
 use Rattle.unit.specs.Step as U
-use Rattle.unit.specs.Step.{takeOff, begun, takeLower, takeBound}
+use Rattle.unit.specs.Step.{takeOff, begun, takeBound}
+use Rattle.unit.specs.Tests.{takeLower, reachedBound}
 use Rattle.protocol.specs.Machine as M
 use Rattle.protocol.specs.Machine.{Agent}
 use Rattle.protocol.specs.Simulation.Stamps.{rank-set, digits-set, filled-off}
@@ -76,13 +77,13 @@ module _ (I : Instance) (k : ℕ) (k16 : k < 16) where
   resume-agrees : (s : UnitState) (u : Agent) → InHand I k s u → ReadyToAssign u → Agrees I k (u .log) (U.resume (viewOf I k) s) (M.resume (problemOf I) k u)
   unfolding U.resume
   resume-agrees s u a r =
-      subst (λ x. Agrees I k (u .log) (U.reachedBound (viewOf I k) x s) (M.resume (problemOf I) k u)) (sym (most-test (a .common .bound-is) (a .hand .cost-is)))
+      subst (λ x. Agrees I k (u .log) (reachedBound (viewOf I k) x s) (M.resume (problemOf I) k u)) (sym (most-test (a .common .bound-is) (a .hand .cost-is)))
       (go (leb (u .bound) (costOf I (u .prefix))))
     where
       room : M.recount (u .own) (u .counter) ≤ 30
       room = omega (arith, r .1)
 
-      go : (t : Bool) → Agrees I k (u .log) (U.reachedBound (viewOf I k) t s) (M.backtrackIf (problemOf I) k t u)
+      go : (t : Bool) → Agrees I k (u .log) (reachedBound (viewOf I k) t s) (M.backtrackIf (problemOf I) k t u)
       go true =
           backtrack-agrees I k k16 (u .own) false (takeOff (viewOf I k) s) u (own-off s u a)
           (omega (arith, a .common .threshold-is, a .common .digits k, r .0, room))

@@ -25,7 +25,8 @@ use Rattle.unit.specs.declared.Ordering.{Ordering}
 use Rattle.unit.specs.declared.Ordering.the-variants.{Less, Equal, Greater}
 use Rattle.unit.specs.State.{withThreshold, withCpa, withEstimates, withStopped, ownValue, compareOn, sameOn}
 use Rattle.unit.specs.Step as U
-use Rattle.unit.specs.Step.{accepted, takeBound, takeLower, reply, stored, sumLater}
+use Rattle.unit.specs.Step.{accepted, takeBound, reply}
+use Rattle.unit.specs.Tests.{stored, sumLater, takeLower, onEither, reachedByEstimates, unlessStopped, onOwn}
 use Rattle.unit.specs.Send.{packets}
 use Rattle.protocol.specs.Machine as M
 use Rattle.protocol.specs.Machine.{Msg, Agent}
@@ -127,7 +128,7 @@ module _ (I : Instance) (free : FreeWhenUnassigned I) (laws : Laws (problemOf I)
       places = omega (arith, h .3 .is, h .3 .filled .rest k (omega arith))
 
       goes-down : U.byKind (viewOf I k) (p .kind) s (p .message) ≡ U.onDown (viewOf I k) (compareOn (suc k) (p .message .stamp) (s .threshold)) s (p .message)
-      goes-down = (λ i. U.byKind (viewOf I k) (h .0 i) s (p .message)) ∙ (λ i. U.onEither (viewOf I k) (lt-ltb (p .message .sender) (suc k) (h .2) i) s (p .message))
+      goes-down = (λ i. U.byKind (viewOf I k) (h .0 i) s (p .message)) ∙ (λ i. onEither (viewOf I k) (lt-ltb (p .message .sender) (suc k) (h .2) i) s (p .message))
 
       ready : ReadyToAssign I k k16 (M.received x b u)
       ready = (omega arith, omega (arith, laws .size-le-16 k))
@@ -164,13 +165,13 @@ module _ (I : Instance) (free : FreeWhenUnassigned I) (laws : Laws (problemOf I)
       (go (compareOn (suc k) (p .message .stamp) (s .threshold)) (ltb x (u .threshold)) (against-threshold (p .message .stamp) x (h .3 .digits) (h .3 .is)) refl)
     where
       goes-back : U.byKind (viewOf I k) (p .kind) s (p .message) ≡ U.onBack (viewOf I k) (compareOn (suc k) (p .message .stamp) (s .threshold)) s (p .message)
-      goes-back = (λ i. U.byKind (viewOf I k) (h .0 i) s (p .message)) ∙ (λ i. U.onEither (viewOf I k) (le-ltb (p .message .sender) (suc k) (omega (arith, h .2)) i) s (p .message))
+      goes-back = (λ i. U.byKind (viewOf I k) (h .0 i) s (p .message)) ∙ (λ i. onEither (viewOf I k) (le-ltb (p .message .sender) (suc k) (omega (arith, h .2)) i) s (p .message))
 
       of-cpa-out : u .threshold ≤ x
-          → Agrees I k (u .log) (U.onOwn (viewOf I k) (U.isCpaOut (viewOf I k) s (p .message)) s (p .message)) (M.onBackSame (problemOf I) k (M.isCpaOut u x b) u B l)
+          → Agrees I k (u .log) (onOwn (viewOf I k) (U.isCpaOut (viewOf I k) s (p .message)) s (p .message)) (M.onBackSame (problemOf I) k (M.isCpaOut u x b) u B l)
       of-cpa-out le =
-          subst (λ t. Agrees I k (u .log) (U.onOwn (viewOf I k) t s (p .message)) (M.onBackSame (problemOf I) k (M.isCpaOut u x b) u B l)) (sym units)
-          (subst (λ t. Agrees I k (u .log) (U.onOwn (viewOf I k) true s (p .message)) (M.onBackSame (problemOf I) k t u B l)) (sym machines)
+          subst (λ t. Agrees I k (u .log) (onOwn (viewOf I k) t s (p .message)) (M.onBackSame (problemOf I) k (M.isCpaOut u x b) u B l)) (sym units)
+          (subst (λ t. Agrees I k (u .log) (onOwn (viewOf I k) true s (p .message)) (M.onBackSame (problemOf I) k t u B l)) (sym machines)
           (resume-lower I k k16 s u (p .message) B l (h .6) (h .7) (out-in-hand (sm .0)) (out-ready (sm .0) (sm .3 ∙ sm .1))))
         where
           sm : (1 ≤ u .own) × (x ≡ M.stamp u) × (b ≡ M.values u) × (u .threshold ≡ x)
@@ -302,7 +303,7 @@ module _ (I : Instance) (free : FreeWhenUnassigned I) (laws : Laws (problemOf I)
           let q : p .message .sender - 1 ≡ j = omega (arith, h .2) in
           λ i. withEstimates (set (s .estimates) (q i) (h .4 i)) s
 
-      reached : (1 ≤ u .own) → u .threshold ≡ M.stamp u → (t : Bool) → Agrees I k (u .log) (U.reachedByEstimates (viewOf I k) t s′) (M.assignIf (problemOf I) k t (M.store j e u))
+      reached : (1 ≤ u .own) → u .threshold ≡ M.stamp u → (t : Bool) → Agrees I k (u .log) (reachedByEstimates (viewOf I k) t s′) (M.assignIf (problemOf I) k t (M.store j e u))
       reached o et true =
           let a = out-in-hand o in
           assign-agrees I k k16 s′ (M.store j e u)
@@ -319,7 +320,7 @@ module _ (I : Instance) (free : FreeWhenUnassigned I) (laws : Laws (problemOf I)
           subst (λ t. Agrees I k (u .log) (U.onOwnEstimate (viewOf I k) t (stored (p .message) s)) (M.onEstimateSame (problemOf I) k (M.isForCpaOut u x) (M.store j e u))) (sym units)
           (subst (λ t. Agrees I k (u .log) (U.onOwnEstimate (viewOf I k) true (stored (p .message) s)) (M.onEstimateSame (problemOf I) k t (M.store j e u))) (sym machines)
           (subst (λ z. Agrees I k (u .log) (U.onOwnEstimate (viewOf I k) true z) (M.onEstimateSame (problemOf I) k true (M.store j e u))) (sym stored-is)
-          (subst (λ t. Agrees I k (u .log) (U.reachedByEstimates (viewOf I k) t s′) (M.onEstimateSame (problemOf I) k true (M.store j e u))) (sym test)
+          (subst (λ t. Agrees I k (u .log) (reachedByEstimates (viewOf I k) t s′) (M.onEstimateSame (problemOf I) k true (M.store j e u))) (sym test)
           (reached (sm .0) (sm .3 ∙ sm .1) (leb (u .bound) (costOf I (M.values u) + sumFrom (M.store j e u .estimates) (suc k) (I .n - suc k)))))))
         where
           sm : (1 ≤ u .own) × (x ≡ M.stamp u) × (ok .2 .0 ≡ M.values u) × (u .threshold ≡ x)
@@ -420,4 +421,4 @@ module _ (I : Instance) (free : FreeWhenUnassigned I) (laws : Laws (problemOf I)
       → Agrees I k (u .log) (U.respond (viewOf I k) (p .kind) s (p .message)) (M.step (problemOf I) u m)
   unfolding U.respond
   step-agrees p m e h ok st =
-      subst (λ t. Agrees I k (u .log) (U.unlessStopped t (viewOf I k) (p .kind) s (p .message)) (M.step (problemOf I) u m)) (sym st) (step-by-kind p m e h ok)
+      subst (λ t. Agrees I k (u .log) (unlessStopped t (viewOf I k) (p .kind) s (p .message)) (M.step (problemOf I) u m)) (sym st) (step-by-kind p m e h ok)

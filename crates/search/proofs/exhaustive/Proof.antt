@@ -10,10 +10,9 @@ use Rattle.table.specs.StreamLaws.{accepted-units}
 use Rattle.costs.specs.Instance.{instanceOf}
 use Rattle.costs.specs.Laws.Stream.{instance-units}
 use Rattle.search.specs.declared.Best.{Best}
-use Rattle.search.specs.Search.{foundBest}
 use Rattle.search.specs.Best.{bestFrom, bestOf, nothing}
 use Rattle.search.specs.Steps.{extending-first}
-use Rattle.search.specs.Laws.{answer-stream-refused, answer-too-many, answer-found}
+use Rattle.search.specs.Laws.{foundBest, answer-stream-refused, answer-too-many, answer-found}
 use Rattle.search.proofs.exhaustive.Statement.{statement}
 use Rattle.search.proofs.exhaustive.Tie as tie
 

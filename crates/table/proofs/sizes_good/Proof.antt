@@ -7,7 +7,8 @@ use native.Mathlib.Omega.{arith}
 use borrow.Author.Needs.{needs}
 use borrow.Author.Tests.{not-true, not-false}
 use lib.ListN.{take, drop, getD}
-use Rattle.base.specs.Shape.{inSixteen, allInSixteen}
+use Rattle.base.specs.Shape.{allInSixteen}
+use Rattle.base.specs.Shape.Laws.{inSixteen}
 use Rattle.table.specs.View.{streamIn}
 use Rattle.table.specs.StreamLaws.{sizes-bad, sizes-next, sizes-end}
 use Rattle.table.proofs.sizes_good.Statement.{statement}

@@ -6,10 +6,9 @@ use mathlib.Core.List.{List, _++_}
 use native.Mathlib.Omega.{arith}
 use borrow.Author.Needs.{needs}
 use lib.ListN.{length, take, drop}
-use Rattle.table.specs.Written.{fileFrom}
+use Rattle.table.specs.Written.{fileFrom, blockOf}
 use Rattle.table.specs.FileLaws.{file-more, carried, block-long}
 use Rattle.base.specs.Put.Laws.{put-part}
-use Rattle.table.specs.Written.{blockOf}
 use Rattle.table.proofs.write_blocks.Statement.{statement}
 use Rattle.table.proofs.write_blocks.Tie as tie
 

@@ -22,7 +22,8 @@ use Rattle.unit.specs.declared.Unit.{Unit as State}
 use Rattle.unit.specs.declared.Sending.{Sending}
 use Rattle.unit.specs.declared.Plan.the-variants.{Forward}
 use Rattle.unit.specs.State.{withBest, ownValue, notLess, inRange}
-use Rattle.unit.specs.Step.{Decision, refused, accepted, Written, after, bareCost, takeOff, carried, backedUp, backtrack, write, recordOf, afterWrite, isLast, tryValue, tryAfter, begun, assign, reachedBound, resume}
+use Rattle.unit.specs.Step.{Decision, refused, accepted, Written, after, bareCost, takeOff, carried, backedUp, backtrack, write, recordOf, afterWrite, tryAfter, begun, assign, resume}
+use Rattle.unit.specs.Tests.{isLast, tryValue, reachedBound}
 use Rattle.unit.specs.Send.{packets}
 use Rattle.unit.specs.Laws.Views.{GoodView, units-most, place-16, size-most}
 use Rattle.unit.specs.Laws.Stamps.{places-equal}

@@ -19,7 +19,8 @@ use Rattle.unit.specs.declared.Ordering.{Ordering}
 use Rattle.unit.specs.declared.Ordering.the-variants.{Less, Equal, Greater}
 use Rattle.unit.specs.declared.Sending.{Sending}
 use Rattle.unit.specs.State.{withThreshold, withBest, withCpa, left, ownValue, compareOn, sameOn}
-use Rattle.unit.specs.Step.{Decision, refused, accepted, Written, after, silent, quiet, takeLower, takeBound, bareCost, takeOff, backtrack, write, recordOf, afterWrite, isLast, tryValue, tryAfter, begun, assign, reachedBound, resume, onDown, isOut, isCpaOut, onOwn, onBack, onEither, onCpa, onFresh, onRequest, sumLater, reachedByEstimates, stored, onOwnEstimate, onTimely, onEstimate, onSolution, onStop, byKind, unlessStopped, respond}
+use Rattle.unit.specs.Step.{Decision, refused, accepted, Written, after, quiet, takeBound, bareCost, takeOff, backtrack, write, recordOf, afterWrite, tryAfter, begun, assign, resume, onDown, isOut, isCpaOut, onBack, onCpa, onFresh, onRequest, onOwnEstimate, onTimely, onEstimate, onSolution, onStop, byKind, respond}
+use Rattle.unit.specs.Tests.{sumLater, stored, silent, isLast, tryValue, onOwn, takeLower, reachedBound, onEither, reachedByEstimates, unlessStopped}
 use Rattle.unit.specs.Send.{packets}
 use Rattle.unit.specs.Laws.Assign.{Whenever}
 

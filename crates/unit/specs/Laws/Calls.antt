@@ -21,7 +21,7 @@ use Rattle.message.specs.Message.{Packet, isUnit}
 use Rattle.message.specs.Encode.{encode}
 use Rattle.message.specs.Decode.{messageIn, parseFor}
 use Rattle.message.specs.DecodeLaws.{check-length}
-use Rattle.base.specs.Bytes.{AllBytes}
+use Rattle.base.specs.Bytes.Laws.{AllBytes}
 use Rattle.message.specs.RoundTrip.{sized-in, parse-encode, parsed-good}
 use Rattle.unit.specs.declared.Unit.{Unit as State}
 use Rattle.unit.specs.State.{inRange}

@@ -3,7 +3,7 @@
 use Prim.Native.Nat.{ℕ, zero, suc, _+_, _-_, _≤_, _<_}
 use mathlib.Core.Path.{_≡_, refl, sym, ap}
 use mathlib.Core.Bool.{Bool, true, false}
-use mathlib.Core.List.{List, []}
+use mathlib.Core.List.{List, [], _++_}
 use native.Mathlib.Omega.{arith}
 use lib.ListN.{length, length-append}
 use borrow.Author.Tests.{lt-ltb, le-ltb, eq-eqb, ne-eqb}
@@ -13,12 +13,12 @@ use Rattle.base.specs.Members.Laws.{every-nil, every-cons, every-append}
 use Rattle.message.specs.declared.Message.{Message}
 use Rattle.message.specs.declared.Kind.{Kind}
 use Rattle.message.specs.declared.Kind.the-variants.{Cpa, Request, Estimate, Solution, Stop}
-use Rattle.message.specs.Message.{Packet, filledTo, boundGood, noneOrBound, cpaCount, carriedOf, boundFits, directionGood, addressGood, wellFormed}
+use Rattle.message.specs.Message.{Packet, filledTo, boundGood, noneOrBound, carriedOf, boundFits, directionGood, addressGood, wellFormed}
+use Rattle.message.specs.Laws.{cpaCount, blank-filled, no-bound-by, address-by, formed-by}
 use Rattle.message.specs.Sized.{Sized}
-use Rattle.message.specs.Laws.{blank-filled, no-bound-by, address-by, formed-by}
 use Rattle.unit.specs.declared.Plan.the-variants.{Forward, Back, Reply}
 use Rattle.unit.specs.State.{zeros}
-use Rattle.unit.specs.Send.{packet, sentTo, withoutBound, boundOnly, each, others, handBack, solutions, byPlan}
+use Rattle.unit.specs.Send.{packet, sentTo, withoutBound, boundOnly, each, handBack, solutions, byPlan}
 
 -- ---- every packet
 
@@ -139,7 +139,7 @@ module _ (n k : ℕ) (m : Message) (k<n : k < n) where
   pub forward-few : (b : Bool) → length (byPlan n k Forward b m) ≤ n
   forward-few b = omega (arith, each-length (sentTo Request (withoutBound m)) (suc k) (n - suc k))
 
-  others-few : (g : ℕ → Packet) → length (others n k g) ≡ n - 1
+  others-few : (g : ℕ → Packet) → length (each g 0 k ++ each g (suc k) (n - suc k)) ≡ n - 1
   others-few g = rw (length-append (each g 0 k) (each g (suc k) (n - suc k)), each-length g 0 k, each-length g (suc k) (n - suc k)) (omega arith)
 
   solutions-few : (b : Bool) → length (solutions n k b m) ≤ n - 1

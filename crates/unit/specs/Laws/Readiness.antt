@@ -15,8 +15,8 @@ use Rattle.costs.specs.Instance.{lentView, viewFrom}
 use Rattle.message.specs.declared.Message.{Message}
 use Rattle.message.specs.declared.Kind.{Kind}
 use Rattle.message.specs.declared.Kind.the-variants.{Cpa, Request, Estimate, Solution, Stop}
-use Rattle.message.specs.Message.{cpaCount, carriedOf, isUnit, addressGood, wellFormed}
-use Rattle.message.specs.Laws.{filled-past, Addressed, addressed, formed}
+use Rattle.message.specs.Message.{carriedOf, isUnit, addressGood, wellFormed}
+use Rattle.message.specs.Laws.{cpaCount, filled-past, Addressed, addressed, formed}
 use Rattle.unit.specs.declared.Unit.{Unit}
 use Rattle.unit.specs.State.{fresh, zeros, ownValue, inRange}
 use Rattle.unit.specs.Ready.{Own, Shaped, Ready, Heard}

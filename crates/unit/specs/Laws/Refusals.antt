@@ -16,12 +16,14 @@ use Rattle.message.specs.declared.Parsed.{Parsed}
 use Rattle.message.specs.declared.Read.{Read}
 use Rattle.message.specs.declared.Read.the-variants.{Good, Refused}
 use Rattle.message.specs.Message.{kindOf, wellFormed}
-use Rattle.message.specs.Decode.{messageIn, checkGood, restZero, addressedTo, parseKind, parseFor}
+use Rattle.message.specs.Decode.{messageIn, checkGood, restZero, parseKind, parseFor}
+use Rattle.message.specs.DecodeLaws.{addressedTo}
 use Rattle.unit.specs.declared.Unit.{Unit as State}
 use Rattle.unit.specs.declared.Ordering.{Ordering}
 use Rattle.unit.specs.declared.Ordering.the-variants.{Less, Equal, Greater}
 use Rattle.unit.specs.State.{ownValue, left, compareOn, sameOn, withBest, withCpa, withThreshold}
-use Rattle.unit.specs.Step.{Decision, refused, accepted, Written, after, takeBound, takeOff, begun, isLast, recordOf, write, afterWrite, tryValue, tryAfter, assign, backtrack, bareCost, reachedBound, resume, onDown, isCpaOut, onOwn, onBack, onEither, onCpa, onFresh, onRequest, sumLater, stored, isOut, reachedByEstimates, onOwnEstimate, onTimely, onEstimate, onSolution, onStop, byKind, unlessStopped, respond}
+use Rattle.unit.specs.Step.{Decision, refused, accepted, Written, after, takeBound, takeOff, begun, recordOf, write, afterWrite, tryAfter, assign, backtrack, bareCost, resume, onDown, isCpaOut, onBack, onCpa, onFresh, onRequest, isOut, onOwnEstimate, onTimely, onEstimate, onSolution, onStop, byKind, respond}
+use Rattle.unit.specs.Tests.{sumLater, stored, isLast, tryValue, onOwn, reachedBound, onEither, reachedByEstimates, unlessStopped}
 use Rattle.unit.specs.Calls.{onRead}
 
 abbrev pub Numbered : Decision → Type 0

@@ -19,14 +19,15 @@ use Rattle.costs.specs.Lent.Bounds.{estimate-most}
 use Rattle.message.specs.declared.Message.{Message}
 use Rattle.message.specs.declared.Kind.{Kind}
 use Rattle.message.specs.declared.Kind.the-variants.{Cpa, Request, Estimate, Solution, Stop}
-use Rattle.message.specs.Message.{filledTo, noneOrBound, cpaCount}
+use Rattle.message.specs.Message.{filledTo, noneOrBound}
+use Rattle.message.specs.Laws.{cpaCount, blank-filled, no-bound-by, address-by, Addressed, addressed, Formed, formed-by, formed, filled-at, filled-past}
 use Rattle.message.specs.Sized.{Sized}
-use Rattle.message.specs.Laws.{blank-filled, no-bound-by, address-by, Addressed, addressed, Formed, formed-by, formed, filled-at, filled-past}
 use Rattle.unit.specs.declared.Unit.{Unit as State}
 use Rattle.unit.specs.declared.Ordering.{Ordering}
 use Rattle.unit.specs.declared.Ordering.the-variants.{Less, Equal, Greater}
 use Rattle.unit.specs.State.{zeros, fresh, withThreshold, withCpa, ownValue, compareOn, sameOn, notLess, inRange}
-use Rattle.unit.specs.Step.{silent, takeLower, takeBound, onDown, isOut, isCpaOut, onOwn, onBack, onEither, onCpa, reply, onFresh, onRequest, sumLater, reachedByEstimates, stored, onOwnEstimate, onTimely, onEstimate, onSolution, onStop, unlessStopped, respond}
+use Rattle.unit.specs.Step.{takeBound, onDown, isOut, isCpaOut, onBack, onCpa, reply, onFresh, onRequest, onOwnEstimate, onTimely, onEstimate, onSolution, onStop, respond}
+use Rattle.unit.specs.Tests.{sumLater, stored, silent, onOwn, takeLower, onEither, reachedByEstimates, unlessStopped}
 use Rattle.unit.specs.Send.{packet, packets}
 use Rattle.unit.specs.Calls.{start}
 use Rattle.unit.specs.Laws.Views.{GoodView, units-most, place-16, size-most}

@@ -6,7 +6,7 @@ use native.Mathlib.Omega.{arith}
 use native.Mathlib.Nat.{mul-le-mul}
 use native.Mathlib.Numerals.{add-one}
 use Rattle.costs.specs.Lent.Parts.{domFrom}
-use Rattle.costs.specs.Instance.{rowStart}
+use Rattle.costs.specs.Laws.Stream.{rowStart}
 use borrow.Author.Needs.{needs}
 use Rattle.costs.proofs.stream.row_start.Statement.{statement}
 use Rattle.costs.proofs.stream.row_start.Tie as tie

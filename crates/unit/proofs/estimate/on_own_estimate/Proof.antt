@@ -6,7 +6,8 @@ use mathlib.Core.Path.{sym, ap, _∙_}
 use borrow.Author.Tests.{not-true, not-false}
 use Rattle.base.specs.Shape.Laws.{shape-n}
 use Rattle.costs.specs.Instance.{viewFrom}
-use Rattle.unit.specs.Step.{Decision, sumLater}
+use Rattle.unit.specs.Step.{Decision}
+use Rattle.unit.specs.Tests.{sumLater}
 use Rattle.unit.specs.Ready.{decidedOf}
 use Rattle.unit.proofs.Lent.{own-lent, n-lent}
 use Rattle.unit.proofs.Rules.{ready-stored, estimate-foreign, estimate-reached, estimate-short}

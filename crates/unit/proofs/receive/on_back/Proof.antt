@@ -6,7 +6,8 @@ use borrow.Author.Tests.{not-true, not-false}
 use Rattle.costs.specs.Instance.{viewFrom}
 use Rattle.unit.specs.declared.Unit.{Unit}
 use Rattle.unit.specs.State.{notLess}
-use Rattle.unit.specs.Step.{Decision, resume, isCpaOut, onOwn}
+use Rattle.unit.specs.Step.{Decision, resume, isCpaOut}
+use Rattle.unit.specs.Tests.{onOwn}
 use Rattle.unit.specs.Ready.{decidedOf}
 use Rattle.unit.proofs.Lent.{own-lent}
 use Rattle.unit.proofs.Rules.{ready-bound, back-stale, back-own}
