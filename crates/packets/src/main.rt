@@ -103,8 +103,7 @@ fn write(n: u8, kind: Kind, m: Message, packet: &[u8]) {
 // What writing gave, and whether the output is then the packet and a byte of 255.
 fn outcome(refusal: u8, out: &[u8], packet: &[u8]) {
     if refusal != 0 {
-        io::write_all(STDOUT_FILENO, b" refused ");
-        io::print_decimal(STDOUT_FILENO, refusal as u64);
+        print::print_number(b" refused ", base::wide_u32(refusal));
         return;
     }
     if same(packet, out) {

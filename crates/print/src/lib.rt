@@ -11,8 +11,7 @@ pub fn print_message(kind: Kind, m: Message) -> Message
 {
     print_kind(kind);
     io::print_decimal(STDOUT_FILENO, m.sender as u64);
-    io::write_all(STDOUT_FILENO, b" to ");
-    io::print_decimal(STDOUT_FILENO, m.receiver as u64);
+    print_number(b" to ", base::wide_u32(m.receiver));
     print_fields(m)
 }
 
@@ -20,19 +19,14 @@ pub fn print_message(kind: Kind, m: Message) -> Message
 pub fn print_fields(m: Message) -> Message
     ensures { λ r. ⌜ r ≡ m ⌝ }
 {
-    io::write_all(STDOUT_FILENO, b" stamp");
     let stamp = m.stamp;
-    print_bytes(stamp);
-    io::write_all(STDOUT_FILENO, b" values");
+    print_bytes(b" stamp", stamp);
     let values = m.values;
-    print_bytes(values);
-    io::write_all(STDOUT_FILENO, b" cost ");
-    io::print_decimal(STDOUT_FILENO, m.cost as u64);
-    io::write_all(STDOUT_FILENO, b" bound ");
-    io::print_decimal(STDOUT_FILENO, m.bound as u64);
-    io::write_all(STDOUT_FILENO, b" best");
+    print_bytes(b" values", values);
+    print_number(b" cost ", m.cost);
+    print_number(b" bound ", m.bound);
     let best = m.best;
-    print_bytes(best);
+    print_bytes(b" best", best);
     io::write_all(STDOUT_FILENO, b"\n");
     m
 }
@@ -41,48 +35,48 @@ pub fn print_fields(m: Message) -> Message
 pub fn print_refusal(number: u8) -> u8
     ensures { λ r. ⌜ r ≡ number ⌝ }
 {
-    io::write_all(STDOUT_FILENO, b" refused ");
-    io::print_decimal(STDOUT_FILENO, number as u64);
+    print_number(b" refused ", base::wide_u32(number));
     io::write_all(STDOUT_FILENO, b"\n");
     number
 }
 
-// 16 bytes, each after a space.
-pub fn print_bytes(l: [u8; 16]) -> [u8; 16]
+// A name, then 16 bytes, each after a space.
+pub fn print_bytes(name: &[u8], l: [u8; 16]) -> [u8; 16]
     ensures { λ r. ⌜ r ≡ l ⌝ }
 {
-    let words = [
-        base::wide_u32(l[0]),
-        base::wide_u32(l[1]),
-        base::wide_u32(l[2]),
-        base::wide_u32(l[3]),
-        base::wide_u32(l[4]),
-        base::wide_u32(l[5]),
-        base::wide_u32(l[6]),
-        base::wide_u32(l[7]),
-        base::wide_u32(l[8]),
-        base::wide_u32(l[9]),
-        base::wide_u32(l[10]),
-        base::wide_u32(l[11]),
-        base::wide_u32(l[12]),
-        base::wide_u32(l[13]),
-        base::wide_u32(l[14]),
-        base::wide_u32(l[15]),
-    ];
-    print_words(words);
+    io::write_all(STDOUT_FILENO, name);
+    let mut i = 0;
+    while i < 16 {
+        print_place(base::wide_u32(l[i]));
+        i += 1;
+    }
     l
 }
 
-// 16 numbers, each after a space.
-pub fn print_words(l: [u32; 16]) -> [u32; 16]
+// A name, then 16 numbers, each after a space.
+pub fn print_words(name: &[u8], l: [u32; 16]) -> [u32; 16]
     ensures { λ r. ⌜ r ≡ l ⌝ }
 {
+    io::write_all(STDOUT_FILENO, name);
     let mut i = 0;
     while i < 16 {
         print_place(l[i]);
         i += 1;
     }
     l
+}
+
+fn print_place(x: u32) {
+    print_number(b" ", x);
+}
+
+// A name, then a number.
+pub fn print_number(name: &[u8], x: u32) -> u32
+    ensures { λ r. ⌜ r ≡ x ⌝ }
+{
+    io::write_all(STDOUT_FILENO, name);
+    io::print_decimal(STDOUT_FILENO, x as u64);
+    x
 }
 
 // 01's word for a kind.
@@ -104,9 +98,4 @@ fn print_kind(kind: Kind) {
             io::write_all(STDOUT_FILENO, b"stop ");
         }
     }
-}
-
-fn print_place(x: u32) {
-    io::write_all(STDOUT_FILENO, b" ");
-    io::print_decimal(STDOUT_FILENO, x as u64);
 }

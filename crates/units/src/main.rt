@@ -104,8 +104,7 @@ fn told(r: &[u8], o: Outcome, out: &[u8]) -> Unit {
         print::print_refusal(o.refusal);
         return u;
     }
-    io::write_all(STDOUT_FILENO, b" records ");
-    io::print_decimal(STDOUT_FILENO, o.records as u64);
+    print::print_number(b" records ", base::wide_u32(o.records));
     state(u);
     let sizes = sizes_in(r);
     sent(base::byte_at(r, 33), sizes, o.sent, out);
@@ -113,14 +112,11 @@ fn told(r: &[u8], o: Outcome, out: &[u8]) -> Unit {
 }
 
 fn state(u: Unit) {
-    io::write_all(STDOUT_FILENO, b" threshold");
     let threshold = u.threshold;
-    print::print_bytes(threshold);
-    io::write_all(STDOUT_FILENO, b" estimates");
+    print::print_bytes(b" threshold", threshold);
     let estimates = u.estimates;
-    print::print_words(estimates);
-    io::write_all(STDOUT_FILENO, b" counter ");
-    io::print_decimal(STDOUT_FILENO, u.counter as u64);
+    print::print_words(b" estimates", estimates);
+    print::print_number(b" counter ", base::wide_u32(u.counter));
     if u.stopped {
         io::write_all(STDOUT_FILENO, b" stopped");
     }

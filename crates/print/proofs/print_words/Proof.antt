@@ -6,13 +6,12 @@ use Rattle.print.proofs.print_words.Statement.{statement}
 use Rattle.print.proofs.print_words.Tie as tie
 
 abbrev Inv-loop : tie.InvT-loop
-Inv-loop l i₀ i = i ≤ 16
+Inv-loop name l i₀ i = i ≤ 16
 
 abbrev μ-loop : tie.MeasureT-loop
-μ-loop l i₀ i = 16 - i
+μ-loop name l i₀ i = 16 - i
 
 pub print-words-spec : {M : Type 1} → statement M
 print-words-spec =
     tie.close
-    (tie.spec Inv-loop μ-loop (λ c. search needs) (λ c. search needs) (λ c. search needs) (λ c κs. search needs) (λ c. search needs)
-    (λ c. search needs) (λ c. search needs) (λ c. search needs))
+    (tie.spec Inv-loop μ-loop (λ c κs. search needs) (λ c. search needs) (λ c. search needs) (λ c. search needs) (λ c κs. search needs) (λ c. search needs) (λ c. search needs) (λ c. search needs) (λ c. search needs))
