@@ -3,7 +3,7 @@
 --     Fields in bytes           a field laid at its place is read there, and read bytes are laid again
 --     parse-encode, parse-written     a message written and read
 --     ParsedGood, parsed-good   what is known of bytes that reading accepts
---     encode-parse, writes-again, parse-injective     accepted bytes read and written
+--     encode-parse, writes-again, parse-injective     accepted bytes read and written; unpack-parsed: read with no check
 --     one-byte-refused          accepted bytes with one of them changed are refused by 8
 --     refused-blank             beside a refusal every field is zero
 -- Assumes nothing.
@@ -36,7 +36,7 @@ use Rattle.message.specs.Message.{kindCode, kindOf, noMessage, addressGo
 use Rattle.message.specs.Sized.{Sized}
 use Rattle.message.specs.Encode.{body, encode, putRefusal}
 use Rattle.message.specs.EncodeLaws.{head, length-body, length-encode}
-use Rattle.message.specs.Decode.{messageIn, checkGood, restZero, parseKind, parseFor, parseOf, refused, writeRefusal, packetInto}
+use Rattle.message.specs.Decode.{messageIn, checkGood, restZero, parseKind, parseFor, parseOf, refused, writeRefusal, packetInto, unpackOf}
 use Rattle.message.specs.DecodeLaws.{addressedTo, check-length, parse-5, parse-8, parse-10, parse-on, kind-refused, kind-rest, kind-unfit, kind-good, write-done}
 
 -- ------------------------------------------------------------------------------------------------------------------
@@ -332,6 +332,13 @@ pub encode-parse : (n : ℕ) (sizes : List ℕ) (own : ℕ) (s : List ℕ) (k : 
 encode-parse n sizes own s k b e =
     let a : ParsedGood n sizes own s k = parsed-good n sizes own s k e in
     ap (λ (p : Parsed). encode k (p .message)) (a .whole) ∙ encode-again s (check-length s (a .check)) b k (a .kind) (a .rest) (a .check)
+
+-- what reading accepts is what stands there unchecked
+pub unpack-parsed : (n : ℕ) (sizes : List ℕ) (own : ℕ) (s : List ℕ) (k : Kind) → parseFor n sizes own s .answer ≡ Good k → unpackOf s ≡ parseFor n sizes own s
+unfolding unpackOf
+unpack-parsed n sizes own s k e =
+    let a : ParsedGood n sizes own s k = parsed-good n sizes own s k e in
+    rw (eq-eqb (length s) messageSize (check-length s (a .check)), a .kind) (sym (a .whole))
 
 -- so writing them again, into any buffer that is long enough, is accepted and leaves the same bytes in front of what was there
 pub writes-again : (n : ℕ) (sizes : List ℕ) (own : ℕ) (s : List ℕ) (k : Kind) → AllBytes s → parseFor n sizes own s .answer ≡ Good k → (out : List ℕ) → messageSize ≤ length out

@@ -18,7 +18,7 @@ ghost use Prim.Native.Nat.{_+_, _≤_};
 ghost use lib.ListN.{length, take, drop, getD};
 ghost use Rattle.base.specs.Limits.{places, messageSize};
 ghost use Rattle.message.specs.Message.{kindOf};
-ghost use Rattle.message.specs.Decode.{messageIn, checkGood, restZero, refused, parseKind};
+ghost use Rattle.message.specs.Decode.{messageIn, checkGood, restZero, refused, ofKind, parseKind};
 
 // Check 8: 64 bytes, and the checksum is right.
 pub(crate) fn check_good(bytes: &[u8]) -> bool
@@ -44,6 +44,17 @@ pub(crate) fn parse_kind(n: u8, sizes: [u8; 16], bytes: &[u8], m: Message) -> Pa
     if !well_formed(n, sizes, kind, m) {
         return refused(9);
     }
+    Parsed { answer, message: m }
+}
+
+// The fields with the kind of a number, or the refusal where it is no kind's.
+pub(crate) fn of_kind(b: u8, m: Message) -> Parsed
+    ensures { λ r. ⌜ r ≡ ofKind m (kindOf b) ⌝ }
+{
+    let answer = kind_of(b);
+    let Read::Good(_) = answer else {
+        return refused(refusal_of(answer));
+    };
     Parsed { answer, message: m }
 }
 

@@ -3,7 +3,7 @@
 ghost use mathlib.Core.Path.{_≡_};
 ghost use lib.ListN.{length};
 ghost use Rattle.message.specs.Message.{kindCode, kindOf, refusalOf};
-ghost use Rattle.message.specs.Decode.{parseOf, parseFor, writeRefusal, packetInto};
+ghost use Rattle.message.specs.Decode.{parseOf, parseFor, writeRefusal, packetInto, unpackOf};
 
 mod decode; // bytes read into kind and fields
 mod encode; // the 64 bytes of a message, laid into a lent buffer
@@ -98,6 +98,17 @@ pub fn parse_for(n: u8, sizes: [u8; 16], own: u8, bytes: &[u8]) -> Parsed
         return decode::refused(10);
     }
     decode::parse_kind(n, sizes, bytes, m)
+}
+
+// 64 bytes that are known to be a message: kind and fields as they stand. Refusals 8 (not 64 bytes) and 9 (no kind), and no other check.
+pub fn unpack(bytes: &[u8]) -> Parsed
+    ensures { λ r. ⌜ r ≡ unpackOf (now (bytes .entry)) ⌝ }
+{
+    if bytes.len() != base::MESSAGE_SIZE {
+        return decode::refused(8);
+    }
+    let m = decode::message_in(bytes);
+    decode::of_kind(base::byte_at(bytes, 0), m)
 }
 
 // A message written first in the lent bytes; 0, or the refusal's number: 5, 10, 9, 13.

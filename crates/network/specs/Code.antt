@@ -158,6 +158,9 @@ module _ (s : List ℕ) (ok : Accepted s) (own : ℕ) (first : 1 ≤ own) (last 
   pub lent-count : (room : ℕ) (g : Length) → costsSize ≤ room → g ≡ gatherOf s own room → g .length ≤ costsSize
   lent-count room g h e = rw (e, gather-enough s ok own first last room h) (gathered-most s ok own first last)
 
+  pub lent-length : (room : ℕ) (g : Length) → costsSize ≤ room → g ≡ gatherOf s own room → g .length ≡ length (gathered s own)
+  lent-length room g h e = rw (e, gather-enough s ok own first last room h)
+
   pub lent-front : (l out : List ℕ) (g : Length) → costsSize ≤ length l → g ≡ gatherOf s own (length l) → out ≡ gatherInto s own l → take (g .length - 0) (drop 0 out) ≡ gathered s own
   lent-front l out g h e f = rw (sub-zero, e, f) (gather-front s ok own first last l h)
 
@@ -176,7 +179,7 @@ pub record Stepped (s : List ℕ) (own : ℕ) (u : UnitState) (bytes before : Li
   pub buffer : (us : List UnitState) → unitAt us (pred own) ≡ u → after ≡ bytesOf (unitsOf s) (pred own) before (stepFrom8 s us own bytes)
 
 module _ (s : List ℕ) (ok : Accepted s) (us : List UnitState) (own : ℕ) (first : 1 ≤ own) (last : own ≤ unitsOf s) (state : unitInRange s us (pred own) ≡ true) (bytes : List ℕ) (room : ℕ) (fits : sendingSize ≤ room) where
-  passes : Passed (unitAt us (pred own)) own (unitsOf s) (sizesIn s) (gathered s own) room
+  pub passes : Passed (unitAt us (pred own)) own (unitsOf s) (sizesIn s) (gathered s own) room
   passes = record {
     shape = accepted-sizes-good s ok;
     unit = rw (le-leb 1 own first, le-leb own (unitsOf s) last);

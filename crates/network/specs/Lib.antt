@@ -7,5 +7,7 @@ pub mod Demand3
 pub mod Pool
 pub mod Proof
 pub mod Theorem
+pub mod Lending
 pub mod Settle
 pub mod Code
+pub mod Trusted

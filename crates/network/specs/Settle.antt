@@ -9,12 +9,14 @@ use mathlib.Core.List.{List, []}
 use native.Mathlib.Omega.{arith}
 use native.Mathlib.Nat.{add-zero, add-suc}
 use lib.ListN.{replicate}
+use Rattle.table.specs.Stream.{Accepted}
 use Rattle.costs.specs.Instance.{instanceOf}
 use Rattle.network.specs.declared.Network.{Network}
 use Rattle.network.specs.declared.Answer.{Answer}
 use Rattle.network.specs.Count.{valueOf}
 use Rattle.network.specs.Calls.{Result, makeOf, deliverOf}
-use Rattle.network.specs.Demand3.{Shed, shedOf, shedMade, shedAfter, deliverAll, runBytes, acceptedIn, Made, most, over}
+use Rattle.network.specs.Demand3.{Shed, shedOf, shedMade, shedAfter, deliverAll, runBytes, refusalAt, acceptedIn, Made, most, over}
+use Rattle.network.specs.Proof.Making.{accepted-table}
 use Rattle.network.specs.Theorem.{served, one-counted, oldest-accepted, oldest-ends, stopped-stays}
 
 -- ---- the call
@@ -63,6 +65,10 @@ module _ (s pool : List ℕ) (made : Made s pool) where
         subst (λ x. x ≤ most (instanceOf s)) (sym (ap countOf a ∙ v .deliveries)) (v .bounded)
 
     -- until unit 1 stops one more is accepted
+    after-accepted : over S ≡ false → refusalAt s S 0 ≡ 0
+    unfolding runBytes
+    after-accepted st = subst (λ (T : Shed). over T ≡ false → refusalAt s T 0 ≡ 0) (sym a) (oldest-accepted s pool made (countOf S)) st
+
     after-next : over S ≡ false → (countOf (shedAfter s S 0) ≡ suc (countOf S)) × After s (shedMade s pool) (shedAfter s S 0)
     unfolding runBytes
     after-next st =
@@ -113,6 +119,9 @@ module _ (s p : List ℕ) (a : Answer) (l : List ℕ) (e : (a ≡ makeOf s p .an
   made : Made s p
   made = ap (λ (x : Answer). x .refusal) (sym (e .0)) ∙ z
 
+  pub made-table : Accepted s
+  made-table = accepted-table s p made
+
   start-is : _≡_ {A = Shed} (record { network = a .network; pool = l }) (shedMade s p)
   start-is = λ i. record { network = e .0 i .network; pool = e .1 i }
 
@@ -128,6 +137,10 @@ module _ (s p : List ℕ) (a : Answer) (l : List ℕ) (e : (a ≡ makeOf s p .an
     settle-stopped st =
         let q = settles-stopped s p made (record { network = net; pool = m }) from-making st in
         (ap (λ (x : Result). x .answer) (sym q), ap (λ (x : Result). x .pool) (sym q))
+
+    -- it has not, so the next delivery is accepted
+    pub reached-accepted : over (record { network = net; pool = m }) ≡ false → deliverOf net s m 0 .answer .refusal ≡ 0
+    reached-accepted st = after-accepted s p made (record { network = net; pool = m }) from-making st
 
     -- it has not, and the next delivery gave d and left the pool m′
     module _ (d : Answer) (m′ : List ℕ) (f : (d ≡ deliverOf net s m 0 .answer) × (m′ ≡ deliverOf net s m 0 .pool)) (st : over (record { network = net; pool = m }) ≡ false) where

@@ -123,7 +123,7 @@ fn hand_over(net: Network, stream: &[u8], pool: &mut [u8], cell: usize) -> Answe
 }
 
 // The unit that a packet names as its receiver, or 1.
-fn receiver(n: u8, packet: &[u8]) -> u8
+pub(crate) fn receiver(n: u8, packet: &[u8]) -> u8
     ensures { λ r. ⌜ (r ≡ receiverOf n (now (packet .entry))) × AllBytes (now (packet .entry)) ⌝ }
 {
     let named = base::byte_at(packet, 2);

@@ -3,6 +3,7 @@
 mod counting; // a count in two words
 mod decimal; // a count in decimal digits
 mod delivery; // the message at a cell delivered
+mod lending; // the costs of all units, gathered once
 mod making; // a network made of a stream
 mod pool; // cells moved and written
 mod settling; // a network run to its end

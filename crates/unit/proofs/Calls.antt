@@ -13,6 +13,7 @@ use Rattle.base.specs.Shape.Laws.{shape-n}
 use Rattle.costs.specs.declared.Seat.{Seat}
 use Rattle.costs.specs.Instance.{View, lentView, viewFrom}
 use Rattle.costs.specs.Lent.{lentRefusal}
+use Rattle.message.specs.declared.Message.{Message}
 use Rattle.message.specs.declared.Parsed.{Parsed}
 use Rattle.message.specs.declared.Kind.{Kind}
 use Rattle.message.specs.declared.Read.the-variants.{Good, Refused}
@@ -35,6 +36,7 @@ use Rattle.unit.specs.Laws.Assign.{Whenever, GoodDecision}
 use Rattle.unit.specs.Laws.Steps.{respond-kept, start-kept}
 use Rattle.unit.specs.Laws.Calls.{Makes, Passed}
 use Rattle.unit.proofs.Lent.{pred-sub}
+use Rattle.unit.specs.Laws.Trusted.{Few, respond-few}
 use Rattle.unit.specs.Laws.Readiness.{own-of, shaped-of, ready-of, heard-of}
 
 -- a seat by its parts
@@ -133,8 +135,8 @@ module _ (own n : ℕ) (sizes costs : List ℕ) (room : ℕ) where
   make-starts r e h = rw (← e, h)
 
 module _ (own n : ℕ) (sizes costs out : List ℕ) (m : Makes own n sizes costs (length out)) where
-  pub make-shaped : Shaped (seatOf own n sizes)
-  make-shaped = shaped-of (seatOf own n sizes) (m .shape) (m .unit)
+  pub make-shaped : n ≤ length sizes → Shaped (seatOf own n sizes)
+  make-shaped long = shaped-of (seatOf own n sizes) (m .shape) long (m .unit)
 
   pub make-room : Room (seatOf own n sizes) out
   make-room = room-of (seatOf own n sizes) out (m .shape) (m .unit) (m .fits)
@@ -184,7 +186,7 @@ module _ (u : Unit) (own n : ℕ) (sizes costs out : List ℕ) (q : Passed u own
 
     pub step-asks : Shaped (seatOf own n sizes) × Ready own u × Heard own (p .message)
     step-asks = (
-      shaped-of (seatOf own n sizes) (q .shape) (q .unit),
+      shaped-of (seatOf own n sizes) (q .shape) long (q .unit),
       ready-of (seatOf own n sizes) costs u (own-of own n sizes (q .shape) (q .unit)) (q .state),
       heard-of own n sizes k (p .message) (q .shape) long (rw fields (known .address)) to-own (rw fields (known .formed)),
     )
@@ -196,3 +198,17 @@ module _ (u : Unit) (own n : ℕ) (sizes costs out : List ℕ) (q : Passed u own
         let to : p .message .receiver ≡ suc (pred own) = omega (arith, to-own, unit-range n own (q .unit) .0) in
         rw (← pred-sub own) (few-decided n sizes w was (respond w k u (p .message)) d e
         (respond-kept n sizes w (lent-good own n sizes costs (q .shape) long (q .unit) (q .lent)) k u (p .message) (q .state) arrays record { address = rw fields (known .address); form = rw fields (known .formed); arrays = z } to))
+
+-- ---- a step on what is known to be good
+
+pub trusted-few : (own n : ℕ) (sizes costs : List ℕ) → 1 ≤ own → own ≤ n → n ≤ 16 → (k : Kind) (u : Unit) (m : Message) (was : Unit) (d : Decided)
+    → d ≡ decidedOf was (respond (lentView own n sizes costs) k u m) → length (packets n (own - 1) (d .sending)) ≤ 16
+unfolding lentView packets
+trusted-few own n sizes costs first last most k u m was d e = rw (← pred-sub own) (go (respond w k u m) e (respond-few n w refl (omega (arith, pred-sub own)) k u m))
+  where
+    w : View
+    w = lentView own n sizes costs
+
+    go : (o : Decision) → d ≡ decidedOf was o → Whenever (Few n w refl (omega (arith, pred-sub own))) o → length (packets n (pred own) (d .sending)) ≤ 16
+    go (refused x) e f = rw e (omega arith)
+    go (accepted u s ws) e f = rw e (omega (arith, f))

@@ -5,9 +5,11 @@
 --     Assign, Steps             a unit in range takes any message that reads well, stays in range, and sends what can be written; so does making
 --     Bounds                    a stale message changes nothing; the bound never rises; unit n keeps no CPA
 --     Calls                     the same of making and a step as called
+--     Walk                      one walk through what a unit decides
 --     Refusals                  a refusal has a number; assigning refuses nothing
 --     Units                     many units in range: a step of one leaves all in range, and sends what can be written
 --     Readiness                 what a step has checked is what the deciding functions ask
+--     Trusted                   the step on what is known to be good is the step on what a step accepts
 pub mod Views
 pub mod Stamps
 pub mod Filled
@@ -17,6 +19,8 @@ pub mod Assign
 pub mod Steps
 pub mod Bounds
 pub mod Calls
+pub mod Walk
 pub mod Refusals
 pub mod Units
 pub mod Readiness
+pub mod Trusted

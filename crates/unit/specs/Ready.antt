@@ -2,9 +2,7 @@
 -- Places count from 0: unit `own` is at place own - 1. Assumes nothing.
 use Prim.Native.Nat.{ℕ, _-_, _≤_, _<_}
 use mathlib.Core.Path.{_≡_}
-use mathlib.Core.Bool.{true}
 use lib.ListN.{length, getD}
-use Rattle.base.specs.Shape.{shapeGood}
 use Rattle.costs.specs.declared.Seat.{Seat}
 use Rattle.message.specs.declared.Message.{Message}
 use Rattle.unit.specs.declared.Unit.{Unit}
@@ -17,11 +15,12 @@ pub record Own (own : ℕ) : Type 0 where
   pub first : 1 ≤ own
   pub last : own ≤ 16
 
--- a unit of a good shape
+-- one of at most 16 units, with at most 16 values
 pub record Shaped (seat : Seat) : Type 0 where
   pub number : Own (seat .own)
   pub within : seat .own ≤ seat .n
-  pub shape : shapeGood (seat .n) (seat .sizes) ≡ true
+  pub units : seat .n ≤ 16
+  pub size : getD (seat .sizes) (seat .own - 1) 0 ≤ 16
 
 -- a state whose threshold and counter may go up by 1: the counter is used only with a cpa out
 pub record Ready (own : ℕ) (u : Unit) : Type 0 where

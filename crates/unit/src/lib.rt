@@ -11,8 +11,8 @@ ghost use Rattle.unit.specs.State.{fresh, noUnit};
 ghost use Rattle.unit.specs.Step.{Decision, refused};
 ghost use Rattle.unit.specs.Send.{packets};
 ghost use Rattle.unit.specs.Laying.{Room};
-ghost use Rattle.unit.specs.Calls.{outcomeOf, numbersOf, bytesOf, seatRefusal, makeRefusal, rangeRefusal, start, makeOut, stepRefusal, stepOut};
-ghost use Rattle.unit.specs.Ready.{Shaped, decidedOf};
+ghost use Rattle.unit.specs.Calls.{outcomeOf, numbersOf, bytesOf, seatRefusal, makeRefusal, rangeRefusal, start, makeOut, stepRefusal, stepOut, canStep, canHear, trustedOut};
+ghost use Rattle.unit.specs.Ready.{Own, Shaped, decidedOf};
 
 mod assign; // assigning: values tried, the first below the bound written
 mod backtrack; // backtracking: the own value off, the cpa handed back
@@ -127,6 +127,39 @@ pub fn step(
     carry_out(seat, d, out)
 }
 
+// The step on what is known to be good, as in a run that checked its table once: it asks only what it can't do without. Refusals 13, 5, 8, 9,
+// then 12, 11. On what `step` accepts it is the step.
+pub fn step_trusted(
+    u: Unit,
+    own: u8,
+    n: u8,
+    sizes: [u8; 16],
+    costs: &[u8],
+    packet: &[u8],
+    out: &mut [u8],
+) -> Outcome
+    ensures { λ r. ⌜ (r ≡ outcomeOf n (pred own) u (trustedOut u own n sizes (now (costs .entry)) (now (packet .entry)) (length (now (out .entry))))) × (now (out .exit) ≡ bytesOf n (pred own) (now (out .entry)) (trustedOut u own n sizes (now (costs .entry)) (now (packet .entry)) (length (now (out .entry))))) ⌝ }
+{
+    let seat = Seat { own, n, sizes };
+    if out.len() < base::SENDING_SIZE {
+        return refused(13, u);
+    }
+    if !can_step(seat, u) {
+        return refused(5, u);
+    }
+    let known = message::unpack(packet);
+    let answer = known.answer;
+    let Read::Good(kind) = answer else {
+        return refused(message::refusal_of(answer), u);
+    };
+    let m = known.message;
+    if !can_hear(own, m) {
+        return refused(9, u);
+    }
+    let d = decide::respond(seat, costs, kind, u, m);
+    carry_out(seat, d, out)
+}
+
 // The step on a lent state: 01, "The box lends its state to each step, and the step writes it there".
 pub fn step_in_place(
     u: &mut Unit,
@@ -207,6 +240,48 @@ fn seat_refusal(seat: Seat, costs: &[u8]) -> u8
         return 10;
     }
     costs::lent_refusal(seat, costs)
+}
+
+// Whether a unit in this state can step at all.
+fn can_step(seat: Seat, u: Unit) -> bool
+    ensures { λ r. ⌜ r ≡ canStep (seat .own) (seat .n) (seat .sizes) u ⌝ }
+{
+    if !message::is_unit(seat.n, seat.own) {
+        return false;
+    }
+    if 16 < seat.n {
+        return false;
+    }
+    let place = (seat.own - 1) as usize;
+    if 16 < seat.sizes[place] {
+        return false;
+    }
+    if 17 < u.threshold[place] {
+        return false;
+    }
+    let value = u.values[place];
+    if value == 0 {
+        return true;
+    }
+    u.counter <= value
+}
+
+// Whether unit `own` can do anything with a message.
+fn can_hear(own: u8, m: Message) -> bool
+    requires { ⌜ Own own ⌝ }
+    ensures { λ r. ⌜ r ≡ canHear own m ⌝ }
+{
+    if !message::is_unit(16, m.sender) {
+        return false;
+    }
+    let place = (own - 1) as usize;
+    if 17 < m.stamp[place] {
+        return false;
+    }
+    if own <= m.sender {
+        return true;
+    }
+    m.values[place] == 0
 }
 
 // What a new unit decides.

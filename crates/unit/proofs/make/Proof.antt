@@ -25,7 +25,10 @@ returns c =
     (c .refused .ensures (a .n) (pred (a .own)) ∙ rw (c .before .no-unit .ensures))
 
 start-requires : tie.Need-start-requires
-start-requires c κs = let a = c .before .before .before .before .args in make-shaped (a .own) (a .n) (a .sizes) (a .costs .now) (a .out .now) (made c)
+start-requires c κs =
+    let a = c .before .before .before .before .args in
+    let sixteen : length (a .sizes) ≡ 16 = search needs in
+    make-shaped (a .own) (a .n) (a .sizes) (a .costs .now) (a .out .now) (made c) (omega (arith, sixteen, shape-n (a .n) (a .sizes) (made c .shape) .1))
 
 carry-out-requires : tie.Need-carry-out-requires
 carry-out-requires c κs =

@@ -27,8 +27,15 @@ use Rattle.unit.specs.Laws.Range.{range-facts}
 pub own-of : (own n : ℕ) (sizes : List ℕ) → shapeGood n sizes ≡ true → isUnit n own ≡ true → Own own
 own-of own n sizes s e = let u = unit-range n own e in record { first = u .0; last = omega (arith, u .1, shape-n n sizes s .1) }
 
-pub shaped-of : (seat : Seat) → shapeGood (seat .n) (seat .sizes) ≡ true → isUnit (seat .n) (seat .own) ≡ true → Shaped seat
-shaped-of seat s e = record { number = own-of (seat .own) (seat .n) (seat .sizes) s e; within = unit-range (seat .n) (seat .own) e .1; shape = s }
+pub shaped-of : (seat : Seat) → shapeGood (seat .n) (seat .sizes) ≡ true → seat .n ≤ length (seat .sizes) → isUnit (seat .n) (seat .own) ≡ true → Shaped seat
+shaped-of seat s long e =
+    let u = unit-range (seat .n) (seat .own) e in
+    record {
+      number = own-of (seat .own) (seat .n) (seat .sizes) s e;
+      within = u .1;
+      units = shape-n (seat .n) (seat .sizes) s .1;
+      size = shape-size (seat .n) (seat .sizes) s long (seat .own - 1) (omega (arith, u .0, u .1)) .1;
+    }
 
 -- ---- the state
 

@@ -1,17 +1,15 @@
 -- A refusal has a number: reading and responding never give 0 for one, so a 0 means that the message was accepted. And assigning refuses nothing.
--- By going through the tests of each definition. Assumes nothing.
-use Prim.Native.Nat.{ℕ, zero, suc, _+_, _≤_}
+-- By the walk through what a unit decides, and the tests of reading. Assumes nothing.
+use Prim.Native.Nat.{ℕ, _≤_}
 use mathlib.Core.Bool.{Bool, true, false, cond, not, _&&_}
 use mathlib.Core.List.{List}
 use native.Mathlib.Omega.{arith}
-use lib.Dec.{ltb, leb, eqb}
+use lib.Dec.{eqb}
 use lib.ListN.{getD}
 use Rattle.base.specs.Shape.{shapeGood}
 use Rattle.costs.specs.Instance.{View}
-use Rattle.costs.specs.Bounds.{costWith, h}
 use Rattle.message.specs.declared.Message.{Message}
 use Rattle.message.specs.declared.Kind.{Kind}
-use Rattle.message.specs.declared.Kind.the-variants.{Cpa, Request, Estimate, Solution, Stop}
 use Rattle.message.specs.declared.Parsed.{Parsed}
 use Rattle.message.specs.declared.Read.{Read}
 use Rattle.message.specs.declared.Read.the-variants.{Good, Refused}
@@ -19,11 +17,8 @@ use Rattle.message.specs.Message.{kindOf, wellFormed}
 use Rattle.message.specs.Decode.{messageIn, checkGood, restZero, parseKind, parseFor}
 use Rattle.message.specs.DecodeLaws.{addressedTo}
 use Rattle.unit.specs.declared.Unit.{Unit as State}
-use Rattle.unit.specs.declared.Ordering.{Ordering}
-use Rattle.unit.specs.declared.Ordering.the-variants.{Less, Equal, Greater}
-use Rattle.unit.specs.State.{ownValue, left, compareOn, sameOn, withBest, withCpa, withThreshold}
-use Rattle.unit.specs.Step.{Decision, refused, accepted, Written, after, takeBound, takeOff, begun, recordOf, write, afterWrite, tryAfter, assign, backtrack, bareCost, resume, onDown, isCpaOut, onBack, onCpa, onFresh, onRequest, isOut, onOwnEstimate, onTimely, onEstimate, onSolution, onStop, byKind, respond}
-use Rattle.unit.specs.Tests.{sumLater, stored, isLast, tryValue, onOwn, reachedBound, onEither, reachedByEstimates, unlessStopped}
+use Rattle.unit.specs.Step.{Decision, refused, accepted, Written, after, backtrack, assign, respond}
+use Rattle.unit.specs.Laws.Walk.{assign-by, respond-by}
 use Rattle.unit.specs.Calls.{onRead}
 
 abbrev pub Numbered : Decision → Type 0
@@ -34,114 +29,23 @@ abbrev pub Accepts : Decision → Type 0
 Accepts (refused r) = ⊥
 Accepts (accepted u s ws) = Unit {0}
 
-accepts-numbered : (o : Decision) → Accepts o → Numbered o
-accepts-numbered (refused r) a = absurd a
-accepts-numbered (accepted u s ws) a = tt
-
--- ---- assigning
-
-after-accepts : (r : Written) (o : Decision) → Accepts o → Accepts (after r o)
-after-accepts r (refused x) a = a
-after-accepts r (accepted u s ws) a = tt
-
-written-accepts : (w : View) (t : Bool) (u : State) (again : Bool → State → Decision) → ((b : Bool) (u : State) → Accepts (again b u)) → Accepts (afterWrite w t u again)
-written-accepts w true u again f =
-    let t : State = takeOff w (withBest (u .cost) (u .values) u) in
-    after-accepts (recordOf w u) (again true t) (f true t)
-written-accepts w false u again f = tt
-
-value-accepts : (w : View) (t : Bool) (v c : ℕ) (b : Bool) (u : State) (again : Bool → State → Decision) → ((b : Bool) (u : State) → Accepts (again b u)) → Accepts (tryValue w t v c b u again)
-value-accepts w true v c b u again f = written-accepts w (isLast w) (write w v c u) again f
-value-accepts w false v c b u again f = f b u
-
-backtrack-accepts : (w : View) (b : Bool) (u : State) → Accepts (backtrack w b u)
-unfolding backtrack
-backtrack-accepts w b u = tt
-
-try-accepts : (w : View) (m v : ℕ) (b : Bool) (u : State) → Accepts (tryAfter w m v b u)
-unfolding tryAfter
-try-accepts w zero v b u = backtrack-accepts w b u
-try-accepts w (suc m) v b u =
-    let c : ℕ = u .cost + costWith w (u .values) (w .place) (suc v) in
-    value-accepts w (ltb (c + h w (suc v)) (u .bound)) (suc v) c b u (λ (b : Bool) (t : State). tryAfter w m (suc v) b t) (λ b t. try-accepts w m (suc v) b t)
+-- ---- deciding
 
 pub assign-accepts : (w : View) (u : State) → Accepts (assign w u)
-unfolding assign
-assign-accepts w u = try-accepts w (left w (ownValue w u)) (ownValue w u) false (begun w u)
-
--- ---- responding
-
-resume-accepts : (w : View) (u : State) → Accepts (resume w u)
-unfolding resume
-resume-accepts w u = go (leb (u .bound) (bareCost w u))
+unfolding backtrack
+assign-accepts w u = assign-by w Accepts (λ u. tt) (λ b u l. tt) more u
   where
-    go : (t : Bool) → Accepts (reachedBound w t u)
-    go true = backtrack-accepts w false (takeOff w u)
-    go false = assign-accepts w u
-
-resumes : (w : View) (u : State) → Numbered (resume w u)
-resumes w u = accepts-numbered (resume w u) (resume-accepts w u)
-
-module _ (w : View) (u : State) (m : Message) where
-  own-numbered : (t : Bool) → Numbered (onOwn w t u m)
-  own-numbered true = resumes w (takeBound m u)
-  own-numbered false = omega arith
-
-  down-numbered : (o : Ordering) → Numbered (onDown w o u m)
-  down-numbered Less = tt
-  down-numbered Equal = resumes w (takeBound m (withCpa (m .stamp) (m .values) (m .cost) u))
-  down-numbered Greater = resumes w (takeBound m (withCpa (m .stamp) (m .values) (m .cost) (withThreshold (m .stamp) u)))
-
-  back-numbered : (o : Ordering) → Numbered (onBack w o u m)
-  back-numbered Less = tt
-  back-numbered Equal = own-numbered (isCpaOut w u m)
-  back-numbered Greater = own-numbered (isCpaOut w u m)
-
-  either-numbered : (t : Bool) → Numbered (onEither w t u m)
-  either-numbered true = down-numbered (compareOn (suc (w .place)) (m .stamp) (u .threshold))
-  either-numbered false = back-numbered (compareOn (suc (w .place)) (m .stamp) (u .threshold))
-
-  cpa-numbered : Numbered (onCpa w u m)
-  unfolding onCpa
-  cpa-numbered = either-numbered (ltb (m .sender) (suc (w .place)))
-
-  fresh-numbered : (o : Ordering) → Numbered (onFresh w o u m)
-  fresh-numbered Less = tt
-  fresh-numbered Equal = tt
-  fresh-numbered Greater = tt
-
-  request-numbered : Numbered (onRequest w u m)
-  unfolding onRequest
-  request-numbered = fresh-numbered (compareOn (w .place) (m .stamp) (u .threshold))
-
-reached-numbered : (w : View) (t : Bool) (u : State) → Numbered (reachedByEstimates w t u)
-reached-numbered w true u = accepts-numbered (assign w u) (assign-accepts w u)
-reached-numbered w false u = tt
-
-own-estimate-numbered : (w : View) (t : Bool) (u : State) → Numbered (onOwnEstimate w t u)
-own-estimate-numbered w true u = reached-numbered w (leb (u .bound) (u .cost + sumLater w (u .estimates))) u
-own-estimate-numbered w false u = omega arith
-
-timely-numbered : (w : View) (o : Ordering) (u : State) (m : Message) → Numbered (onTimely w o u m)
-timely-numbered w Less u m = tt
-timely-numbered w Equal u m = own-estimate-numbered w (isOut w u && sameOn (suc (w .place)) (m .stamp) (u .stamp)) (stored m u)
-timely-numbered w Greater u m = omega arith
-
-kind-numbered : (w : View) (k : Kind) (u : State) (m : Message) → Numbered (byKind w k u m)
-unfolding onEstimate onSolution onStop
-kind-numbered w Cpa u m = cpa-numbered w u m
-kind-numbered w Request u m = request-numbered w u m
-kind-numbered w Estimate u m = timely-numbered w (compareOn (suc (w .place)) (m .stamp) (u .threshold)) u m
-kind-numbered w Solution u m = tt
-kind-numbered w Stop u m = tt
-
-stopped-numbered : (t : Bool) (w : View) (k : Kind) (u : State) (m : Message) → Numbered (unlessStopped t w k u m)
-stopped-numbered true w k u m = omega arith
-stopped-numbered false w k u m = kind-numbered w k u m
+    more : (r : Written) (o : Decision) → Accepts o → Accepts (after r o)
+    more r (refused x) a = a
+    more r (accepted u s ws) a = tt
 
 respond-numbered : (w : View) (k : Kind) (u : State) (m : Message) → Numbered (respond w k u m)
-unfolding respond
-respond-numbered w k u m = stopped-numbered (u .stopped) w k u m
+unfolding backtrack
+respond-numbered w k u m = respond-by w Numbered (λ u. tt) (λ b u l. tt) more (λ r l. l) (λ u. tt) (λ u m. tt) k u m
+  where
+    more : (r : Written) (o : Decision) → Numbered o → Numbered (after r o)
+    more r (refused x) a = a
+    more r (accepted u s ws) a = tt
 
 -- ---- reading
 

@@ -5,8 +5,7 @@ use Prim.Native.Nat.{suc, _+_, _-_}
 use native.Mathlib.Omega.{arith}
 use mathlib.Core.Path.{_≡_, sym, _∙_}
 use mathlib.Core.Bool.{false}
-use lib.ListN.{length, getD}
-use Rattle.base.specs.Shape.Laws.{shape-n, shape-size}
+use lib.ListN.{getD}
 use Rattle.costs.specs.Instance.{viewFrom}
 use Rattle.costs.specs.Bounds.{h}
 use Rattle.unit.specs.Step.{tryAfter, write}
@@ -24,10 +23,8 @@ abbrev μ-loop : tie.MeasureT-loop
 loop-holds : tie.Need-loop-holds Inv-loop μ-loop
 loop-holds c =
     let a = c .before .before .before .args in
-    let l : length (a .seat .sizes) ≡ 16 = search needs in
-    let s = shape-n (a .seat .n) (a .seat .sizes) (c .before .before .before .pre .0 .shape) in
     record {
-      small = shape-size (a .seat .n) (a .seat .sizes) (c .before .before .before .pre .0 .shape) (omega arith) (a .seat .own - 1) (omega arith) .1;
+      small = c .before .before .before .pre .0 .size;
       written = omega arith;
       counter = omega arith;
       threshold = omega arith;

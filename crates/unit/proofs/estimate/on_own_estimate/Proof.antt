@@ -4,7 +4,6 @@ use Prim.Native.Nat.{_+_, _≤_, _<_}
 use native.Mathlib.Omega.{arith}
 use mathlib.Core.Path.{sym, ap, _∙_}
 use borrow.Author.Tests.{not-true, not-false}
-use Rattle.base.specs.Shape.Laws.{shape-n}
 use Rattle.costs.specs.Instance.{viewFrom}
 use Rattle.unit.specs.Step.{Decision}
 use Rattle.unit.specs.Tests.{sumLater}
@@ -25,7 +24,7 @@ returns c =
 sum-later-requires : tie.Need-sum-later-requires
 sum-later-requires c κs =
     let a = c .before .before .before .before .before .before .before .args in
-    (c .before .before .before .before .before .before .before .pre .0 .within, shape-n (a .seat .n) (a .seat .sizes) (c .before .before .before .before .before .before .before .pre .0 .shape) .1)
+    (c .before .before .before .before .before .before .before .pre .0 .within, c .before .before .before .before .before .before .before .pre .0 .units)
 
 assign-requires : tie.Need-assign-requires
 assign-requires c κs =

@@ -1,0 +1,129 @@
+-- A delivery that is known to be accepted, by the step that trusts what it is lent: its checks would have passed, its packet reads well, and what
+-- it sends fits, so that the step, the gap closed and what is sent put behind give what the delivery gives. From its refusal, 0. Assumes nothing.
+use Prim.Native.Nat.{ℕ, zero, suc, pred, _+_, _*_, _-_, _≤_}
+use mathlib.Core.Path.{_≡_, refl, sym, ap, _∙_}
+use mathlib.Core.Bool.{Bool, true, false, cond}
+use mathlib.Core.List.{List}
+use native.Mathlib.Omega.{arith}
+use lib.Dec.{leb, eqb}
+use lib.ListN.{length, take, drop}
+use lib.Seq.{paste}
+use borrow.Author.Tests.{leb-true, eqb-true, eqb-false}
+use Rattle.base.specs.Bytes.Laws.{AllBytes}
+use Rattle.base.specs.Limits.{poolCells, sendingSize}
+use Rattle.table.specs.Stream.{unitsOf}
+use Rattle.table.specs.StreamLaws.{accepted-units}
+use Rattle.costs.specs.Gather.{sizesIn}
+use Rattle.costs.specs.Gathered.{gathered}
+use Rattle.costs.specs.Gather.Sizes.{length-sizes}
+use Rattle.message.specs.declared.Kind.{Kind}
+use Rattle.message.specs.declared.Read.{Read}
+use Rattle.message.specs.declared.Read.the-variants.{Good, Refused}
+use Rattle.message.specs.Decode.{parseFor}
+use Rattle.unit.specs.declared.Unit.{Unit as UnitState}
+use Rattle.unit.specs.declared.Outcome.{Outcome}
+use Rattle.unit.specs.Step.{Decision, refused}
+use Rattle.unit.specs.Units.{unitAt}
+use Rattle.unit.specs.Calls.{outcomeOf, bytesOf, stepOut, trustedOut}
+use Rattle.unit.specs.Laws.Range.{SizedUnit}
+use Rattle.unit.specs.Laws.Refusals.{NumberedRead, parse-numbered}
+use Rattle.unit.specs.Laws.Trusted.{trusted-steps}
+use Rattle.network.specs.declared.Network.{Network}
+use Rattle.network.specs.declared.Answer.{Answer}
+use Rattle.network.specs.Pool.{cellOf}
+use Rattle.network.specs.Pool.Laws.{closeGap}
+use Rattle.network.specs.Calls.{Result, deliverRefusal, receiverOf, stepFrom8, stepped, onOut, deliverBy, deliverOf}
+use Rattle.network.specs.Code.{Open, opened, deliver-goes, Stepping, Stepped, passes, step-told, stepping, hand-sent, hand-refuses, hand-stores, storedAnswer, storedPool, pred-sub}
+
+-- the step that trusts, lent what the stream says
+trusted-told : (s : List ℕ) (own : ℕ) (u : UnitState) (us : List UnitState) → unitAt us (pred own) ≡ u → Stepping s own u → (n : ℕ) (sizes costs bytes before after : List ℕ) (r : Outcome) → n ≡ unitsOf s
+    → sizes ≡ sizesIn s → costs ≡ gathered s own → sendingSize ≤ length before → (k : Kind) → parseFor (unitsOf s) (sizesIn s) own bytes .answer ≡ Good k
+    → r ≡ outcomeOf n (pred own) u (trustedOut u own n sizes costs bytes (length before)) → after ≡ bytesOf n (pred own) before (trustedOut u own n sizes costs bytes (length before))
+    → Stepped s own u bytes before r after
+trusted-told s own u us at g n sizes costs bytes before after r units array lent fits k good e f =
+    step-told s own u g n sizes costs bytes before after r units array lent fits (e ∙ ap (λ (o : Decision). outcomeOf n (pred own) u o) same) (f ∙ ap (λ (o : Decision). bytesOf n (pred own) before o) same)
+  where
+    same : trustedOut u own n sizes costs bytes (length before) ≡ stepOut u own n sizes costs bytes (length before)
+    same =
+        let long : unitsOf s ≤ length (sizesIn s) = omega (arith, length-sizes s, accepted-units s (g .table) .1) in
+        let p = passes s (g .table) us own (g .first) (g .last) (rw at (g .state)) bytes (length before) fits in
+        rw (units, array, lent) (trusted-steps u own (unitsOf s) (sizesIn s) (gathered s own) (length before) (rw at at p) long bytes k good)
+
+module _ (net : Network) (s pool : List ℕ) (cell : ℕ) (accepted : deliverOf net s pool cell .answer .refusal ≡ 0) where
+  unrefused : deliverRefusal net s pool cell ≡ 0
+  unfolding deliverOf
+  unrefused = go (deliverRefusal net s pool cell) accepted
+    where
+      go : (r : ℕ) → deliverBy r net s pool cell .answer .refusal ≡ 0 → r ≡ 0
+      go zero e = refl
+      go (suc r) e = e
+
+  pub checks : Open net s pool cell
+  checks = opened net s pool cell unrefused
+
+  goes : deliverBy 0 net s pool cell .answer .refusal ≡ 0
+  goes = ap (λ (x : Result). x .answer .refusal) (deliver-goes net s pool cell unrefused) ∙ accepted
+
+  -- its packet reads well
+  module _ (own : ℕ) (named : own ≡ receiverOf (unitsOf s) (cellOf pool cell)) where
+    unread : (r : ℕ) → parseFor (unitsOf s) (sizesIn s) own (cellOf pool cell) .answer ≡ Refused r → stepFrom8 s (net .core .units) own (cellOf pool cell) ≡ refused r
+    unfolding stepFrom8
+    unread r e = rw e
+
+    reads : (k : Kind) × (parseFor (unitsOf s) (sizesIn s) own (cellOf pool cell) .answer ≡ Good k)
+    reads = go (parseFor (unitsOf s) (sizesIn s) own (cellOf pool cell) .answer) refl (parse-numbered (unitsOf s) (sizesIn s) own (cellOf pool cell))
+      where
+        go : (a : Read) → parseFor (unitsOf s) (sizesIn s) own (cellOf pool cell) .answer ≡ a → NumberedRead a → (k : Kind) × (parseFor (unitsOf s) (sizesIn s) own (cellOf pool cell) .answer ≡ Good k)
+        go (Good k) e f = (k, e)
+        go (Refused r) e f =
+            let z : r ≡ 0 =
+            ap (λ (o : Decision). onOut net pool cell (unitsOf s) own o .answer .refusal) (sym (unread r e)) ∙ ap (λ (i : ℕ). onOut net pool cell (unitsOf s) i (stepFrom8 s (net .core .units) i (cellOf pool cell)) .answer .refusal) named ∙ goes in
+            absurd (omega (arith, f, z))
+
+  -- ---- n and own as the code has them, and the cell's m bytes
+
+  module _ (n own m : ℕ) (units : n ≡ unitsOf s) (size : m ≡ 64) (named : own ≡ receiverOf n (take m (drop (64 * cell) pool))) (u : UnitState) (at : u ≡ unitAt (net .core .units) (own - 1))
+      (sizes costs before out : List ℕ) (array : sizes ≡ sizesIn s) (lent : costs ≡ gathered s own) (fits : sendingSize ≤ length before) (r : Outcome)
+      (told : r ≡ outcomeOf n (pred own) u (trustedOut u own n sizes costs (take m (drop (64 * cell) pool)) (length before)))
+      (left : out ≡ bytesOf n (pred own) before (trustedOut u own n sizes costs (take m (drop (64 * cell) pool)) (length before))) (arrays : SizedUnit u) (all : AllBytes (take m (drop (64 * cell) pool))) where
+    named-is : own ≡ receiverOf (unitsOf s) (cellOf pool cell)
+    named-is = named ∙ rw (units, size)
+
+    good : (k : Kind) × (parseFor (unitsOf s) (sizesIn s) own (take m (drop (64 * cell) pool)) .answer ≡ Good k)
+    good = rw size (reads own named-is)
+
+    steps : Stepped s own u (take m (drop (64 * cell) pool)) before r out
+    steps =
+        trusted-told s own u (net .core .units) (ap (λ (k : ℕ). unitAt (net .core .units) k) (pred-sub own) ∙ sym at) (stepping net s pool cell checks n own m units size named u at) n sizes costs (take m (drop (64 * cell) pool))
+        before out r units array lent fits (good .0) (good .1) told left
+
+    pub trusted-sent : r .sent ≤ 16
+    trusted-sent = hand-sent net s pool cell checks n own m units size named u at before out r steps arrays all
+
+    unrefused-step : r .refusal ≡ 0
+    unrefused-step = go (eqb (r .refusal) 0) refl
+      where
+        go : (t : Bool) → eqb (r .refusal) 0 ≡ t → r .refusal ≡ 0
+        go true e = eqb-true (r .refusal) 0 e
+        go false e = ap (λ (x : Answer). x .refusal) (hand-refuses net s pool cell checks n own m units size named u at before out r steps arrays all (eqb-false (r .refusal) 0 e) .0) ∙ goes
+
+    stores : (storedAnswer net own r ≡ deliverBy 0 net s pool cell .answer) × (storedPool net cell r out pool ≡ deliverBy 0 net s pool cell .pool)
+    stores = hand-stores net s pool cell checks n own m units size named u at before out r steps arrays all unrefused-step
+
+    -- all that it sends fits
+    room : leb (net .used - 1 + r .sent) poolCells ≡ true
+    room = go (leb (net .used - 1 + r .sent) poolCells) (ap (λ (x : Answer). x .refusal) (stores .0) ∙ goes)
+      where
+        go : (t : Bool) → cond {A = Answer} t (record { refusal = 0; network = stepped net own (r .unit) (r .sent) (r .records) }) (record { refusal = 14; network = net }) .refusal ≡ 0 → t ≡ true
+        go true e = refl
+        go false e = absurd (omega arith)
+
+    pub trusted-room : net .used - 1 + r .sent ≤ poolCells
+    trusted-room = leb-true (net .used - 1 + r .sent) poolCells room
+
+    pub trusted-gives : (record { refusal = 0; network = stepped net own (r .unit) (r .sent) (r .records) } ≡ deliverOf net s pool cell .answer)
+        × (paste (closeGap pool (64 * cell) (64 * net .used)) (64 * (net .used - 1)) out (64 * r .sent) ≡ deliverOf net s pool cell .pool)
+    trusted-gives =
+        let e = deliver-goes net s pool cell unrefused in
+        let t = stores in
+        (rw room at (t .0) ∙ ap (λ (x : Result). x .answer) e, rw room at (t .1) ∙ ap (λ (x : Result). x .pool) e)
