@@ -7,8 +7,7 @@ use Rattle.message.specs.Message.{kindCode, refusalOf, addressGood}
 use Rattle.unit.specs.{declared.Report.Report, Calls.outcomeOf, Calls.bytesOf, Calls.stepOut}
 use Rattle.network.specs.Calls.{deliverOf}
 use Rattle.search.specs.declared.Found.{Found as Searched}
-use Rattle.cabi.specs.{declared.Found.Found, declared.LentAnswer.LentAnswer, declared.LentNetwork.LentNetwork, declared.LentUnit.LentUnit, declared.Parsed.Parsed}
-use Rattle.cabi.specs.declared.LentOutcome.{LentOutcome}
+use Rattle.cabi.specs.{declared.Found.Found, declared.LentAnswer.LentAnswer, declared.LentNetwork.LentNetwork, declared.LentOutcome.LentOutcome, declared.LentUnit.LentUnit, declared.Parsed.Parsed}
 use Rattle.cabi.specs.Lent.{unitFrom, outcomeBack, networkFrom, answerBack}
 pub mod Laws
 

@@ -1,5 +1,5 @@
 -- The check. Document 01: "The check is the sum of (k+1) × byte k for k from 0 to 509, modulo 65,521"; of a message "the same sum".
--- Definitions, then laws: the sum is below the modulus, of two lists joined, and of one byte more. Assumes nothing.
+-- Its laws are in Sum/Laws. Assumes nothing.
 use Rattle.base.specs.Library.{ℕ, _+_, _*_, _%_, List, [], _∷_}
 pub mod Laws
 

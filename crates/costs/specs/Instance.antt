@@ -51,11 +51,8 @@ tableCost n dom costs i u j v =
 abbrev pub domOf : List ℕ → ℕ → ℕ
 domOf s = domIn (unitsOf s) (drop 1 s)
 
-abbrev pub costsOf : List ℕ → List ℕ
-costsOf s = drop (1 + unitsOf s) s
-
 unfoldable pub instanceOf : List ℕ → Instance
-instanceOf s = record { n = unitsOf s; dom = domOf s; cost = tableCost (unitsOf s) (domOf s) (costsOf s) }
+instanceOf s = record { n = unitsOf s; dom = domOf s; cost = tableCost (unitsOf s) (domOf s) (drop (1 + unitsOf s) s) }
 
 -- ---- the costs that touch one unit, 01: "by the other unit ascending, each pair in the stream's order"
 

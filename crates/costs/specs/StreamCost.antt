@@ -15,8 +15,8 @@ use Rattle.base.specs.Bytes.{u16At}
 use Rattle.base.specs.Sums.{sumFrom}
 use Rattle.table.specs.Stream.{unitsOf}
 use Rattle.base.specs.Shape.{isValue}
-use Rattle.costs.specs.Instance.{inPair, costNumber, pairStart, tableCost, viewOf, instanceOf, domOf, costsOf}
-use Rattle.costs.specs.Laws.Stream.{rowStart}
+use Rattle.costs.specs.Instance.{inPair, costNumber, pairStart, tableCost, viewOf, instanceOf, domOf}
+use Rattle.costs.specs.Laws.Stream.{costsOf, rowStart}
 use Rattle.costs.specs.Bounds.{costWith}
 use Rattle.base.specs.Sums.Laws.{sumTo-sumFrom}
 use Rattle.costs.specs.Lent.Steps.{dom-past-count, no-value, sumFrom-zero, cost-none, cost-more}

@@ -1,10 +1,9 @@
 -- A message read from bytes and written into a lent buffer, with the refusals in 01's order. Document 01, 'Refusals':
 -- "Reading a message: 5, 8, 10, 9. Writing one: 5, 10, 9, 13." Assumes nothing.
-use Rattle.base.specs.Library.{ℕ, Bool, cond, not, _&&_, List, eqb, length, take, drop, getD}
+use Rattle.base.specs.Library.{ℕ, _+_, Bool, cond, not, _&&_, List, leb, eqb, length, take, drop, getD}
 use Rattle.base.specs.{Bytes.u16At, Bytes.u32At, Limits.places, Limits.messageSize, Put.putAt, Shape.shapeGood}
 use Rattle.checksum.specs.Sum.{sumOf}
-use Rattle.message.specs.{declared.Kind.Kind, declared.Read.Read, declared.Message.Message, declared.Parsed.Parsed, Encode.encode, Encode.putRefusal}
-use Rattle.message.specs.declared.Read.the-variants.{Good, Refused}
+use Rattle.message.specs.{declared.Kind.Kind, declared.Read.Read, declared.Read.the-variants.Good, declared.Read.the-variants.Refused, declared.Message.Message, declared.Parsed.Parsed, Written.encode}
 use Rattle.message.specs.Layout.{stampByte, valuesByte, costByte, boundByte, bestByte, zeroByte, checkByte}
 use Rattle.message.specs.Message.{kindOf, noMessage, addressGood, wellFormed}
 
@@ -57,6 +56,14 @@ ofKind m (Refused r) = refused r
 
 unfoldable pub unpackOf : List ℕ → Parsed
 unpackOf s = cond (eqb (length s) messageSize) (ofKind (messageIn s) (kindOf (getD s 0 0))) (refused 8)
+
+-- 01, refusal 13: "lent output too short: .. 64 for a message", from `at` on in `room` bytes; 0 where they fit
+unfoldable pub putRefusal : ℕ → ℕ → ℕ
+putRefusal room at = cond (leb (at + messageSize) room) 0 13
+
+-- what putting leaves in the lent buffer: the 64 bytes from `at` on where they fit, else all as it was
+unfoldable pub putInto : Kind → Message → List ℕ → ℕ → List ℕ
+putInto k m l at = cond (leb (at + messageSize) (length l)) (putAt l at (encode k m)) l
 
 -- 01: "5, 10, 9, 13", the last for a lent output of `room` bytes; 0 where the message is written
 unfoldable pub writeRefusal : ℕ → List ℕ → Kind → Message → ℕ → ℕ

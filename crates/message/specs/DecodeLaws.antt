@@ -17,9 +17,9 @@ use Rattle.message.specs.declared.Read.{Read}
 use Rattle.message.specs.declared.Read.the-variants.{Good, Refused}
 use Rattle.message.specs.declared.Message.{Message}
 use Rattle.message.specs.Message.{kindOf, addressGood, wellFormed}
-use Rattle.message.specs.Encode.{encode, putRefusal, putInto}
+use Rattle.message.specs.Decode.{putRefusal, putInto, messageIn, checkGood, restZero, refused, parseKind, parseFor, writeRefusal, packetInto}
+use Rattle.message.specs.Written.{encode}
 use Rattle.message.specs.EncodeLaws.{put-fits, put-short}
-use Rattle.message.specs.Decode.{messageIn, checkGood, restZero, refused, parseKind, parseFor, writeRefusal, packetInto}
 
 -- check 10
 abbrev pub addressedTo : ℕ → ℕ → Message → Bool

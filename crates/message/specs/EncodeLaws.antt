@@ -20,7 +20,8 @@ use Rattle.message.specs.declared.Message.{Message}
 use Rattle.message.specs.Layout.{stampByte, valuesByte, costByte, boundByte, bestByte, checkByte}
 use Rattle.message.specs.Message.{kindCode}
 use Rattle.message.specs.Sized.{Sized}
-use Rattle.message.specs.Encode.{body, encode, putRefusal, putInto}
+use Rattle.message.specs.Decode.{putRefusal, putInto}
+use Rattle.message.specs.Written.{body, encode}
 
 pub length-body : (k : Kind) (m : Message) → Sized m → length (body k m) ≡ checkByte
 unfolding body

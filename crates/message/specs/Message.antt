@@ -1,11 +1,10 @@
--- What a message holds, and which fields go together. Document 01, 'Radio message, 64 bytes'; the limits are base's.
+-- What a message holds, and which fields go together. Document 01, 'Radio message, 64 bytes'; the limits are base's. Assumes nothing.
 --     kindCode, kindOf, refusalOf       01's number for each case of the two enums
 --     Packet, noMessage                 a message with its kind; one whose fields are all zero
 --     filledTo                          which places of a stamp or an assignment are filled
 --     boundGood, noneOrBound, noBound   a bound with its best assignment
 --     carriedOf, boundFits, directionGood     what each kind carries, from whom to whom
 --     addressGood, wellFormed           01's checks 10 and 9 on the fields
--- Assumes nothing.
 use Rattle.base.specs.Library.{ℕ, _+_, _-_, Bool, cond, not, _&&_, _||_, List, ltb, leb, eqb, getD, replicate}
 use Rattle.base.specs.{Limits.places, Limits.totalLimit, Limits.estimateLimit, Limits.prefixLimit, Limits.NONE, Shape.isValue, Every.every}
 use Rattle.message.specs.{declared.Kind.Kind, declared.Read.Read, declared.Read.the-variants.Good, declared.Read.the-variants.Refused, declared.Message.Message, declared.Carried.Carried}

@@ -17,7 +17,8 @@ ghost use lib.ListN.{length};
 ghost use Rattle.base.specs.Bytes.{le32};
 ghost use Rattle.base.specs.Limits.{places, messageSize};
 ghost use Rattle.base.specs.Put.{putAt};
-ghost use Rattle.message.specs.Encode.{body, encode, putRefusal, putInto};
+ghost use Rattle.message.specs.Decode.{putRefusal, putInto};
+ghost use Rattle.message.specs.Written.{body, encode};
 
 // The 64 bytes of a message laid at `at`, its fields unchecked; 0, or 13 where they don't fit.
 pub fn put(kind: Kind, m: Message, out: &mut [u8], at: usize) -> u8

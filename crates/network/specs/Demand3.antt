@@ -1,16 +1,15 @@
 -- DEMAND 3, stated: one theorem over every list of deliveries to a network of an accepted table, about the very definitions that
--- the contracts of `network::make` and `network::deliver` cite. Its proof is `demand3` of Theorem.antt.
+-- the contracts of `network::make` and `network::deliver` cite. Its proof is `demand3` of Theorem.antt. Assumes nothing.
 --     Shed, shedAfter, runBytes     the run on bytes: the network and the pool after making and a list of cells
 --     acceptedIn, handedIn          how many deliveries of a list are accepted, and the bytes that they handed over
 --     over, reportOf                whether the run has ended, and what it then reports
 --     Follows                       what the bytes have to do with the run over messages (Run.antt)
 --     Served                        what holds of one run
 --     Demand3                       two runs of one table
--- Assumes nothing.
 use Rattle.base.specs.Library.{ℕ, _+_, _*_, _-_, _≤_, _≡_, _⊎_, Bool, true, false, cond, List, [], _∷_, _++_, map, eqb, length, take}
 use Rattle.base.specs.Limits.{messageSize}
 use Rattle.costs.specs.{Instance.Instance, Instance.instanceOf, Bounds.Assignment, Bounds.total, Bounds.N}
-use Rattle.message.specs.{Message.Packet, Encode.encode}
+use Rattle.message.specs.{Message.Packet, Written.encode}
 use Rattle.unit.specs.{Send.encodeAll, Units.unitAt, Units.Distinct}
 use Rattle.network.specs.{declared.Network.Network, Count.valueOf, Pool.cellOf, Run.History, Run.run, Run.written, Calls.Result, Calls.makeOf, Calls.deliverOf}
 

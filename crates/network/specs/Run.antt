@@ -1,11 +1,10 @@
 -- A network of units over messages: making, a delivery, and a run, fed only the table and the list of cells. No byte is met here.
--- 01, 'Runs, for demand 3': "A run is a list of deliveries to a shed as making left it."
+-- 01, 'Runs, for demand 3': "A run is a list of deliveries to a shed as making left it." Assumes nothing.
 --     Pool                           what a pool is: the message at a cell, what is left without it, and with others put in
 --     HistoryOf, onOut, deliverIn    what has happened so far; a packet handed to its unit; a delivery, over any pool
 --     cells                          01's pool: the messages that wait, one after the other
 --     begin, handOver, run           making, one delivery, and a list of them, over 01's pool
 --     written                        the records that a run writes
--- Assumes nothing.
 use Rattle.base.specs.Library.{ℕ, suc, Bool, cond, List, [], _∷_, _++_, Option, none, some, leb, length, set, take, drop, replicate}
 use Rattle.base.specs.Limits.{poolCells}
 use Rattle.costs.specs.Instance.{Instance, viewOf, instanceOf}

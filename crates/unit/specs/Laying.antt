@@ -18,7 +18,8 @@ use Rattle.message.specs.declared.Kind.the-variants.{Cpa, Request, Estimate, So
 use Rattle.message.specs.Message.{Packet}
 use Rattle.message.specs.Sized.{Sized}
 use Rattle.base.specs.Put.{putAt}
-use Rattle.message.specs.Encode.{encode, putInto}
+use Rattle.message.specs.Decode.{putInto}
+use Rattle.message.specs.Written.{encode}
 use Rattle.message.specs.EncodeLaws.{length-encode, put-fits}
 use Rattle.unit.specs.declared.Sending.{Sending}
 use Rattle.unit.specs.declared.Plan.{Plan}

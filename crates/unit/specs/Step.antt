@@ -52,8 +52,7 @@ takeOff w u = withCpa (set (u .stamp) (w .place) 0) (set (u .values) (w .place) 
 
 -- the fields that the messages of a cpa carry
 abbrev pub carried : View → Unit → Message
-carried w u =
-    record { sender = suc (w .place); receiver = 0; stamp = u .stamp; values = u .values; cost = u .cost; bound = u .bound; best = u .best }
+carried w u = record { sender = suc (w .place); receiver = 0; stamp = u .stamp; values = u .values; cost = u .cost; bound = u .bound; best = u .best }
 
 -- ---- 01: "Back up", the own value off already
 
@@ -121,8 +120,7 @@ abbrev pub isOut : View → Unit → Bool
 isOut w u = ltb 0 (ownValue w u)
 
 abbrev pub isCpaOut : View → Unit → Message → Bool
-isCpaOut w u m =
-    isOut w u && sameOn (suc (w .place)) (m .stamp) (u .stamp) && sameOn (suc (w .place)) (m .values) (u .values) && eqb (m .cost) (u .cost)
+isCpaOut w u m = isOut w u && sameOn (suc (w .place)) (m .stamp) (u .stamp) && sameOn (suc (w .place)) (m .values) (u .values) && eqb (m .cost) (u .cost)
 
 abbrev pub onBack : View → Ordering → Unit → Message → Decision
 onBack w o u m = cond (notLess o) (cond (isCpaOut w u m) (resume w (takeBound m u)) (refused 11)) (quiet u)

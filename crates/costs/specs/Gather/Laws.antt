@@ -18,11 +18,11 @@ use Rattle.table.specs.Stream.{unitsOf, sizesOf, costsGood, Accepted}
 use Rattle.table.specs.StreamLaws.{needed, streamCost, accepted-units, accepted-cost}
 use Rattle.base.specs.Shape.{isValue}
 use Rattle.base.specs.Shape.Laws.{range-value, value-range}
-use Rattle.costs.specs.Instance.{View, viewOf, pairStart, inPair, costNumber, instanceOf, otherStart, lentCost, lentView, domOf, costsOf}
+use Rattle.costs.specs.Instance.{View, viewOf, pairStart, inPair, costNumber, instanceOf, otherStart, lentCost, lentView, domOf}
+use Rattle.costs.specs.Laws.Stream.{costsOf, in-pair-lt, cost-number-at, pair-costs, accepted-fit, dom-most}
 use Rattle.costs.specs.Lent.{lentCount, lentRefusal}
 use Rattle.costs.specs.Lent.Checks.{refusal-costs}
 use Rattle.base.specs.Sums.Laws.{sumTo-le}
-use Rattle.costs.specs.Laws.Stream.{in-pair-lt, cost-number-at, pair-costs, accepted-fit, dom-most}
 use Rattle.costs.specs.Gather.{gatherRefusal, gatherOf, gatherInto}
 use Rattle.costs.specs.Gathered.{pairBytes, withOther, gatherTo, gathered}
 

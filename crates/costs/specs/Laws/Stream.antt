@@ -17,10 +17,14 @@ use Rattle.table.specs.Stream.{unitsOf, sizesOf, sumList, pairsIn, Accepted}
 use Rattle.table.specs.StreamLaws.{needed, streamCost, accepted-units, accepted-size, accepted-length, accepted-cost}
 use Rattle.base.specs.Shape.{isValue}
 use Rattle.base.specs.Shape.Laws.{value-range}
-use Rattle.costs.specs.Instance.{pairStart, inPair, costNumber, tableCost, instanceOf, domOf, costsOf}
+use Rattle.costs.specs.Instance.{pairStart, inPair, costNumber, tableCost, instanceOf, domOf}
 use Rattle.base.specs.Sums.Laws.{sumTo-mono, sumTo-sumFrom, sumFrom-last, sumFrom-split}
 use Rattle.costs.specs.Lent.Steps.{dom-past-count}
 use Rattle.costs.specs.Laws.{Sound}
+
+-- the costs of a stream
+abbrev pub costsOf : List ℕ → List ℕ
+costsOf s = drop (1 + unitsOf s) s
 
 -- how many costs a table has before those of the pairs of unit i
 abbrev pub rowStart : (ℕ → ℕ) → ℕ → ℕ → ℕ

@@ -15,7 +15,7 @@ use Rattle.base.specs.Members.{In, here, there, Every}
 use Rattle.base.specs.Members.Laws.{in-left, in-right, every-append}
 use Rattle.message.specs.Message.{Packet}
 use Rattle.message.specs.Sized.{Sized}
-use Rattle.message.specs.Encode.{encode}
+use Rattle.message.specs.Written.{encode}
 use Rattle.message.specs.EncodeLaws.{length-encode}
 use Rattle.unit.specs.Send.{encodeAll, laid}
 use Rattle.unit.specs.Laying.{encode-append}

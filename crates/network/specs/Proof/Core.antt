@@ -20,7 +20,7 @@ use Rattle.costs.specs.Gather.{sizesIn}
 use Rattle.costs.specs.Gather.Sizes.{length-sizes, sizes-at, accepted-sizes-good}
 use Rattle.message.specs.declared.Parsed.{Parsed}
 use Rattle.message.specs.Message.{Packet, isUnit}
-use Rattle.message.specs.Encode.{encode}
+use Rattle.message.specs.Written.{encode}
 use Rattle.message.specs.RoundTrip.{parse-encode, receiver-of-encode}
 use Rattle.unit.specs.declared.Unit.{Unit as UnitState}
 use Rattle.unit.specs.declared.Sending.{Sending}

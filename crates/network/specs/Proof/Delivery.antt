@@ -23,7 +23,7 @@ use Rattle.base.specs.Every.Laws.{every-by}
 use Rattle.base.specs.Members.{In, here}
 use Rattle.base.specs.Members.Laws.{in-right, in-more, every-append}
 use Rattle.message.specs.Message.{Packet}
-use Rattle.message.specs.Encode.{encode}
+use Rattle.message.specs.Written.{encode}
 use Rattle.unit.specs.declared.Unit.{Unit as UnitState}
 use Rattle.unit.specs.declared.Sending.{Sending}
 use Rattle.unit.specs.Step as U

@@ -18,7 +18,7 @@ use Rattle.message.specs.declared.Parsed.{Parsed}
 use Rattle.message.specs.declared.Read.{Read}
 use Rattle.message.specs.declared.Read.the-variants.{Good, Refused}
 use Rattle.message.specs.Message.{Packet, isUnit}
-use Rattle.message.specs.Encode.{encode}
+use Rattle.message.specs.Written.{encode}
 use Rattle.message.specs.Decode.{messageIn, parseFor}
 use Rattle.message.specs.DecodeLaws.{check-length}
 use Rattle.base.specs.Bytes.Laws.{AllBytes}

@@ -8,7 +8,7 @@ use borrow.Author.Needs.{needs}
 use Rattle.checksum.specs.Sum.{sumOf}
 use Rattle.message.specs.Layout.{checkByte}
 use Rattle.message.specs.Sized.{Sized}
-use Rattle.message.specs.Encode.{body, encode}
+use Rattle.message.specs.Written.{body, encode}
 use Rattle.message.specs.EncodeLaws.{length-body, sum-laid}
 use Rattle.message.proofs.encode.encode.Statement.{statement}
 use Rattle.message.proofs.encode.encode.Tie as tie
