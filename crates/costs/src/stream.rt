@@ -18,7 +18,7 @@ ghost use Rattle.table.specs.Stream.{unitsOf};
 ghost use Rattle.costs.specs.Lent.Parts.{domFrom};
 ghost use Rattle.costs.specs.Instance.{pairStart, domOf};
 ghost use Rattle.costs.specs.Laws.Stream.{rowStart};
-ghost use Rattle.costs.specs.Gather.Steps.{SeatIn};
+ghost use Rattle.costs.specs.Gather.Steps.{SeatIn, RowsOf};
 ghost use Rattle.costs.specs.Gather.{sizesIn, gatherRefusal, gatherOf, gatherInto};
 ghost use Rattle.costs.specs.Gathered.{pairBytes, withOther, gathered};
 
@@ -77,18 +77,26 @@ fn gather_all(stream: &[u8], seat: Seat, out: &mut [u8]) -> usize
     ensures { λ r. ⌜ (r ≡ length (gathered (now (stream .entry)) (seat .own))) × (now (out .exit) ≡ gathered (now (stream .entry)) (seat .own) ++ drop (length (gathered (now (stream .entry)) (seat .own))) (now (out .entry))) ⌝ }
 {
     let count = wide(seat.n);
+    let rows = row_starts(seat);
     let mut at = 0;
     let mut j = 0;
     while j < count {
-        at = put_other(stream, seat, j, out, at);
+        at = put_other(stream, seat, rows, j, out, at);
         j += 1;
     }
     at
 }
 
 // The bytes of the costs of the unit with the one at place j, written at `at`; gives the place after them.
-fn put_other(stream: &[u8], seat: Seat, j: usize, out: &mut [u8], at: usize) -> usize
-    requires { ⌜ SeatIn (now stream) seat × (pred (seat .own) < seat .n) × (j < seat .n) × (at + length (withOther (now stream) (pred (seat .own)) j) ≤ length (now out)) ⌝ }
+fn put_other(
+    stream: &[u8],
+    seat: Seat,
+    rows: [usize; 16],
+    j: usize,
+    out: &mut [u8],
+    at: usize,
+) -> usize
+    requires { ⌜ SeatIn (now stream) seat × RowsOf seat rows × (pred (seat .own) < seat .n) × (j < seat .n) × (at + length (withOther (now stream) (pred (seat .own)) j) ≤ length (now out)) ⌝ }
     ensures { λ r. ⌜ (r ≡ at + length (withOther (now (stream .entry)) (pred (seat .own)) j)) × (now (out .exit) ≡ putAt (now (out .entry)) at (withOther (now (stream .entry)) (pred (seat .own)) j)) ⌝ }
 {
     let place = place_of(seat);
@@ -96,42 +104,54 @@ fn put_other(stream: &[u8], seat: Seat, j: usize, out: &mut [u8], at: usize) -> 
         return at;
     }
     if j < place {
-        return put_pair(stream, seat, j, place, out, at);
+        return put_pair(stream, seat, rows[j], j, place, out, at);
     }
-    put_pair(stream, seat, place, j, out, at)
+    put_pair(stream, seat, rows[place], place, j, out, at)
 }
 
-// The bytes of the costs of the pair of places i and j, written at `at`; gives the place after them.
-fn put_pair(stream: &[u8], seat: Seat, i: usize, j: usize, out: &mut [u8], at: usize) -> usize
-    requires { ⌜ SeatIn (now stream) seat × (i < j) × (j < seat .n) × (at + length (pairBytes (now stream) i j) ≤ length (now out)) ⌝ }
+// The bytes of the costs of the pair of places i and j, `row` costs standing before those of place i, written at `at`; gives the place
+// after them.
+fn put_pair(
+    stream: &[u8],
+    seat: Seat,
+    row: usize,
+    i: usize,
+    j: usize,
+    out: &mut [u8],
+    at: usize,
+) -> usize
+    requires { ⌜ SeatIn (now stream) seat × (row ≡ rowStart (domFrom seat) (seat .n) i) × (row ≤ 1040400 * i) × (i < j) × (j < seat .n) × (at + length (pairBytes (now stream) i j) ≤ length (now out)) ⌝ }
     ensures { λ r. ⌜ (r ≡ at + length (pairBytes (now (stream .entry)) i j)) × (now (out .exit) ≡ putAt (now (out .entry)) at (pairBytes (now (stream .entry)) i j)) ⌝ }
 {
-    let from = 1 + wide(seat.n) + 2 * pair_start(seat, i, j);
+    let from = 1 + wide(seat.n) + 2 * pair_start(seat, row, i, j);
     let count = 2 * (size_of(seat, i) * size_of(seat, j));
     copy_part(stream, from, count, out, at);
     at + count
 }
 
-// How many costs stand before those of the pairs of the unit at place i.
-fn row_start(seat: Seat, i: usize) -> usize
-    requires { ⌜ (seat .n ≤ 16) × (i ≤ seat .n) ⌝ }
-    ensures { λ r. ⌜ (r ≡ rowStart (domFrom seat) (seat .n) i) × (r ≤ 1040400 * i) ⌝ }
+// How many costs stand before those of the pairs of each unit.
+fn row_starts(seat: Seat) -> [usize; 16]
+    requires { ⌜ seat .n ≤ 16 ⌝ }
+    ensures { λ r. ⌜ RowsOf seat r ⌝ }
 {
+    let count = wide(seat.n);
+    let mut rows = [0usize; 16];
     let mut sum = 0;
     let mut a = 0;
-    while a < i {
-        sum += size_of(seat, a) * sum_sizes(seat, a + 1, wide(seat.n) - (a + 1));
+    while a < count {
+        rows[a] = sum;
+        sum += size_of(seat, a) * sum_sizes(seat, a + 1, count - (a + 1));
         a += 1;
     }
-    sum
+    rows
 }
 
-// How many costs stand before those of the pair of places i and j.
-fn pair_start(seat: Seat, i: usize, j: usize) -> usize
-    requires { ⌜ (seat .n ≤ 16) × (i < j) × (j < seat .n) ⌝ }
+// How many costs stand before those of the pair of places i and j, `row` before those of place i.
+fn pair_start(seat: Seat, row: usize, i: usize, j: usize) -> usize
+    requires { ⌜ (row ≡ rowStart (domFrom seat) (seat .n) i) × (row ≤ 1040400 * i) × (seat .n ≤ 16) × (i < j) × (j < seat .n) ⌝ }
     ensures { λ r. ⌜ (r ≡ pairStart (domFrom seat) (seat .n) i j) × (r ≤ 17686800) ⌝ }
 {
-    row_start(seat, i) + size_of(seat, i) * sum_sizes(seat, i + 1, j - (i + 1))
+    row + size_of(seat, i) * sum_sizes(seat, i + 1, j - (i + 1))
 }
 
 // The domain size of the unit at place k, 0 where there is none.

@@ -2,11 +2,14 @@
 -- Assumes nothing.
 use Prim.Native.Nat.{ℕ, _+_, _*_, _≤_, _<_}
 use mathlib.Core.Path.{_≡_, refl, sym, ap, _∙_}
+use mathlib.Core.Bool.{Bool, true, false}
 use mathlib.Core.List.{List, [], _++_, append-nil}
 use native.Mathlib.Numerals.{add-one}
 use native.Mathlib.Omega.{arith}
-use lib.ListN.{length, getD, take, drop, drop-of-length-le}
-use lib.Seq.{take-all, getD-take, getD-drop, paste, paste-zero}
+use lib.Dec.{eqb}
+use lib.ListN.{length, getD, set, take, drop, drop-of-length-le}
+use borrow.Author.Tests.{eqb-true, eqb-false}
+use lib.Seq.{take-all, getD-take, getD-drop, getD-set-same, getD-set-other, paste, paste-zero}
 use Rattle.base.specs.Sums.{sumFrom}
 use Rattle.base.specs.Put.{putAt}
 use Rattle.table.specs.Stream.{unitsOf}
@@ -16,7 +19,7 @@ use Rattle.costs.specs.Lent.Parts.{domFrom}
 use Rattle.costs.specs.Instance.{pairStart, domOf}
 use Rattle.base.specs.Sums.Laws.{sumFrom-last}
 use Rattle.costs.specs.Lent.Steps.{dom-past-count}
-use Rattle.costs.specs.Laws.Stream.{pair-costs}
+use Rattle.costs.specs.Laws.Stream.{rowStart, pair-costs}
 use Rattle.costs.specs.Gather.{sizesIn}
 use Rattle.costs.specs.Gathered.{pairBytes, withOther, gatherTo}
 use Rattle.costs.specs.Gather.Sizes.{dom-same}
@@ -28,6 +31,27 @@ pub record SeatIn (s : List ℕ) (seat : Seat) : Type 0 where
   pub array : seat .sizes ≡ sizesIn s
   pub most : seat .n ≤ 16
   pub long : needed s ≤ length s
+
+-- where the costs of the pairs of the first m units begin, of each
+pub record RowsTo (seat : Seat) (m : ℕ) (rows : List ℕ) : Type 0 where
+  pub are : (i : ℕ) → i < m → getD rows i 0 ≡ rowStart (domFrom seat) (seat .n) i
+  pub most : (i : ℕ) → i < m → getD rows i 0 ≤ 1040400 * i
+
+abbrev pub RowsOf : Seat → List ℕ → Type 0
+RowsOf seat rows = RowsTo seat (seat .n) rows
+
+pub rows-none : (seat : Seat) (rows : List ℕ) → RowsTo seat 0 rows
+rows-none seat rows = record { are = λ i l. absurd (omega arith); most = λ i l. absurd (omega arith) }
+
+pub rows-more : (seat : Seat) (a sum : ℕ) (rows : List ℕ) → RowsTo seat a rows → a < length rows → sum ≡ rowStart (domFrom seat) (seat .n) a → sum ≤ 1040400 * a → RowsTo seat (a + 1) (set rows a sum)
+rows-more seat a sum rows r room is small = record { are = λ i l. at i (eqb i a) refl l .0; most = λ i l. at i (eqb i a) refl l .1 }
+  where
+    at : (i : ℕ) (t : Bool) → eqb i a ≡ t → i < a + 1 → (getD (set rows a sum) i 0 ≡ rowStart (domFrom seat) (seat .n) i) × (getD (set rows a sum) i 0 ≤ 1040400 * i)
+    at i true e l = rw (eqb-true i a e, getD-set-same rows a sum 0 room) (is, small)
+    at i false e l = let b : i < a = below (eqb-false i a e) l in rw (getD-set-other rows a i sum 0 (eqb-false i a e)) (r .are i b, r .most i b)
+      where
+        below : (i ≡ a → ⊥) → i < a + 1 → i < a
+        below f l = omega arith
 
 -- ---- sizes
 

@@ -16,28 +16,28 @@ use Rattle.costs.proofs.stream.gather_all.Statement.{statement}
 use Rattle.costs.proofs.stream.gather_all.Tie as tie
 
 abbrev Inv-loop : tie.InvT-loop
-Inv-loop stream seat out₀ count at₀ j₀ out at j = (count ≡ seat .n) × (j ≤ seat .n) × (at ≡ length (gatherTo stream (pred (seat .own)) j)) × (length out ≡ length out₀) × (out ≡ gatherTo stream (pred (seat .own)) j ++ drop (length (gatherTo stream (pred (seat .own)) j)) out₀)
+Inv-loop stream seat out₀ count rows at₀ j₀ out at j = (count ≡ seat .n) × (j ≤ seat .n) × (at ≡ length (gatherTo stream (pred (seat .own)) j)) × (length out ≡ length out₀) × (out ≡ gatherTo stream (pred (seat .own)) j ++ drop (length (gatherTo stream (pred (seat .own)) j)) out₀)
 
 abbrev μ-loop : tie.MeasureT-loop
-μ-loop stream seat out₀ count at₀ j₀ out at j = count - j
+μ-loop stream seat out₀ count rows at₀ j₀ out at j = count - j
 
 loop-holds : tie.Need-loop-holds Inv-loop μ-loop
 loop-holds c =
-    let a = c .before .before .before .args in
+    let a = c .before .before .before .before .args in
     let e = gather-none (a .stream .now) (pred (a .seat .own)) in
-    (c .wide .ensures .0, omega arith, rw e, refl, rw e)
+    (c .before .wide .ensures .0, omega arith, rw e, refl, rw e)
 
 put-other-requires : tie.Need-put-other-requires Inv-loop μ-loop
 unfolding gathered
 put-other-requires c κs =
-    let s = c .before .before .before .before .before .before in
+    let s = c .before .before .before .before .before .before .before in
     let l = c .before .before .loop in
     let room = gather-room (s .args .stream .now) (s .pre .0 .long) (pred (s .args .seat .own)) (omega (arith, s .pre .0 .units)) (l .j) (unitsOf (s .args .stream .now)) (omega (arith, s .pre .0 .units)) in
-    (s .pre .0, s .pre .1, omega arith, omega arith)
+    (s .pre .0, c .before .before .before .row-starts .ensures, s .pre .1, omega arith, omega arith)
 
 loop-again : tie.Need-loop-again Inv-loop μ-loop
 loop-again c =
-    let a = c .before .before .before .before .before .before .before .before .before .args in
+    let a = c .before .before .before .before .before .before .before .before .before .before .args in
     let l = c .before .before .before .before .before .loop in
     let g = gatherTo (a .stream .now) (pred (a .seat .own)) (l .j) in
     let w = withOther (a .stream .now) (pred (a .seat .own)) (l .j) in
@@ -52,7 +52,7 @@ loop-again c =
 returns : tie.Need-returns Inv-loop μ-loop
 unfolding gathered
 returns c =
-    let s = c .before .before .before .before .before in
+    let s = c .before .before .before .before .before .before in
     let l = c .before .loop in
     let e : l .j ≡ unitsOf (s .args .stream .now) = omega (arith, s .pre .0 .units) in
     rw (← e) (l .inv .2, l .inv .4)
@@ -63,6 +63,7 @@ gather-all-spec =
     (tie.spec
     Inv-loop
     μ-loop
+    (λ c κs. search needs)
     (λ c κs. search needs)
     loop-holds
     put-other-requires

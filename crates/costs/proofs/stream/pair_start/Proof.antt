@@ -24,13 +24,12 @@ returns : tie.Need-returns
 returns c =
     let s : c .sum-sizes .result ≤ 4080 = omega arith in
     let p = mul-le-mul (c .before .size-of .ensures .1) s in
-    (rw (c .before .before .row-start .ensures .0, c .before .size-of .ensures .0, c .sum-sizes .ensures .0, add-one), omega arith)
+    (rw (c .before .before .pre .0, c .before .size-of .ensures .0, c .sum-sizes .ensures .0, add-one), omega arith)
 
 pub pair-start-spec : {M : Type 1} → statement M
 pair-start-spec =
     tie.close
     (tie.spec
-    (λ c κs. search needs)
     (λ c κs. search needs)
     (λ c. search needs)
     (λ c. search needs)

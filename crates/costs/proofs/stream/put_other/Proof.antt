@@ -1,7 +1,7 @@
 -- `put_other` meets its contract, by which of the two units comes first.
 -- Assumes nothing.
 use native.Mathlib.Omega.{arith}
-use Prim.Native.Nat.{pred}
+use Prim.Native.Nat.{_<_, pred}
 use mathlib.Core.Path.{_≡_, _∙_}
 use Rattle.costs.specs.Gathered.{pairBytes, withOther}
 use Rattle.costs.specs.Gather.Laws.{with-before, with-after}
@@ -13,12 +13,15 @@ use Rattle.costs.proofs.stream.put_other.Tie as tie
 returns : tie.Need-returns
 returns c = let s = c .before .before .before .before .args in put-own (s .stream .now) (s .out .now) (pred (s .seat .own)) (s .j) (s .at) (c .if1 .taken ∙ c .before .place-of .ensures .0)
 
+array-read-put-pair : tie.Need-array-read-put-pair
+array-read-put-pair c = omega (arith, c .before .before .before .before .before .pre .3, c .before .before .before .before .before .pre .0 .most)
+
 put-pair-requires : tie.Need-put-pair-requires
 put-pair-requires c κs =
     let p = c .before .before .before .place-of in
     let s = c .before .before .before .before .before .before in
     let e : withOther (s .args .stream .now) (pred (s .args .seat .own)) (s .args .j) ≡ pairBytes (s .args .stream .now) (s .args .j) (pred (s .args .seat .own)) = with-before (s .args .stream .now) (pred (s .args .seat .own)) (s .args .j) (omega (arith, p .ensures .0)) in
-    (s .pre .0, omega arith, omega arith, rw (p .ensures .0) (rw e at (s .pre .3)))
+    (s .pre .0, s .pre .1 .are (s .args .j) (s .pre .3), s .pre .1 .most (s .args .j) (s .pre .3), omega arith, omega arith, rw (p .ensures .0) (rw e at (s .pre .4)))
 
 returns-2 : tie.Need-returns-2
 returns-2 c =
@@ -27,12 +30,16 @@ returns-2 c =
     let e : withOther (s .stream .now) (pred (s .seat .own)) (s .j) ≡ pairBytes (s .stream .now) (s .j) (pred (s .seat .own)) = with-before (s .stream .now) (pred (s .seat .own)) (s .j) (omega (arith, p .ensures .0)) in
     rw (e, ← p .ensures .0) (c .before .before .put-pair .ensures)
 
+array-read-put-pair-2 : tie.Need-array-read-put-pair-2
+array-read-put-pair-2 c = omega (arith, c .before .before .before .before .before .pre .2, c .before .before .before .before .before .pre .0 .most, c .before .before .place-of .ensures .0)
+
 put-pair-requires-2 : tie.Need-put-pair-requires-2
 put-pair-requires-2 c κs =
     let p = c .before .before .before .place-of in
     let s = c .before .before .before .before .before .before in
     let e : withOther (s .args .stream .now) (pred (s .args .seat .own)) (s .args .j) ≡ pairBytes (s .args .stream .now) (pred (s .args .seat .own)) (s .args .j) = with-after (s .args .stream .now) (pred (s .args .seat .own)) (s .args .j) (omega (arith, p .ensures .0)) in
-    (s .pre .0, omega arith, omega arith, rw (p .ensures .0) (rw e at (s .pre .3)))
+    let inside : p .result < s .args .seat .n = omega (arith, s .pre .2, p .ensures .0) in
+    (s .pre .0, s .pre .1 .are (p .result) inside, s .pre .1 .most (p .result) inside, omega arith, omega arith, rw (p .ensures .0) (rw e at (s .pre .4)))
 
 returns-3 : tie.Need-returns-3
 returns-3 c =
@@ -47,9 +54,13 @@ put-other-spec =
     (tie.spec
     (λ c κs. search needs)
     returns
+    (λ c. search needs)
+    array-read-put-pair
     put-pair-requires
     (λ c. search needs)
     returns-2
+    (λ c. search needs)
+    array-read-put-pair-2
     put-pair-requires-2
     (λ c. search needs)
     returns-3)

@@ -22,19 +22,19 @@ copy-part-requires : tie.Need-copy-part-requires
 copy-part-requires c κs =
     let s = c .before .before .before .before .before .before .before in
     let z = c .before in
-    (pair-in-stream (s .pre .0) (s .args .i) (s .args .j) (z .before .before .before .wide .result) (z .before .before .pair-start .result) (z .before .size-of .result) (z .size-of2 .result) (s .pre .1) (s .pre .2) (z .before .before .before .wide .ensures .0) (z .before .before .pair-start .ensures .0) (z .before .size-of .ensures .0) (z .size-of2 .ensures .0), omega (arith, pair-count (s .pre .0) (s .args .i) (s .args .j) (z .before .before .before .wide .result) (z .before .before .pair-start .result) (z .before .size-of .result) (z .size-of2 .result) (s .pre .1) (s .pre .2) (z .before .before .before .wide .ensures .0) (z .before .before .pair-start .ensures .0) (z .before .size-of .ensures .0) (z .size-of2 .ensures .0)))
+    (pair-in-stream (s .pre .0) (s .args .i) (s .args .j) (z .before .before .before .wide .result) (z .before .before .pair-start .result) (z .before .size-of .result) (z .size-of2 .result) (s .pre .3) (s .pre .4) (z .before .before .before .wide .ensures .0) (z .before .before .pair-start .ensures .0) (z .before .size-of .ensures .0) (z .size-of2 .ensures .0), omega (arith, pair-count (s .pre .0) (s .args .i) (s .args .j) (z .before .before .before .wide .result) (z .before .before .pair-start .result) (z .before .size-of .result) (z .size-of2 .result) (s .pre .3) (s .pre .4) (z .before .before .before .wide .ensures .0) (z .before .before .pair-start .ensures .0) (z .before .size-of .ensures .0) (z .size-of2 .ensures .0)))
 
 add-result : tie.Need-add-result
 add-result c =
     let s = c .before .before .before .before .before .before .before .before .before .before in
     let z = c .before .before .before .before in
-    omega (arith, pair-count (s .pre .0) (s .args .i) (s .args .j) (z .before .before .before .wide .result) (z .before .before .pair-start .result) (z .before .size-of .result) (z .size-of2 .result) (s .pre .1) (s .pre .2) (z .before .before .before .wide .ensures .0) (z .before .before .pair-start .ensures .0) (z .before .size-of .ensures .0) (z .size-of2 .ensures .0))
+    omega (arith, pair-count (s .pre .0) (s .args .i) (s .args .j) (z .before .before .before .wide .result) (z .before .before .pair-start .result) (z .before .size-of .result) (z .size-of2 .result) (s .pre .3) (s .pre .4) (z .before .before .before .wide .ensures .0) (z .before .before .pair-start .ensures .0) (z .before .size-of .ensures .0) (z .size-of2 .ensures .0))
 
 returns : tie.Need-returns
 returns c =
     let s = c .before .before .before .before .before .before .before .before .before .before in
     let z = c .before .before .before .before in
-    (omega (arith, pair-count (s .pre .0) (s .args .i) (s .args .j) (z .before .before .before .wide .result) (z .before .before .pair-start .result) (z .before .size-of .result) (z .size-of2 .result) (s .pre .1) (s .pre .2) (z .before .before .before .wide .ensures .0) (z .before .before .pair-start .ensures .0) (z .before .size-of .ensures .0) (z .size-of2 .ensures .0)), c .before .before .copy-part .ensures ∙ put-pair (s .pre .0) (s .args .i) (s .args .j) (z .before .before .before .wide .result) (z .before .before .pair-start .result) (z .before .size-of .result) (z .size-of2 .result) (s .pre .1) (s .pre .2) (z .before .before .before .wide .ensures .0) (z .before .before .pair-start .ensures .0) (z .before .size-of .ensures .0) (z .size-of2 .ensures .0) (s .args .out .now) (s .args .at))
+    (omega (arith, pair-count (s .pre .0) (s .args .i) (s .args .j) (z .before .before .before .wide .result) (z .before .before .pair-start .result) (z .before .size-of .result) (z .size-of2 .result) (s .pre .3) (s .pre .4) (z .before .before .before .wide .ensures .0) (z .before .before .pair-start .ensures .0) (z .before .size-of .ensures .0) (z .size-of2 .ensures .0)), c .before .before .copy-part .ensures ∙ put-pair (s .pre .0) (s .args .i) (s .args .j) (z .before .before .before .wide .result) (z .before .before .pair-start .result) (z .before .size-of .result) (z .size-of2 .result) (s .pre .3) (s .pre .4) (z .before .before .before .wide .ensures .0) (z .before .before .pair-start .ensures .0) (z .before .size-of .ensures .0) (z .size-of2 .ensures .0) (s .args .out .now) (s .args .at))
 
 pub put-pair-spec : {M : Type 1} → statement M
 put-pair-spec =
