@@ -10,7 +10,7 @@ use lib.Dec.{eqb}
 use borrow.Author.Tests.{eqb-true, eqb-false}
 use lib.ListN.{length, getD, set, take, drop, length-append}
 use lib.Seq.{take-at, drop-at, getD-set-same, getD-set-other}
-use Rattle.base.specs.Limits.{costsSize}
+use Rattle.base.specs.Limits.{places, costsSize}
 use Rattle.base.specs.Put.{putAt, putWithin}
 use Rattle.base.specs.Put.Laws.{put-fits, put-behind}
 use Rattle.table.specs.Stream.{unitsOf, Accepted}
@@ -18,9 +18,9 @@ use Rattle.table.specs.StreamLaws.{accepted-units}
 use Rattle.costs.specs.Gathered.{gathered}
 use Rattle.costs.specs.Gather.Laws.{gathered-most}
 
--- room for the costs of 16 units, 16 × 7,680
+-- room for the costs of 16 units
 abbrev pub lentSize : ℕ
-lentSize = 122880
+lentSize = places * costsSize
 
 -- the costs of units 1 to k
 unfoldable pub lentTo : List ℕ → ℕ → List ℕ

@@ -10,7 +10,7 @@ use lib.ListN.{length, take, drop}
 use lib.Seq.{paste}
 use borrow.Author.Tests.{leb-true, eqb-true, eqb-false}
 use Rattle.base.specs.Bytes.Laws.{AllBytes}
-use Rattle.base.specs.Limits.{poolCells, sendingSize}
+use Rattle.base.specs.Limits.{poolCells, sendingSize, messageSize}
 use Rattle.table.specs.Stream.{unitsOf}
 use Rattle.table.specs.StreamLaws.{accepted-units}
 use Rattle.costs.specs.Gather.{sizesIn}
@@ -82,19 +82,19 @@ module _ (net : Network) (s pool : List ℕ) (cell : ℕ) (accepted : deliverOf 
 
   -- ---- n and own as the code has them, and the cell's m bytes
 
-  module _ (n own m : ℕ) (units : n ≡ unitsOf s) (size : m ≡ 64) (named : own ≡ receiverOf n (take m (drop (64 * cell) pool))) (u : UnitState) (at : u ≡ unitAt (net .core .units) (own - 1))
+  module _ (n own m : ℕ) (units : n ≡ unitsOf s) (size : m ≡ messageSize) (named : own ≡ receiverOf n (take m (drop (messageSize * cell) pool))) (u : UnitState) (at : u ≡ unitAt (net .core .units) (own - 1))
       (sizes costs before out : List ℕ) (array : sizes ≡ sizesIn s) (lent : costs ≡ gathered s own) (fits : sendingSize ≤ length before) (r : Outcome)
-      (told : r ≡ outcomeOf n (pred own) u (trustedOut u own n sizes costs (take m (drop (64 * cell) pool)) (length before)))
-      (left : out ≡ bytesOf n (pred own) before (trustedOut u own n sizes costs (take m (drop (64 * cell) pool)) (length before))) (arrays : SizedUnit u) (all : AllBytes (take m (drop (64 * cell) pool))) where
+      (told : r ≡ outcomeOf n (pred own) u (trustedOut u own n sizes costs (take m (drop (messageSize * cell) pool)) (length before)))
+      (left : out ≡ bytesOf n (pred own) before (trustedOut u own n sizes costs (take m (drop (messageSize * cell) pool)) (length before))) (arrays : SizedUnit u) (all : AllBytes (take m (drop (messageSize * cell) pool))) where
     named-is : own ≡ receiverOf (unitsOf s) (cellOf pool cell)
     named-is = named ∙ rw (units, size)
 
-    good : (k : Kind) × (parseFor (unitsOf s) (sizesIn s) own (take m (drop (64 * cell) pool)) .answer ≡ Good k)
+    good : (k : Kind) × (parseFor (unitsOf s) (sizesIn s) own (take m (drop (messageSize * cell) pool)) .answer ≡ Good k)
     good = rw size (reads own named-is)
 
-    steps : Stepped s own u (take m (drop (64 * cell) pool)) before r out
+    steps : Stepped s own u (take m (drop (messageSize * cell) pool)) before r out
     steps =
-        trusted-told s own u (net .core .units) (ap (λ (k : ℕ). unitAt (net .core .units) k) (pred-sub own) ∙ sym at) (stepping net s pool cell checks n own m units size named u at) n sizes costs (take m (drop (64 * cell) pool))
+        trusted-told s own u (net .core .units) (ap (λ (k : ℕ). unitAt (net .core .units) k) (pred-sub own) ∙ sym at) (stepping net s pool cell checks n own m units size named u at) n sizes costs (take m (drop (messageSize * cell) pool))
         before out r units array lent fits (good .0) (good .1) told left
 
     pub trusted-sent : r .sent ≤ 16
@@ -122,7 +122,7 @@ module _ (net : Network) (s pool : List ℕ) (cell : ℕ) (accepted : deliverOf 
     trusted-room = leb-true (net .used - 1 + r .sent) poolCells room
 
     pub trusted-gives : (record { refusal = 0; network = stepped net own (r .unit) (r .sent) (r .records) } ≡ deliverOf net s pool cell .answer)
-        × (paste (closeGap pool (64 * cell) (64 * net .used)) (64 * (net .used - 1)) out (64 * r .sent) ≡ deliverOf net s pool cell .pool)
+        × (paste (closeGap pool (messageSize * cell) (messageSize * net .used)) (messageSize * (net .used - 1)) out (messageSize * r .sent) ≡ deliverOf net s pool cell .pool)
     trusted-gives =
         let e = deliver-goes net s pool cell unrefused in
         let t = stores in

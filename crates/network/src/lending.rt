@@ -6,7 +6,7 @@ ghost use Rattle.table.specs.Stream.{Accepted};
 ghost use Rattle.network.specs.Lending.{lentSize, Lent};
 
 // Room for the costs of 16 units.
-pub(crate) const LENT_SIZE: usize = 122880;
+pub(crate) const LENT_SIZE: usize = base::PLACES * base::COSTS_SIZE;
 
 // The costs of each unit are laid behind those of the unit before; where those of each place begin, and the next one's.
 pub(crate) fn lend(stream: &[u8], out: &mut [u8]) -> [usize; 17]
