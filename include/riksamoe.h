@@ -34,7 +34,7 @@
  *   riksamoe_table_read              256
  *   riksamoe_table_write             256
  *   riksamoe_sizes                   256
- *   riksamoe_costs                   512
+ *   riksamoe_costs                   768
  *   riksamoe_message_parse           768
  *   riksamoe_message_write           768
  *   riksamoe_unit_make             2,560
@@ -42,8 +42,8 @@
  *   riksamoe_unit_step             4,864
  *   riksamoe_unit_step_in_place    4,864
  *   riksamoe_network_make         13,056
- *   riksamoe_network_deliver      31,744
- *   riksamoe_network_settle       31,744
+ *   riksamoe_network_deliver      24,576
+ *   riksamoe_network_settle      150,016
  *   riksamoe_search                6,656
  */
 #ifndef RIKSAMOE_H
@@ -246,7 +246,7 @@ riksamoe_answer_t riksamoe_network_deliver(riksamoe_network_t network, const uin
                                            uint64_t cell);
 
 /* Making, then cell 0 again and again until unit 1 has stopped: 5, 6, 7, 13, as making; proved: it comes to that end, and no delivery on
- * the way is refused. The answer is in unit 1. How long it takes is not bounded by anything short. */
+ * the way is refused. The answer is in unit 1. How long it takes is not bounded by anything short. It keeps the costs of every unit on the stack. */
 riksamoe_answer_t riksamoe_network_settle(const uint8_t *stream, size_t length, uint8_t *pool, size_t room);
 
 /* ---- The bench: every assignment of a stream's table is tried, so lend it 1,048,576 of them at most: 5, 6, 7, 16. */

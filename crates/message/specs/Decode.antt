@@ -48,15 +48,6 @@ parseFor n sizes own s =
 abbrev pub parseOf : ℕ → List ℕ → List ℕ → Parsed
 parseOf n sizes s = parseFor n sizes (getD s 2 0) s
 
--- 64 bytes that are known to be a message, as a run knows what its units sent: the kind that byte 0 names, and the fields. Asked is only what
--- reading can't do without: 8, 64 bytes; 9, a kind.
-abbrev pub ofKind : Message → Read → Parsed
-ofKind m (Good k) = record { answer = Good k; message = m }
-ofKind m (Refused r) = refused r
-
-unfoldable pub unpackOf : List ℕ → Parsed
-unpackOf s = cond (eqb (length s) messageSize) (ofKind (messageIn s) (kindOf (getD s 0 0))) (refused 8)
-
 -- 01, refusal 13: "lent output too short: .. 64 for a message", from `at` on in `room` bytes; 0 where they fit
 unfoldable pub putRefusal : ℕ → ℕ → ℕ
 putRefusal room at = cond (leb (at + messageSize) room) 0 13

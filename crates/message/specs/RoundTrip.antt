@@ -34,7 +34,8 @@ use Rattle.message.specs.declared.Parsed.{Parsed}
 use Rattle.message.specs.Layout.{stampByte, valuesByte, costByte, boundByte, bestByte, zeroByte, checkByte}
 use Rattle.message.specs.Message.{kindCode, kindOf, noMessage, addressGood, wellFormed}
 use Rattle.message.specs.Sized.{Sized}
-use Rattle.message.specs.Decode.{messageIn, checkGood, restZero, parseKind, parseFor, parseOf, refused, putRefusal, writeRefusal, packetInto, unpackOf}
+use Rattle.message.specs.Decode.{messageIn, checkGood, restZero, parseKind, parseFor, parseOf, refused, putRefusal, writeRefusal, packetInto}
+use Rattle.message.specs.Unpack.{unpackOf}
 use Rattle.message.specs.Written.{body, encode}
 use Rattle.message.specs.EncodeLaws.{head, length-body, length-encode}
 use Rattle.message.specs.DecodeLaws.{addressedTo, check-length, parse-5, parse-8, parse-10, parse-on, kind-refused, kind-rest, kind-unfit, kind-good, write-done}

@@ -18,7 +18,8 @@ ghost use Prim.Native.Nat.{_+_, _≤_};
 ghost use lib.ListN.{length, take, drop, getD};
 ghost use Rattle.base.specs.Limits.{places, messageSize};
 ghost use Rattle.message.specs.Message.{kindOf};
-ghost use Rattle.message.specs.Decode.{messageIn, checkGood, restZero, refused, ofKind, parseKind};
+ghost use Rattle.message.specs.Decode.{messageIn, checkGood, restZero, refused, parseKind};
+ghost use Rattle.message.specs.Unpack.{ofKind};
 
 // Check 8: 64 bytes, and the checksum is right.
 pub(crate) fn check_good(bytes: &[u8]) -> bool

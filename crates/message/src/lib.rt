@@ -3,7 +3,8 @@
 ghost use mathlib.Core.Path.{_≡_};
 ghost use lib.ListN.{length};
 ghost use Rattle.message.specs.Message.{kindCode, kindOf, refusalOf};
-ghost use Rattle.message.specs.Decode.{parseOf, parseFor, writeRefusal, packetInto, unpackOf};
+ghost use Rattle.message.specs.Decode.{parseOf, parseFor, writeRefusal, packetInto};
+ghost use Rattle.message.specs.Unpack.{unpackOf};
 
 mod decode; // bytes read into kind and fields
 mod encode; // the 64 bytes of a message, laid into a lent buffer

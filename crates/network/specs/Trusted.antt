@@ -24,7 +24,8 @@ use Rattle.unit.specs.declared.Unit.{Unit as UnitState}
 use Rattle.unit.specs.declared.Outcome.{Outcome}
 use Rattle.unit.specs.Step.{Decision, refused}
 use Rattle.unit.specs.Units.{unitAt}
-use Rattle.unit.specs.Calls.{outcomeOf, bytesOf, stepOut, trustedOut}
+use Rattle.unit.specs.Calls.{outcomeOf, bytesOf, stepOut}
+use Rattle.unit.specs.Trusted.{trustedOut}
 use Rattle.unit.specs.Laws.Range.{SizedUnit}
 use Rattle.unit.specs.Laws.Refusals.{NumberedRead, parse-numbered}
 use Rattle.unit.specs.Laws.Trusted.{trusted-steps}

@@ -5,6 +5,7 @@ pub mod Tests
 pub mod Send
 pub mod Laying
 pub mod Calls
+pub mod Trusted
 pub mod Ready
 pub mod Units
 pub mod Laws

@@ -11,7 +11,8 @@ ghost use Rattle.unit.specs.State.{fresh, noUnit};
 ghost use Rattle.unit.specs.Step.{Decision, refused};
 ghost use Rattle.unit.specs.Send.{packets};
 ghost use Rattle.unit.specs.Laying.{Room};
-ghost use Rattle.unit.specs.Calls.{outcomeOf, numbersOf, bytesOf, seatRefusal, makeRefusal, rangeRefusal, start, makeOut, stepRefusal, stepOut, canStep, canHear, trustedOut};
+ghost use Rattle.unit.specs.Calls.{outcomeOf, numbersOf, bytesOf, seatRefusal, makeRefusal, rangeRefusal, start, makeOut, stepRefusal, stepOut};
+ghost use Rattle.unit.specs.Trusted.{canStep, canHear, trustedOut};
 ghost use Rattle.unit.specs.Ready.{Own, Shaped, decidedOf};
 
 mod assign; // assigning: values tried, the first below the bound written

@@ -3,7 +3,7 @@
 use mathlib.Core.Path.{sym, _∙_}
 use borrow.Author.Needs.{needs}
 use borrow.Author.Tests.{eq-eqb, ne-eqb}
-use Rattle.message.specs.Decode.{unpackOf}
+use Rattle.message.specs.Unpack.{unpackOf}
 use Rattle.message.proofs.unpack.Statement.{statement}
 use Rattle.message.proofs.unpack.Tie as tie
 

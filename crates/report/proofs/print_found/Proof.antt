@@ -1,6 +1,6 @@
 -- `print_found` meets its contract: the number is the one in the search's answer.
 -- Assumes nothing.
-use Rattle.report.specs.Report.{found-refusal}
+use Rattle.report.specs.Report.Laws.{found-refusal}
 use borrow.Author.Needs.{needs}
 use Rattle.report.proofs.print_found.Statement.{statement}
 use Rattle.report.proofs.print_found.Tie as tie

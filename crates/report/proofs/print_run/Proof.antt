@@ -1,6 +1,6 @@
 -- `print_run` meets its contract: the number is the one in the run's answer.
 -- Assumes nothing.
-use Rattle.report.specs.Report.{settled-refusal}
+use Rattle.report.specs.Report.Laws.{settled-refusal}
 use borrow.Author.Needs.{needs}
 use Rattle.report.proofs.print_run.Statement.{statement}
 use Rattle.report.proofs.print_run.Tie as tie

@@ -8,7 +8,7 @@ use borrow.Author.Needs.{needs}
 use borrow.Author.Tests.{not-true, not-false}
 use Rattle.costs.specs.Instance.{lentView}
 use Rattle.unit.specs.Step.{respond}
-use Rattle.unit.specs.Calls.{canStep, canHear}
+use Rattle.unit.specs.Trusted.{canStep, canHear}
 use Rattle.unit.specs.Laws.Trusted.{known-shaped, known-ready, known-heard, trusted-13, trusted-5, trusted-unread, trusted-9, trusted-on}
 use Rattle.unit.proofs.Calls.{seatOf, told-by, told-refused, trusted-few}
 use Rattle.unit.proofs.step_trusted.Statement.{statement}

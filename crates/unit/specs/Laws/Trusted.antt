@@ -17,13 +17,15 @@ use Rattle.message.specs.declared.Message.{Message}
 use Rattle.message.specs.declared.Parsed.{Parsed}
 use Rattle.message.specs.declared.Read.the-variants.{Good, Refused}
 use Rattle.message.specs.Message.{isUnit, refusalOf}
-use Rattle.message.specs.Decode.{messageIn, parseFor, unpackOf}
+use Rattle.message.specs.Decode.{messageIn, parseFor}
+use Rattle.message.specs.Unpack.{unpackOf}
 use Rattle.message.specs.RoundTrip.{ParsedGood, parsed-good, unpack-parsed}
 use Rattle.unit.specs.declared.Unit.{Unit as State}
 use Rattle.unit.specs.declared.Sending.{Sending}
 use Rattle.unit.specs.Step.{Decision, refused, accepted, Written, after, backtrack, carried, respond}
 use Rattle.unit.specs.Send.{packets}
-use Rattle.unit.specs.Calls.{canStep, canHear, trustedOut, stepOut}
+use Rattle.unit.specs.Calls.{stepOut}
+use Rattle.unit.specs.Trusted.{canStep, canHear, trustedOut}
 use Rattle.unit.specs.Ready.{Shaped, Ready, Heard}
 use Rattle.unit.specs.Laws.Views.{unit-range}
 use Rattle.unit.specs.Laws.Packets.{forward-few, back-few}

@@ -4,7 +4,8 @@ use mathlib.Core.Path.{sym, ap, _∙_}
 use borrow.Author.Needs.{needs}
 use Rattle.message.specs.declared.Read.{Read}
 use Rattle.message.specs.Message.{refusalOf}
-use Rattle.message.specs.Decode.{refused, ofKind}
+use Rattle.message.specs.Decode.{refused}
+use Rattle.message.specs.Unpack.{ofKind}
 use Rattle.message.proofs.decode.of_kind.Statement.{statement}
 use Rattle.message.proofs.decode.of_kind.Tie as tie
 

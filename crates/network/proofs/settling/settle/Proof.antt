@@ -23,7 +23,7 @@ use Rattle.network.specs.Pool.Laws.{closeGap}
 use Rattle.network.specs.Code.{Open, pred-sub, own-first, own-last}
 use Rattle.network.specs.Lending.{part-order, part-end, part-costs}
 use Rattle.network.specs.Trusted.{checks, trusted-sent, trusted-room, trusted-gives}
-use Rattle.network.specs.Settle.{After, settle-unmade, made-table, reached-start, reached-accepted, reached-next, measure-falls, settle-stopped}
+use Rattle.network.specs.Settle.Laws.{After, settle-unmade, made-table, reached-start, reached-accepted, reached-next, measure-falls, settle-stopped}
 use Rattle.network.proofs.settling.settle.Statement.{statement}
 use Rattle.network.proofs.settling.settle.Tie as tie
 
