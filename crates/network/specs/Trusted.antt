@@ -128,3 +128,43 @@ module _ (net : Network) (s pool : List ℕ) (cell : ℕ) (accepted : deliverOf 
         let e = deliver-goes net s pool cell unrefused in
         let t = stores in
         (rw room at (t .0) ∙ ap (λ (x : Result). x .answer) e, rw room at (t .1) ∙ ap (λ (x : Result). x .pool) e)
+
+-- ---- the oldest message, cell 0, of a network whose next delivery of it is accepted; the unit that it is for, and the costs lent with it
+
+pub record Oldest (u : UnitState) (own n : ℕ) (sizes costs pool : List ℕ) (used : ℕ) : Type 0 where
+  pub stream : List ℕ
+  pub net : Network
+  pub accepted : deliverOf net stream pool 0 .answer .refusal ≡ 0
+  pub units : n ≡ unitsOf stream
+  pub array : sizes ≡ sizesIn stream
+  pub named : own ≡ receiverOf n (take messageSize (drop 0 pool))
+  pub unit : u ≡ unitAt (net .core .units) (own - 1)
+  pub lent : costs ≡ gathered stream own
+  pub count : used ≡ net .used
+  pub bytes : AllBytes (take messageSize (drop 0 pool))
+
+-- it is handed over: r is what its unit gave, and `after` the pool then
+abbrev pub Handed : {u : UnitState} {own n : ℕ} {sizes costs pool : List ℕ} {used : ℕ} → Oldest u own n sizes costs pool used → Outcome → List ℕ → Type 0
+Handed {u} {own} {n} {sizes} {costs} {pool} {used} t r after =
+    (record { refusal = 0; network = stepped (t .net) own (r .unit) (r .sent) (r .records) } ≡ deliverOf (t .net) (t .stream) pool 0 .answer)
+    × (after ≡ deliverOf (t .net) (t .stream) pool 0 .pool) × (used - 1 + r .sent ≤ poolCells)
+
+module _ {u : UnitState} {own n : ℕ} {sizes costs pool : List ℕ} {used : ℕ} (t : Oldest u own n sizes costs pool used) (before out : List ℕ) (fits : sendingSize ≤ length before) (r : Outcome)
+    (told : r ≡ outcomeOf n (pred own) u (trustedOut u own n sizes costs (take messageSize (drop 0 pool)) (length before)))
+    (left : out ≡ bytesOf n (pred own) before (trustedOut u own n sizes costs (take messageSize (drop 0 pool)) (length before))) (arrays : SizedUnit u) where
+  pub oldest-open : Open (t .net) (t .stream) pool 0
+  oldest-open = checks (t .net) (t .stream) pool 0 (t .accepted)
+
+  pub oldest-sent : r .sent ≤ 16
+  oldest-sent =
+      trusted-sent (t .net) (t .stream) pool 0 (t .accepted) n own messageSize (t .units) refl (t .named) u (t .unit) sizes costs before out (t .array) (t .lent) fits r told left arrays (t .bytes)
+
+  pub oldest-room : used - 1 + r .sent ≤ poolCells
+  oldest-room =
+      rw (t .count)
+      (trusted-room (t .net) (t .stream) pool 0 (t .accepted) n own messageSize (t .units) refl (t .named) u (t .unit) sizes costs before out (t .array) (t .lent) fits r told left arrays (t .bytes))
+
+  pub oldest-handed : (after : List ℕ) → after ≡ paste (closeGap pool 0 (messageSize * used)) (messageSize * (used - 1)) out (messageSize * r .sent) → Handed t r after
+  oldest-handed after e =
+      let g = trusted-gives (t .net) (t .stream) pool 0 (t .accepted) n own messageSize (t .units) refl (t .named) u (t .unit) sizes costs before out (t .array) (t .lent) fits r told left arrays (t .bytes) in
+      (g .0, e ∙ rw (t .count) (g .1), oldest-room)

@@ -8,13 +8,17 @@ use crate::lending::LENT_SIZE;
 use crate::lending::lend;
 use crate::make;
 use crate::pool::take_oldest;
+use unit::Outcome;
 use unit::Unit;
 ghost use mathlib.Core.Path.{_≡_};
-ghost use Rattle.unit.specs.Laws.Range.{SizedUnit};
+ghost use Prim.Native.Nat.{_≤_};
+ghost use lib.ListN.{length};
+ghost use Rattle.base.specs.Limits.{sendingSize};
 ghost use Rattle.network.specs.Settle.{settleOf};
+ghost use Rattle.network.specs.Settle.Laws.{Begun, Ended};
+ghost use Rattle.network.specs.Trusted.{Oldest, Handed};
 
-// Makes a network of a stream and delivers cell 0 until unit 1 stops. None of these deliveries is refused, so none is asked what the making
-// has seen: the costs of each unit are gathered once, and the packets are those that the units sent. Refusals: making's.
+// Makes a network of a stream and delivers cell 0 until unit 1 stops; none of these deliveries is refused. Refusals: making's.
 pub fn settle(stream: &[u8], pool: &mut [u8]) -> Answer
     ensures { λ r. ⌜ (r ≡ settleOf (now (stream .entry)) (now (pool .entry)) .answer) × (now (pool .exit) ≡ settleOf (now (stream .entry)) (now (pool .entry)) .pool) ⌝ }
 {
@@ -22,32 +26,45 @@ pub fn settle(stream: &[u8], pool: &mut [u8]) -> Answer
     if made.refusal != 0 {
         return made;
     }
+    let net = made.network;
+    let network = run(stream, net, pool);
+    Answer {
+        refusal: 0,
+        network,
+    }
+}
+
+// Delivers cell 0 of a new network until unit 1 stops. No delivery is asked what the making has seen: the costs of each unit are gathered
+// once, and the packets are those that the units sent.
+fn run(stream: &[u8], net: Network, pool: &mut [u8]) -> Network
+    requires { ⌜ Begun (now stream) net (now pool) ⌝ }
+    ensures { λ r. ⌜ Ended (now (stream .entry)) net (now (pool .entry)) r (now (pool .exit)) ⌝ }
+{
     let n = base::byte_at(stream, 0);
     let sizes = costs::sizes_of(stream);
     let mut lent = [0u8; LENT_SIZE];
     let starts = lend(stream, &mut lent);
-    let net = made.network;
+    let mut out = [0u8; base::SENDING_SIZE];
     let mut core = net.core;
     let mut used = net.used;
-    let mut out = [0u8; base::SENDING_SIZE];
     let first = core.units[0];
     let mut over = first.stopped;
     while !over {
         let own = receiver(n, &pool[0..base::MESSAGE_SIZE]);
         let place = (own - 1) as usize;
+        let u = core.units[place];
         let lo = starts[place];
         let hi = starts[place + 1];
-        let u = known(core.units[place]);
-        let r = unit::step_trusted(
+        let r = hand_oldest(
             u,
             own,
             n,
             sizes,
             &lent[lo..hi],
-            &pool[0..base::MESSAGE_SIZE],
+            pool,
+            used as usize,
             &mut out,
         );
-        take_oldest(pool, used as usize, &out, r.sent as usize);
         used = used - 1 + r.sent as u64;
         let w = r.unit;
         core.units[place] = w;
@@ -58,15 +75,24 @@ pub fn settle(stream: &[u8], pool: &mut [u8]) -> Answer
         let first = core.units[0];
         over = first.stopped;
     }
-    Answer {
-        refusal: 0,
-        network: Network { core, used },
-    }
+    Network { core, used }
 }
 
-// The same state, with what its type says of it.
-fn known(u: Unit) -> Unit
-    ensures { λ r. ⌜ (r ≡ u) × SizedUnit r ⌝ }
+// The message at cell 0 goes to its unit, which is lent its costs; the gap is closed, and what the unit sends is added at the end.
+fn hand_oldest(
+    u: Unit,
+    own: u8,
+    n: u8,
+    sizes: [u8; 16],
+    costs: &[u8],
+    pool: &mut [u8],
+    used: usize,
+    out: &mut [u8],
+) -> Outcome
+    requires { ⌜ Oldest u own n sizes (now costs) (now pool) used × (sendingSize ≤ length (now out)) ⌝ }
+    ensures { λ r. ⌜ ((t : Oldest u own n sizes (now (costs .entry)) (now (pool .entry)) used) → Handed t r (now (pool .exit))) ⌝ }
 {
-    u
+    let r = unit::step_trusted(u, own, n, sizes, costs, &pool[0..base::MESSAGE_SIZE], out);
+    take_oldest(pool, used, out, r.sent as usize);
+    r
 }

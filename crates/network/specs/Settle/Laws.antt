@@ -92,6 +92,19 @@ settle-unmade s p a l e ne = go (makeOf s p .answer .refusal) (λ z. ne (ap (λ 
     go zero h = absurd (h refl)
     go (suc r) h = e
 
+-- a network as making gave it
+pub record Begun (s : List ℕ) (net : Network) (m : List ℕ) : Type 0 where
+  pub pool : List ℕ
+  pub gave : (record { refusal = 0; network = net } ≡ makeOf s pool .answer) × (m ≡ makeOf s pool .pool)
+
+pub begun-by : (s p : List ℕ) (a : Answer) (l : List ℕ) → (a ≡ makeOf s p .answer) × (l ≡ makeOf s p .pool) → a .refusal ≡ 0 → Begun s (a .network) l
+begun-by s p a l e z = record { pool = p; gave = (ap (λ (r : ℕ). record { refusal = r; network = a .network }) (sym z) ∙ e .0, e .1) }
+
+-- and what some deliveries of cell 0 leave of it, once unit 1 has stopped
+pub record Ended (s : List ℕ) (net : Network) (m : List ℕ) (end : Network) (pool : List ℕ) : Type 0 where
+  pub stopped : over (record { network = end; pool = pool }) ≡ true
+  pub after : After s (record { network = net; pool = m }) (record { network = end; pool = pool })
+
 -- making gave a and the pool l; now the network is net and the pool is m
 module _ (s p : List ℕ) (a : Answer) (l : List ℕ) (e : (a ≡ makeOf s p .answer) × (l ≡ makeOf s p .pool)) (z : a .refusal ≡ 0) where
   abbrev pub Reached : Network → List ℕ → Type 0
