@@ -22,9 +22,9 @@ use Rattle.base.specs.Refusal.{orElse}
 use Rattle.base.specs.Refusal.Laws.{or-left, or-right, or-first}
 use Rattle.table.specs.Stream.{costsGood, streamRefusal, Accepted}
 use Rattle.table.specs.StreamLaws.{costs-same, accepted-most}
-use Rattle.table.specs.Block.{payloadCount, payloadOf, blockRefusal, readBlockOf, blocksFor}
+use Rattle.table.specs.Block.{payloadCount, payloadOf, blockRefusal, blocksFor}
 use Rattle.table.specs.Written.{blockOf, fileFrom, fileOf}
-use Rattle.table.specs.BlockLaws.{block-count, block-most, block-payload-length, read-accepted, written-size}
+use Rattle.table.specs.BlockLaws.{block-size, block-count, block-most, block-payload-length, written-size}
 use Rattle.table.specs.File.{answer, leaves, sizeGood, blocksRefusal, joined, streamOf, readRefusal, storeRefusal}
 use Rattle.table.specs.View.{placeInFile, Viewed}
 
@@ -272,10 +272,14 @@ module _ (f : List ℕ) (m k : ℕ) (ok : blocksRefusal 0 m f ≡ 0) (h : k < m)
   abbrev payload : List ℕ
   payload = payloadOf (take blockSize (drop (blockSize * k) f))
 
-  pub payload-read : (n : ℕ) (p : List ℕ) → n ≡ blockSize → p ≡ readBlockOf k (eqb (k + 1) m) (take n (drop (blockSize * k) f)) → p ≡ payload
-  payload-read n p l e =
-      let g : blockRefusal k (eqb (m - (k + 1)) 0) (take blockSize (drop (blockSize * k) f)) ≡ 0 = rw (zero-add k) at (block-good k m 0 f ok h) in
-      e ∙ rw (l, is-last k m h) (sym (read-accepted k (eqb (m - (k + 1)) 0) (take blockSize (drop (blockSize * k) f)) g))
+  pub payload-within : (n : ℕ) → n ≡ blockSize → 4 + payloadCount (take n (drop (blockSize * k) f)) ≤ length (take n (drop (blockSize * k) f))
+  payload-within n l =
+      let b : List ℕ = take blockSize (drop (blockSize * k) f) in
+      let g : blockRefusal k (eqb (m - (k + 1)) 0) b ≡ 0 = rw (zero-add k) at (block-good k m 0 f ok h) in
+      rw l (omega (arith, block-size k (eqb (m - (k + 1)) 0) b g, block-most k (eqb (m - (k + 1)) 0) b g))
+
+  pub payload-taken : (n : ℕ) (p : List ℕ) → n ≡ blockSize → p ≡ payloadOf (take n (drop (blockSize * k) f)) → p ≡ payload
+  payload-taken n p l e = e ∙ rw l
 
   joined-more : joined (k + 1) f ≡ joined k f ++ payload
   unfolding joined

@@ -1,7 +1,7 @@
 -- Streams: what holds of an accepted one (accepted-units, -size, -length, -cost, -most), by taking streamRefusal's tests apart.
 -- In order: how pairsIn and costsGood grow; turns of the loops over sizes and costs; the answers of streamRefusal; an accepted stream.
 -- Assumes nothing.
-use Prim.Native.Nat.{ℕ, zero, suc, _+_, _*_, _-_, _≤_, _<_, min}
+use Prim.Native.Nat.{ℕ, zero, suc, _+_, _*_, _-_, _/_, _≤_, _<_, min, max}
 use native.Mathlib.Nat.{mul-le-mul, zero-add, add-zero, add-assoc, le-of-suc-le-suc, not-suc-le-zero, mul-add, add-mul, le-refl, suc-mul, mul-suc}
 use native.Mathlib.Numerals.{add-one}
 use native.Mathlib.Omega.{arith}
@@ -9,17 +9,21 @@ use mathlib.Core.Bool.{Bool, true, false, cond, _&&_}
 use mathlib.Core.List.{List, [], _∷_, _++_}
 use mathlib.Core.Path.{_≡_, refl, sym, ap, _∙_}
 use lib.Dec.{eqb, leb}
-use lib.ListN.{length, getD, take, drop, length-take, length-drop}
+use lib.ListN.{length, getD, take, drop, length-take, length-drop, List·getD-eq-default}
 use lib.Seq.{take-suc, length-take-le, getD-take, getD-drop}
-use borrow.Author.Tests.{eqb-true, leb-true, eq-eqb, ne-eqb, le-leb, lt-leb}
+use borrow.Author.Tests.{eqb-true, leb-true, leb-false, eq-eqb, ne-eqb, le-leb, lt-leb}
 use Rattle.base.specs.Limits.{pairLimit, streamSize}
 use Rattle.base.specs.Bytes.{u16At}
-use Rattle.base.specs.Bytes.Laws.{u16-past}
+use Rattle.base.specs.Bytes.Laws.{AllBytes, u16-past}
 use Rattle.base.specs.Shape.{allInSixteen, shapeGood}
 use Rattle.base.specs.Shape.Laws.{inSixteen, and-left, and-right, in-range, shape-n, shape-size, all-step, all-none}
 use Rattle.table.specs.Stream.{unitsOf, sizesOf, sumList, pairsIn, costsGood, streamRefusal, Accepted}
 
 -- ---- how pairsIn and costsGood grow
+
+and-true : (a : Bool) → (a && true) ≡ a
+and-true true = refl
+and-true false = refl
 
 and-assoc : (a b c : Bool) → ((a && b) && c) ≡ (a && (b && c))
 and-assoc true b c = refl
@@ -80,6 +84,14 @@ unfolding costsGood
 costs-none s k zero h = refl
 costs-none s k (suc m) h = rw (u16-past s k h) (costs-none s (k + 2) m (omega arith))
 
+-- nor more than one byte at the end
+costs-short : (s : List ℕ) (k m : ℕ) → AllBytes s → length s ≤ k + 1 → costsGood s k m ≡ true
+unfolding costsGood
+costs-short s k zero b h = refl
+costs-short s k (suc m) b h =
+    let l : u16At s k ≤ pairLimit = omega (arith, b k, List·getD-eq-default s 0 {n = k + 1} h) in
+    rw (le-leb (u16At s k) pairLimit l) (costs-none s (k + 2) m (omega arith))
+
 -- costs in two parts
 pub costs-split : (s : List ℕ) (k a b : ℕ) → costsGood s k (a + b) ≡ (costsGood s k a && costsGood s (k + 2 * a) b)
 unfolding costsGood
@@ -88,6 +100,17 @@ costs-split s k (suc a) b =
     let e : suc a + b ≡ suc (a + b) = omega arith in
     let i : k + 2 * suc a ≡ k + 2 + 2 * a = omega arith in
     rw (e, i, costs-split s (k + 2) a b) (sym (and-assoc (leb (u16At s k) pairLimit) (costsGood s (k + 2) a) (costsGood s (k + 2 + 2 * a) b)))
+
+-- as many as there are bytes for
+pub costs-whole : (s : List ℕ) (k m a : ℕ) → AllBytes s → a ≡ min ((length s - k) / 2) m → costsGood s k m ≡ costsGood s k a
+costs-whole s k m a b e = go (leb m ((length s - k) / 2)) refl
+  where
+    go : (t : Bool) → leb m ((length s - k) / 2) ≡ t → costsGood s k m ≡ costsGood s k a
+    go true l = let f : m ≡ a = omega (arith, leb-true m ((length s - k) / 2) l) in ap (costsGood s k) f
+    go false l =
+        let c = leb-false m ((length s - k) / 2) l in
+        let f : m ≡ a + (m - a) = omega arith in
+        ap (costsGood s k) f ∙ costs-split s k a (m - a) ∙ rw (costs-short s (k + 2 * a) (m - a) b (omega arith), and-true)
 
 -- the same bytes are the same costs
 pub costs-same : (s t : List ℕ) (k j m : ℕ) → ((i : ℕ) → i < 2 * m → getD s (k + i) 0 ≡ getD t (j + i) 0) → costsGood s k m ≡ costsGood t j m
@@ -99,6 +122,31 @@ costs-same s t k j (suc m) e =
     let r : costsGood s (k + 2) m ≡ costsGood t (j + 2) m =
     costs-same s t (k + 2) (j + 2) m (λ i h. rw (add-assoc k 2 i, add-assoc j 2 i) (e (2 + i) (omega arith))) in
     rw (a, b, r)
+
+-- the costs of a part are those at its place
+pub costs-part : (s : List ℕ) (k m n : ℕ) → 2 * m ≤ n → costsGood (take n (drop k s)) 0 m ≡ costsGood s k m
+costs-part s k m n h = costs-same (take n (drop k s)) s 0 k m (λ i l. rw (zero-add i) (getD-take n (drop k s) i 0 (omega arith) ∙ getD-drop k s i 0))
+
+-- a turn of a loop for the highest: the most so far, or the next, is within the limit
+both-within : (a b : ℕ) → leb (max a b) pairLimit ≡ (leb a pairLimit && leb b pairLimit)
+both-within a b = go (leb a pairLimit) (leb b pairLimit) refl refl
+  where
+    go : (x y : Bool) → leb a pairLimit ≡ x → leb b pairLimit ≡ y → leb (max a b) pairLimit ≡ (x && y)
+    go true true f g = le-leb (max a b) pairLimit (omega (arith, leb-true a pairLimit f, leb-true b pairLimit g))
+    go true false f g = lt-leb (max a b) pairLimit (omega (arith, leb-false b pairLimit g))
+    go false y f g = lt-leb (max a b) pairLimit (omega (arith, leb-false a pairLimit f))
+
+pub highest-next : {w : Bool} (s : List ℕ) (k m most : ℕ) → w ≡ (leb most pairLimit && costsGood s k m) → 0 < m
+    → w ≡ (leb (max most (u16At s k)) pairLimit && costsGood s (k + 2) (m - 1))
+unfolding costsGood
+highest-next s k m most inv h =
+    let e : m ≡ suc (m - 1) = omega arith in
+    inv ∙ ap (λ (j : ℕ). leb most pairLimit && costsGood s k j) e
+    ∙ sym (rw (both-within most (u16At s k)) (and-assoc (leb most pairLimit) (leb (u16At s k) pairLimit) (costsGood s (k + 2) (m - 1))))
+
+pub highest-end : {w : Bool} (s : List ℕ) (k m most : ℕ) → w ≡ (leb most pairLimit && costsGood s k m) → m ≡ 0 → w ≡ leb most pairLimit
+unfolding costsGood
+highest-end s k m most inv e = inv ∙ rw (e, and-true)
 
 -- ---- a turn of a loop over the sizes or the costs, and its end: w is what the whole test gives
 
@@ -116,19 +164,6 @@ module _ {w : Bool} (s : List ℕ) (n i : ℕ) (inv : w ≡ allInSixteen (drop i
   sizes-end h = sym (inv ∙ all-none n i (drop 1 s) (simp length-drop h))
 
 module _ {w : Bool} (s : List ℕ) (k m : ℕ) (inv : w ≡ costsGood s k m) where
-  costs-step : 0 < m → w ≡ (leb (u16At s k) pairLimit && costsGood s (k + 2) (m - 1))
-  unfolding costsGood
-  costs-step h = let e : m ≡ suc (m - 1) = omega arith in inv ∙ ap (costsGood s k) e
-
-  pub costs-bad : 0 < m → pairLimit < u16At s k → false ≡ w
-  costs-bad h l = sym (costs-step h ∙ rw (lt-leb (u16At s k) pairLimit l))
-
-  pub costs-next : 0 < m → u16At s k ≤ pairLimit → w ≡ costsGood s (k + 2) (m - 1)
-  costs-next h l = costs-step h ∙ rw (le-leb (u16At s k) pairLimit l)
-
-  pub costs-past : length s ≤ k → true ≡ w
-  costs-past h = sym (inv ∙ costs-none s k m h)
-
   pub costs-end : m ≡ 0 → true ≡ w
   unfolding costsGood
   costs-end e = sym (inv ∙ rw e)

@@ -11,14 +11,15 @@ use base::STREAM_SIZE;
 ghost use mathlib.Core.Path.{_≡_};
 ghost use mathlib.Core.Bool.{true};
 ghost use mathlib.Core.List.{_++_};
-ghost use Prim.Native.Nat.{_+_, _*_, _/_, _≤_, _<_, min};
+ghost use Prim.Native.Nat.{_+_, _*_, _/_, _≤_, _<_, min, max};
 ghost use lib.ListN.{length, getD, take, drop, replicate};
-ghost use Rattle.base.specs.Limits.{blockSize, checkedSize, payloadSize, places, streamSize};
+ghost use lib.Dec.{leb};
+ghost use Rattle.base.specs.Limits.{blockSize, checkedSize, pairLimit, payloadSize, places, streamSize};
 ghost use Rattle.base.specs.Bytes.{le16};
 ghost use Rattle.base.specs.Put.{putAt};
 ghost use Rattle.base.specs.Shape.{allInSixteen};
 ghost use Rattle.table.specs.Stream.{pairsIn, costsGood, streamRefusal};
-ghost use Rattle.table.specs.Block.{countGood, allZero, blockRefusal, readBlockOf};
+ghost use Rattle.table.specs.Block.{payloadCount, payloadOf, countGood, allZero, blockRefusal, readBlockOf};
 ghost use Rattle.table.specs.Written.{blockOf};
 ghost use Rattle.table.specs.File.{sizeGood, blocksRefusal, streamOf, readRefusal, readOf, readInto, storeRefusal, storeOf, storeInto};
 ghost use Rattle.table.specs.Block.{blocksFor};
@@ -34,8 +35,7 @@ pub fn read_block<'a>(block: &'a [u8], number: u16, last: bool) -> &'a [u8]
     if block_refusal(block, number, last) != 0 {
         return &block[0..0];
     }
-    let end = 4 + base::u16_at(block, 2) as usize;
-    &block[4..end]
+    payload(block)
 }
 
 // The refusal of a block that is read alone, or 0.
@@ -104,22 +104,39 @@ pub fn stream_refusal(stream: &[u8]) -> u8
 pub fn costs_good(bytes: &[u8], from: usize, count: usize) -> bool
     ensures { λ r. ⌜ r ≡ costsGood (now (bytes .entry)) from count ⌝ }
 {
-    let mut at = from;
-    let mut left = count;
-    while 0 < left {
-        if bytes.len() <= at {
-            return true;
-        }
-        if PAIR_LIMIT < base::u16_at(bytes, at) {
-            return false;
-        }
-        at += 2;
-        left -= 1;
+    if bytes.len() <= from {
+        return true;
     }
-    true
+    let whole = smaller((bytes.len() - from) / 2, count);
+    let end = from + 2 * whole;
+    highest(&bytes[from..end], whole) <= PAIR_LIMIT
+}
+
+// The highest of the costs that the bytes hold. No test ends the loop early, so that a compiler can compare many costs at once.
+fn highest(costs: &[u8], count: usize) -> u32
+    requires { ⌜ length (now costs) ≡ 2 * count ⌝ }
+    ensures { λ r. ⌜ costsGood (now (costs .entry)) 0 count ≡ leb r pairLimit ⌝ }
+{
+    let mut most: u32 = 0;
+    let mut i = 0;
+    while i < count {
+        let cost = base::wide_u32(costs[2 * i]) + 256 * base::wide_u32(costs[2 * i + 1]);
+        most = larger(most, cost);
+        i += 1;
+    }
+    most
 }
 
 // ---- blocks
+
+// The payload of a block with a good count.
+fn payload<'a>(block: &'a [u8]) -> &'a [u8]
+    requires { ⌜ 4 + payloadCount (now block) ≤ length (now block) ⌝ }
+    ensures { λ r. ⌜ now r ≡ payloadOf (now (block .entry)) ⌝ }
+{
+    let end = 4 + base::u16_at(block, 2) as usize;
+    &block[4..end]
+}
 
 // Whether a payload count fits the block's place: 506, or 1 to 506 in the last.
 fn count_good(last: bool, count: usize) -> bool
@@ -216,8 +233,7 @@ fn copy_blocks(file: &[u8], out: &mut [u8])
     while k < blocks {
         let start = BLOCK_SIZE * k;
         let end = start + BLOCK_SIZE;
-        let payload = read_block(&file[start..end], k as u16, k + 1 == blocks);
-        put(out, PAYLOAD_SIZE * k, payload);
+        put(out, PAYLOAD_SIZE * k, payload(&file[start..end]));
         k += 1;
     }
 }
@@ -304,6 +320,15 @@ fn put_zeros(out: &mut [u8], at: usize, count: usize)
         out[at + i] = 0;
         i += 1;
     }
+}
+
+fn larger(a: u32, b: u32) -> u32
+    ensures { λ r. ⌜ r ≡ max a b ⌝ }
+{
+    if a < b {
+        return b;
+    }
+    a
 }
 
 fn smaller(a: usize, b: usize) -> usize

@@ -77,13 +77,15 @@ fn front<'a>(bytes: &'a [u8], n: usize) -> &'a [u8] {
     &bytes[0..n]
 }
 
-// One line of output. A refused reading leaves the buffer zero, and so its sum.
+// One line of output: the reading, and the payload of the first block read alone. A refused reading leaves the buffer zero, and so its sum.
 fn show_read(name: &[u8], file: &[u8], stream: &mut [u8]) {
     let r = table::read(file, stream);
     io::write_all(STDOUT_FILENO, name);
     say(b" refusal ", r.refusal as u64);
     say(b" stream ", r.length as u64);
     say(b" sum ", checksum::sum(stream) as u64);
+    let first = table::read_block(front(file, BLOCK_SIZE), 0, file.len() <= BLOCK_SIZE);
+    say(b" first block ", first.len() as u64);
     if r.refusal == 0 {
         show_written(file, front(stream, r.length));
     }

@@ -29,11 +29,12 @@ unfolding sumOf
 sum-none s = refl
 
 -- one byte more
+pub weigh-more : (s : List ℕ) (i : ℕ) → i < length s → weigh 0 (take (i + 1) s) ≡ weigh 0 (take i s) + (i + 1) * getD s i 0
+weigh-more s i h =
+    let f : length (take i s) ≡ i = length-take-le i s (omega arith) in
+    rw (add-one, take-suc s i 0 h, weigh-append 0 (take i s) (getD s i 0 ∷ []), f, zero-add, add-one, add-zero)
+
 pub sum-more : (s : List ℕ) (i t : ℕ) → i < length s → t ≡ sumOf (take i s)
     → (t + (i % modulus + 1) * getD s i 0) % modulus ≡ sumOf (take (i + 1) s)
 unfolding sumOf
-sum-more s i t h e =
-    let f : length (take i s) ≡ i = length-take-le i s (omega arith) in
-    let g : weigh 0 (take (i + 1) s) ≡ weigh 0 (take i s) + (i + 1) * getD s i 0 =
-    rw (add-one, take-suc s i 0 h, weigh-append 0 (take i s) (getD s i 0 ∷ []), f, zero-add, add-one, add-zero) in
-    omega (arith, weight-mod i (getD s i 0))
+sum-more s i t h e = omega (arith, weigh-more s i h, weight-mod i (getD s i 0))

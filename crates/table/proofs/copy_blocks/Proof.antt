@@ -7,7 +7,7 @@ use native.Mathlib.Omega.{arith}
 use borrow.Author.Needs.{needs}
 use lib.ListN.{length, drop}
 use Rattle.table.specs.File.{joined, streamOf}
-use Rattle.table.specs.FileLaws.{good-size, payload-read, payload-fits, payload-put}
+use Rattle.table.specs.FileLaws.{payload-within, payload-taken, payload-fits, payload-put}
 use Rattle.table.proofs.copy_blocks.Statement.{statement}
 use Rattle.table.proofs.copy_blocks.Tie as tie
 
@@ -21,10 +21,12 @@ loop-holds : tie.Need-loop-holds Inv-loop μ-loop
 unfolding joined
 loop-holds c = (omega arith, refl, refl)
 
-cast-read-block : tie.Need-cast-read-block Inv-loop μ-loop
-cast-read-block c =
-    let st = c .before .before .before .before .before in
-    record { fits = omega (arith, good-size (length (st .args .file .now)) (st .pre .0 .0)) }
+payload-requires : tie.Need-payload-requires Inv-loop μ-loop
+payload-requires c κs =
+    let st = c .before .before .before .before .before .before in
+    let l = c .before .before .before .loop in
+    let f = st .args .file .now in
+    payload-within f (length f / 512) (l .k) (st .pre .0 .1) (omega arith) (512 * l .k + 512 - 512 * l .k) (omega arith)
 
 put-requires : tie.Need-put-requires Inv-loop μ-loop
 unfolding streamOf
@@ -32,8 +34,8 @@ put-requires c κs =
     let st = c .before .before .before .before .before .before .before in
     let l = c .before .before .before .before .loop in
     let f = st .args .file .now in
-    let p = payload-read f (length f / 512) (l .k) (st .pre .0 .1) (omega arith) (512 * l .k + 512 - 512 * l .k) (c .before .read-block .result .now) (omega arith) (c .before .read-block .ensures) in
-    let h = payload-fits f (length f / 512) (l .k) (st .pre .0 .1) (omega arith) (c .before .read-block .result .now) p in
+    let p = payload-taken f (length f / 512) (l .k) (st .pre .0 .1) (omega arith) (512 * l .k + 512 - 512 * l .k) (c .payload .result .now) (omega arith) (c .payload .ensures) in
+    let h = payload-fits f (length f / 512) (l .k) (st .pre .0 .1) (omega arith) (c .payload .result .now) p in
     search needs
 
 loop-again : tie.Need-loop-again Inv-loop μ-loop
@@ -41,8 +43,8 @@ loop-again c =
     let st = c .before .before .before .before .before .before .before .before .before .before in
     let l = c .before .before .before .before .before .before .before .loop in
     let f = st .args .file .now in
-    let r = c .before .before .before .before .read-block in
-    let p = payload-read f (length f / 512) (l .k) (st .pre .0 .1) (omega arith) (512 * l .k + 512 - 512 * l .k) (r .result .now) (omega arith) (r .ensures) in
+    let r = c .before .before .before .payload in
+    let p = payload-taken f (length f / 512) (l .k) (st .pre .0 .1) (omega arith) (512 * l .k + 512 - 512 * l .k) (r .result .now) (omega arith) (r .ensures) in
     (omega arith, search needs, c .before .before .put .ensures ∙ payload-put f (length f / 512) (l .k) (st .pre .0 .1) (omega arith) (st .args .out .now) (r .result .now) (l .out) p (l .inv .2))
 
 returns : tie.Need-returns Inv-loop μ-loop
@@ -65,10 +67,8 @@ copy-blocks-spec =
     (λ c. search needs)
     (λ c. search needs)
     (λ c. search needs)
-    cast-read-block
     (λ c. search needs)
-    (λ c κs. search needs)
-    (λ c. search needs)
+    payload-requires
     put-requires
     (λ c. search needs)
     (λ c. search needs)

@@ -1,0 +1,62 @@
+-- `highest` meets its contract. The loop's invariant: all costs pass just where the most so far and the costs left do.
+-- Assumes nothing.
+use Prim.Native.Nat.{_+_, _*_, _-_, _≤_, max}
+use mathlib.Core.Path.{_≡_, sym, ap, _∙_}
+use mathlib.Core.Bool.{_&&_}
+use native.Mathlib.Omega.{arith}
+use native.Mathlib.Nat.{sub-zero}
+use borrow.Author.Needs.{needs}
+use lib.Dec.{leb}
+use lib.ListN.{length}
+use Rattle.base.specs.Limits.{pairLimit}
+use Rattle.base.specs.Bytes.{u16At}
+use Rattle.table.specs.Stream.{costsGood}
+use Rattle.table.specs.StreamLaws.{highest-next, highest-end}
+use Rattle.table.proofs.highest.Statement.{statement}
+use Rattle.table.proofs.highest.Tie as tie
+
+abbrev Inv-loop : tie.InvT-loop
+Inv-loop costs count most₀ i₀ most i = (i ≤ count) × (length costs ≡ 2 * count) × (costsGood costs 0 count ≡ (leb most pairLimit && costsGood costs (2 * i) (count - i)))
+
+abbrev μ-loop : tie.MeasureT-loop
+μ-loop costs count most₀ i₀ most i = count - i
+
+loop-holds : tie.Need-loop-holds Inv-loop μ-loop
+loop-holds c = (omega arith, search needs, sym (ap (costsGood (c .before .args .costs .now) 0) (sub-zero (c .before .args .count))))
+
+loop-again : tie.Need-loop-again Inv-loop μ-loop
+loop-again c =
+    let st = c .before .before .before .before .before .before .before .before in
+    let l = c .before .before .before .before .before .before .loop in
+    let s = st .args .costs .now in
+    let k : 2 * l .i + 2 ≡ 2 * (l .i + 1) = omega arith in
+    let m : st .args .count - l .i - 1 ≡ st .args .count - (l .i + 1) = omega arith in
+    let cost : c .larger .result ≡ max (l .most) (u16At s (2 * l .i)) = c .larger .ensures ∙ rw (c .before .wide-u322 .ensures .0, c .before .before .before .wide-u32 .ensures .0) in
+    (omega arith, l .inv .1, rw (cost, ← k, ← m) (highest-next s (2 * l .i) (st .args .count - l .i) (l .most) (l .inv .2) (omega arith)))
+
+returns : tie.Need-returns Inv-loop μ-loop
+returns c =
+    let l = c .before .loop in
+    highest-end (c .before .before .before .args .costs .now) (2 * l .i) (c .before .before .before .args .count - l .i) (l .most) (l .inv .2) (omega arith)
+
+pub highest-spec : {M : Type 1} → statement M
+highest-spec =
+    tie.close
+    (tie.spec
+    Inv-loop
+    μ-loop
+    loop-holds
+    (λ c. search needs)
+    (λ c. search needs)
+    (λ c κs. search needs)
+    (λ c. search needs)
+    (λ c. search needs)
+    (λ c. search needs)
+    (λ c κs. search needs)
+    (λ c. search needs)
+    (λ c. search needs)
+    (λ c κs. search needs)
+    (λ c. search needs)
+    (λ c. search needs)
+    loop-again
+    returns)
