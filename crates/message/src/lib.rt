@@ -61,10 +61,10 @@ pub struct Message {
     pub best: [u8; 16],
 }
 
-// Reading's answer, and the fields beside it: all zero where it refuses.
+// Reading's answer, and the fields beside it: all zero where it refuses. The fields stand first, where a copy of them is quick.
 pub struct Parsed {
-    pub answer: Read,
     pub message: Message,
+    pub answer: Read,
 }
 
 // What a kind carries besides a bound: units 1 to `stamps` have a stamp, 1 to `values` a value, and the cost is at most `cost`.
