@@ -22,10 +22,10 @@ use Rattle.search.specs.Search.{searchRefusal, searchOf}
 use Rattle.search.specs.Best.{inTurn, bestFrom}
 use Rattle.message.specs.Message.{Packet}
 use Rattle.message.specs.declared.Kind.the-variants.{Request, Estimate}
-use Rattle.unit.specs.declared.Unit.{Unit as State}
-use Rattle.unit.specs.State.{compareOn, sameOn}
-use Rattle.unit.specs.Step.{backtrack, tryAfter, assign, resume, onCpa, onRequest, onEstimate, onSolution, onStop, respond}
-use Rattle.unit.specs.Send.{each, packets}
+use Rattle.rules.specs.declared.Unit.{Unit as State}
+use Rattle.rules.specs.State.{compareOn, sameOn}
+use Rattle.rules.specs.Step.{backtrack, tryAfter, assign, resume, onCpa, onRequest, onEstimate, onSolution, onStop, respond}
+use Rattle.rules.specs.Send.{each, packets}
 use Rattle.network.specs.Run.{History, unitAt, begin, handOver, runFrom, run}
 use Rattle.cases.specs.Sheds.{streamWith, streamT, pairAt, single}
 

@@ -32,21 +32,21 @@ use Rattle.base.specs.Every.{every}
 use Rattle.base.specs.Every.Laws.{every-at}
 use Rattle.message.specs.Message.{Packet, isUnit}
 use Rattle.base.specs.Bytes.Laws.{AllBytes}
-use Rattle.unit.specs.declared.Unit.{Unit as UnitState}
-use Rattle.unit.specs.declared.Outcome.{Outcome}
-use Rattle.unit.specs.State.{noUnit, fresh, paidInRange, inRange}
-use Rattle.unit.specs.Step as U
-use Rattle.unit.specs.Step.{Decision, assign}
-use Rattle.unit.specs.Send.{packets, encodeAll}
-use Rattle.unit.specs.Units.{unitAt}
-use Rattle.unit.specs.Calls as UC
-use Rattle.unit.specs.Calls.{outcomeOf, bytesOf, stepOut, makeOut}
-use Rattle.unit.specs.Laws.Views.{unit-range}
-use Rattle.unit.specs.Laws.Range.{SizedUnit}
-use Rattle.unit.specs.Laws.Assign.{Whenever, GoodDecision}
-use Rattle.unit.specs.Laws.Refusals.{Numbered, Accepts, assign-accepts, parse-numbered, read-numbered}
-use Rattle.unit.specs.Laws.Calls as UL
-use Rattle.unit.specs.Laws.Calls.{Passed}
+use Rattle.rules.specs.declared.Unit.{Unit as UnitState}
+use Rattle.rules.specs.declared.Outcome.{Outcome}
+use Rattle.rules.specs.State.{noUnit, fresh, paidInRange, inRange}
+use Rattle.rules.specs.Step as U
+use Rattle.rules.specs.Step.{Decision, assign}
+use Rattle.rules.specs.Send.{packets, encodeAll}
+use Rattle.rules.specs.Units.{unitAt}
+use Rattle.rules.specs.Calls as UC
+use Rattle.rules.specs.Calls.{outcomeOf, bytesOf, stepOut, makeOut}
+use Rattle.rules.specs.Laws.Views.{unit-range}
+use Rattle.rules.specs.Laws.Range.{SizedUnit}
+use Rattle.rules.specs.Laws.Assign.{Whenever, GoodDecision}
+use Rattle.rules.specs.Laws.Refusals.{Numbered, Accepts, assign-accepts, parse-numbered, read-numbered}
+use Rattle.rules.specs.Laws.Calls as UL
+use Rattle.rules.specs.Laws.Calls.{Passed}
 use Rattle.network.specs.declared.Network.{Network}
 use Rattle.network.specs.declared.Answer.{Answer}
 use Rattle.network.specs.Count.{zeroCount, plus}

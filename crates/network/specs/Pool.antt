@@ -2,7 +2,7 @@
 use Rattle.base.specs.Library.{ℕ, suc, _+_, _*_, _-_, List, _++_, length, take, drop}
 use Rattle.base.specs.Limits.{messageSize}
 use Rattle.message.specs.Message.{Packet}
-use Rattle.unit.specs.Send.{encodeAll}
+use Rattle.rules.specs.Send.{encodeAll}
 pub mod Laws
 pub mod Stored
 

@@ -9,8 +9,8 @@ use Rattle.base.specs.Library.{ℕ, suc, Bool, cond, List, [], _∷_, _++_, Opt
 use Rattle.base.specs.Limits.{poolCells}
 use Rattle.costs.specs.Instance.{Instance, viewOf, instanceOf}
 use Rattle.message.specs.Message.{Packet}
-use Rattle.unit.specs.{declared.Unit.Unit, State.fresh, Step.Decision, Step.refused, Step.accepted, Step.Written, Step.assign, Send.packets}
-pub use Rattle.unit.specs.Units.{unitAt, placeOf, stepOn}
+use Rattle.rules.specs.{declared.Unit.Unit, State.fresh, Step.Decision, Step.refused, Step.accepted, Step.Written, Step.assign, Send.packets}
+pub use Rattle.rules.specs.Units.{unitAt, placeOf, stepOn}
 
 -- ---- a pool of messages, by cell
 

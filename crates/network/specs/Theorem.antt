@@ -19,8 +19,8 @@ use Rattle.costs.specs.Instance.{instanceOf}
 use Rattle.costs.specs.Laws.{problemOf}
 use Rattle.costs.specs.Laws.Stream.{sound-of}
 use Rattle.message.specs.Message.{Packet}
-use Rattle.unit.specs.declared.Unit.{Unit as UnitState}
-use Rattle.unit.specs.Units.{unitAt}
+use Rattle.rules.specs.declared.Unit.{Unit as UnitState}
+use Rattle.rules.specs.Units.{unitAt}
 use Rattle.protocol.specs.Machine as M
 use Rattle.protocol.specs.Machine.{Network}
 use Rattle.protocol.specs.Demand3 as D

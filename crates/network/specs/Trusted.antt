@@ -20,15 +20,15 @@ use Rattle.message.specs.declared.Kind.{Kind}
 use Rattle.message.specs.declared.Read.{Read}
 use Rattle.message.specs.declared.Read.the-variants.{Good, Refused}
 use Rattle.message.specs.Decode.{parseFor}
-use Rattle.unit.specs.declared.Unit.{Unit as UnitState}
-use Rattle.unit.specs.declared.Outcome.{Outcome}
-use Rattle.unit.specs.Step.{Decision, refused}
-use Rattle.unit.specs.Units.{unitAt}
-use Rattle.unit.specs.Calls.{outcomeOf, bytesOf, stepOut}
-use Rattle.unit.specs.Trusted.{trustedOut}
-use Rattle.unit.specs.Laws.Range.{SizedUnit}
-use Rattle.unit.specs.Laws.Refusals.{NumberedRead, parse-numbered}
-use Rattle.unit.specs.Laws.Trusted.{trusted-steps}
+use Rattle.rules.specs.declared.Unit.{Unit as UnitState}
+use Rattle.rules.specs.declared.Outcome.{Outcome}
+use Rattle.rules.specs.Step.{Decision, refused}
+use Rattle.rules.specs.Units.{unitAt}
+use Rattle.rules.specs.Calls.{outcomeOf, bytesOf, stepOut}
+use Rattle.rules.specs.Trusted.{trustedOut}
+use Rattle.rules.specs.Laws.Range.{SizedUnit}
+use Rattle.rules.specs.Laws.Refusals.{NumberedRead, parse-numbered}
+use Rattle.rules.specs.Laws.Trusted.{trusted-steps}
 use Rattle.network.specs.declared.Network.{Network}
 use Rattle.network.specs.declared.Answer.{Answer}
 use Rattle.network.specs.Pool.{cellOf}

@@ -18,8 +18,8 @@ ghost use Rattle.base.specs.Every.{every};
 ghost use Rattle.base.specs.Bytes.Laws.{AllBytes};
 ghost use Rattle.costs.specs.Instance.{viewOf, instanceOf};
 ghost use Rattle.costs.specs.Bounds.{costWith};
-ghost use Rattle.unit.specs.State.{paidInRange};
-ghost use Rattle.unit.specs.Laws.Range.{SizedUnit};
+ghost use Rattle.rules.specs.State.{paidInRange};
+ghost use Rattle.rules.specs.Laws.Range.{SizedUnit};
 ghost use Rattle.network.specs.Calls.{deliverRefusal, receiverOf, stepped, deliverBy, deliverOf};
 ghost use Rattle.network.specs.Code.{unitInRange, Open, Stepping, Stepped, Storing, storedAnswer, storedPool};
 

@@ -3,7 +3,7 @@
 use Prim.Native.Nat.{ℕ, zero, suc, pred, _-_, _≤_, _<_}
 use native.Mathlib.Omega.{arith}
 use mathlib.Core.Path.{_≡_, refl, sym, ap, _∙_}
-use mathlib.Core.Bool.{true, false}
+use mathlib.Core.Bool.{Bool, true, false}
 use mathlib.Core.List.{List}
 use lib.ListN.{length}
 use borrow.Author.Tests.{lt-ltb, le-ltb}
@@ -21,27 +21,24 @@ use Rattle.message.specs.Message.{isUnit, refusalOf}
 use Rattle.message.specs.Sized.{Sized}
 use Rattle.message.specs.Decode.{messageIn, parseFor}
 use Rattle.message.specs.RoundTrip.{ParsedGood, parsed-good}
-use Rattle.unit.specs.declared.Unit.{Unit}
-use Rattle.unit.specs.declared.Decided.{Decided}
-use Rattle.unit.specs.declared.Outcome.{Outcome}
-use Rattle.unit.specs.State.{fresh, inRange}
-use Rattle.unit.specs.Step.{Decision, refused, accepted, quiet, assign, respond}
-use Rattle.unit.specs.Send.{packets, laid}
-use Rattle.unit.specs.Laying.{Room, laid-none}
-use Rattle.unit.specs.Calls.{outcomeOf, bytesOf, seatRefusal, makeRefusal, rangeRefusal, start, unlessRefused, makeOut, stepRefusal, stepOut}
-use Rattle.unit.specs.Ready.{Shaped, Ready, Heard, decidedOf}
-use Rattle.unit.specs.Laws.Views.{unit-range, lent-good}
-use Rattle.unit.specs.Laws.Range.{SizedUnit}
-use Rattle.unit.specs.Laws.Assign.{Whenever, GoodDecision}
-use Rattle.unit.specs.Laws.Steps.{respond-kept, start-kept}
-use Rattle.unit.specs.Laws.Calls.{Makes, Passed}
-use Rattle.unit.proofs.Lent.{pred-sub}
-use Rattle.unit.specs.Laws.Trusted.{Few, respond-few}
-use Rattle.unit.specs.Laws.Readiness.{own-of, shaped-of, ready-of, heard-of}
-
--- a seat by its parts
-abbrev pub seatOf : ℕ → ℕ → List ℕ → Seat
-seatOf own n sizes = record { own = own; n = n; sizes = sizes }
+use Rattle.rules.specs.declared.Unit.{Unit}
+use Rattle.rules.specs.declared.Decided.{Decided}
+use Rattle.rules.specs.declared.Outcome.{Outcome}
+use Rattle.rules.specs.State.{fresh, inRange}
+use Rattle.rules.specs.Step.{Decision, refused, accepted, quiet, assign, respond}
+use Rattle.rules.specs.Send.{packets, laid}
+use Rattle.rules.specs.Laying.{Room, laid-none}
+use Rattle.rules.specs.Calls.{outcomeOf, bytesOf, seatRefusal, makeRefusal, rangeRefusal, start, unlessRefused, makeOut, stepRefusal, stepOut}
+use Rattle.rules.specs.Ready.{Shaped, decidedOf}
+use Rattle.rules.specs.Laws.Views.{unit-range, lent-good}
+use Rattle.rules.specs.Laws.Range.{SizedUnit}
+use Rattle.rules.specs.Laws.Assign.{Whenever, GoodDecision}
+use Rattle.rules.specs.Laws.Steps.{respond-kept, start-kept}
+use Rattle.rules.specs.Laws.Calls.{Makes, Passed}
+use Rattle.rules.specs.Trusted.{canStep, canHear, respondTo, startTo}
+use Rattle.rules.specs.Laws.Trusted.{seatAt, Few, respond-few, known-shaped, respond-9, respond-on, responded, responds, starts}
+use Rattle.rules.specs.Laws.Readiness.{pred-sub}
+use Rattle.rules.specs.Laws.Refusals.{Accepts, assign-accepts}
 
 -- ---- what the caller gets
 
@@ -55,11 +52,15 @@ told-by n k was l r t o o′ e h = rw e h
 pub told-refused : (n k : ℕ) (was : Unit) (l : List ℕ) (r : Outcome) (o : Decision) (x : ℕ) → o ≡ refused x → r ≡ outcomeOf n k was (refused x) → Told n k was l r l o
 told-refused n k was l r o x e h = rw e (h, refl)
 
-pub carried-out : (n own : ℕ) (was : Unit) (o : Decision) (d : Decided) (sent : ℕ) (l t : List ℕ) → d ≡ decidedOf was o → sent ≡ length (packets n (own - 1) (d .sending))
-    → t ≡ laid (packets n (own - 1) (d .sending)) l → Told n (pred own) was l (record { refusal = d .refusal; unit = d .unit; sent = sent; records = d .records }) t o
+pub carried-out : (n own : ℕ) (was : Unit) (o : Decision) (d : Decided) (sent : ℕ) (l t : List ℕ) → d ≡ decidedOf was o → d .refusal ≡ 0 → sent ≡ length (packets n (own - 1) (d .sending))
+    → t ≡ laid (packets n (own - 1) (d .sending)) l → Told n (pred own) was l (record { refusal = 0; unit = d .unit; sent = sent; records = d .records }) t o
 unfolding packets
-carried-out n own was (refused x) d sent l t e f g = rw (f, g, e) (refl, laid-none l)
-carried-out n own was (accepted u s ws) d sent l t e f g = rw (f, g, e, pred-sub own) (refl, refl)
+carried-out n own was (refused x) d sent l t e z f g = let y : x ≡ 0 = sym (ap (λ (q : Decided). q .refusal) e) ∙ z in rw (f, g, e, y) (refl, laid-none l)
+carried-out n own was (accepted u s ws) d sent l t e z f g = rw (f, g, e, pred-sub own) (refl, refl)
+
+pub carried-refusal : (n k : ℕ) (was : Unit) (o : Decision) (d : Decided) (l : List ℕ) (r : Outcome) → d ≡ decidedOf was o → (d .refusal ≡ 0 → ⊥) → r ≡ outcomeOf n k (d .unit) (refused (d .refusal)) → Told n k was l r l o
+carried-refusal n k was (refused x) d l r e z f = (f ∙ rw e, refl)
+carried-refusal n k was (accepted u s ws) d l r e z f = absurd (z (ap (λ (q : Decided). q .refusal) e))
 
 -- ---- what was decided is at most 16 packets
 
@@ -135,11 +136,8 @@ module _ (own n : ℕ) (sizes costs : List ℕ) (room : ℕ) where
   make-starts r e h = rw (← e, h)
 
 module _ (own n : ℕ) (sizes costs out : List ℕ) (m : Makes own n sizes costs (length out)) where
-  pub make-shaped : n ≤ length sizes → Shaped (seatOf own n sizes)
-  make-shaped long = shaped-of (seatOf own n sizes) (m .shape) long (m .unit)
-
-  pub make-room : Room (seatOf own n sizes) out
-  make-room = room-of (seatOf own n sizes) out (m .shape) (m .unit) (m .fits)
+  pub make-room : Room (seatAt own n sizes) out
+  make-room = room-of (seatAt own n sizes) out (m .shape) (m .unit) (m .fits)
 
   pub make-few : n ≤ length sizes → (was : Unit) (d : Decided) → d ≡ decidedOf was (start (lentView own n sizes costs) (pred own)) → length (packets n (own - 1) (d .sending)) ≤ 16
   unfolding lentView
@@ -147,11 +145,19 @@ module _ (own n : ℕ) (sizes costs out : List ℕ) (m : Makes own n sizes costs
       let w : View = lentView own n sizes costs in
       rw (← pred-sub own) (few-decided n sizes w was (start w (pred own)) d e (start-kept n sizes w (lent-good own n sizes costs (m .shape) long (m .unit) (m .lent)) (pred own) refl))
 
-pub start-first : (own : ℕ) (was : Unit) (w : View) → own ≡ 1 → decidedOf was (assign w fresh) ≡ decidedOf was (start w (pred own))
-start-first own was w e = rw e
+-- a new unit refuses nothing, so that what it decides doesn't keep the state before
+start-accepts : (w : View) (k : ℕ) → Accepts (start w k)
+start-accepts w zero = assign-accepts w fresh
+start-accepts w (suc k) = tt
 
-pub start-later : (own : ℕ) (was : Unit) (w : View) → 1 ≤ own → (own ≡ 1 → ⊥) → decidedOf was (quiet fresh) ≡ decidedOf was (start w (pred own))
-start-later own was w h f = let e : pred own ≡ suc (own - 2) = pred-sub own ∙ omega arith in rw e
+whoever : (was was′ : Unit) (o : Decision) → Accepts o → decidedOf was o ≡ decidedOf was′ o
+whoever was was′ (refused x) a = absurd a
+whoever was was′ (accepted u s ws) a = refl
+
+pub start-decides : (own n : ℕ) (sizes costs : List ℕ) (room : ℕ) → Makes own n sizes costs room → n ≤ length sizes → (was : Unit) (d : Decided) → d ≡ decidedOf fresh (startTo (seatAt own n sizes) costs)
+    → d ≡ decidedOf was (start (lentView own n sizes costs) (pred own))
+start-decides own n sizes costs room m long was d e =
+    e ∙ ap (λ (o : Decision). decidedOf fresh o) (starts own n sizes costs room m long) ∙ whoever fresh was (start (lentView own n sizes costs) (pred own)) (start-accepts (lentView own n sizes costs) (pred own))
 
 -- ---- a step
 
@@ -171,12 +177,15 @@ module _ (u : Unit) (own n : ℕ) (sizes costs : List ℕ) (room : ℕ) where
     step-reads z p f k a = rw (← e, z, ← f, a)
 
 module _ (u : Unit) (own n : ℕ) (sizes costs out : List ℕ) (q : Passed u own n sizes costs (length out)) where
-  pub step-room : Room (seatOf own n sizes) out
-  step-room = room-of (seatOf own n sizes) out (q .shape) (q .unit) (q .fits)
+  pub step-room : Room (seatAt own n sizes) out
+  step-room = room-of (seatAt own n sizes) out (q .shape) (q .unit) (q .fits)
 
   module _ (long : n ≤ length sizes) (bytes : List ℕ) (p : Parsed) (read : p ≡ parseFor n sizes own bytes) (k : Kind) (good : p .answer ≡ Good k) where
+    answered : parseFor n sizes own bytes .answer ≡ Good k
+    answered = ap (λ (x : Parsed). x .answer) (sym read) ∙ good
+
     known : ParsedGood n sizes own bytes k
-    known = parsed-good n sizes own bytes k (ap (λ (x : Parsed). x .answer) (sym read) ∙ good)
+    known = parsed-good n sizes own bytes k answered
 
     fields : p .message ≡ messageIn bytes
     fields = ap (λ (x : Parsed). x .message) (read ∙ known .whole)
@@ -184,12 +193,8 @@ module _ (u : Unit) (own n : ℕ) (sizes costs out : List ℕ) (q : Passed u own
     to-own : p .message .receiver ≡ own
     to-own = rw fields (known .receiver)
 
-    pub step-asks : Shaped (seatOf own n sizes) × Ready own u × Heard own (p .message)
-    step-asks = (
-      shaped-of (seatOf own n sizes) (q .shape) long (q .unit),
-      ready-of (seatOf own n sizes) costs u (own-of own n sizes (q .shape) (q .unit)) (q .state),
-      heard-of own n sizes k (p .message) (q .shape) long (rw fields (known .address)) to-own (rw fields (known .formed)),
-    )
+    pub step-decides : (d : Decided) → d ≡ decidedOf u (respondTo (seatAt own n sizes) costs k u (p .message)) → d ≡ decidedOf u (respond (lentView own n sizes costs) k u (p .message))
+    step-decides d e = e ∙ rw fields (ap (λ (o : Decision). decidedOf u o) (responds u own n sizes costs (length out) q long bytes k answered))
 
     pub step-few : SizedUnit u → Sized (p .message) → (was : Unit) (d : Decided) → d ≡ decidedOf was (respond (lentView own n sizes costs) k u (p .message)) → length (packets n (own - 1) (d .sending)) ≤ 16
     unfolding lentView
@@ -201,14 +206,30 @@ module _ (u : Unit) (own n : ℕ) (sizes costs out : List ℕ) (q : Passed u own
 
 -- ---- a step on what is known to be good
 
-pub trusted-few : (own n : ℕ) (sizes costs : List ℕ) → 1 ≤ own → own ≤ n → n ≤ 16 → (k : Kind) (u : Unit) (m : Message) (was : Unit) (d : Decided)
-    → d ≡ decidedOf was (respond (lentView own n sizes costs) k u m) → length (packets n (own - 1) (d .sending)) ≤ 16
-unfolding lentView packets
-trusted-few own n sizes costs first last most k u m was d e = rw (← pred-sub own) (go (respond w k u m) e (respond-few n w refl (omega (arith, pred-sub own)) k u m))
-  where
-    w : View
-    w = lentView own n sizes costs
+module _ (seat : Seat) (costs : List ℕ) (k : Kind) (u : Unit) (m : Message) (d : Decided) (e : d ≡ decidedOf u (respondTo seat costs k u m)) (z : d .refusal ≡ 0) where
+  steps : canStep (seat .own) (seat .n) (seat .sizes) u ≡ true
+  steps = responded seat costs k u m (sym (ap (λ (q : Decided). q .refusal) e) ∙ z)
 
-    go : (o : Decision) → d ≡ decidedOf was o → Whenever (Few n w refl (omega (arith, pred-sub own))) o → length (packets n (pred own) (d .sending)) ≤ 16
-    go (refused x) e f = rw e (omega arith)
-    go (accepted u s ws) e f = rw e (omega (arith, f))
+  shaped : Shaped seat
+  shaped = known-shaped seat u steps
+
+  pub trusted-room : (out : List ℕ) → 1024 ≤ length out → Room seat out
+  trusted-room out fits = record { first = shaped .number .first; last = shaped .within; units = shaped .units; bytes = fits }
+
+  pub trusted-few : length (packets (seat .n) (seat .own - 1) (d .sending)) ≤ 16
+  unfolding lentView packets
+  trusted-few = rw (← pred-sub (seat .own)) (by (respondTo seat costs k u m) e (go (canHear (seat .own) m) refl))
+    where
+      w : View
+      w = viewFrom seat costs
+
+      below : w .place < seat .n
+      below = omega (arith, pred-sub (seat .own), shaped .number .first, shaped .within)
+
+      by : (o : Decision) → d ≡ decidedOf u o → Whenever (Few (seat .n) w refl below) o → length (packets (seat .n) (pred (seat .own)) (d .sending)) ≤ 16
+      by (refused x) f h = rw f (omega arith)
+      by (accepted t s ws) f h = rw f (omega (arith, h, shaped .units))
+
+      go : (t : Bool) → canHear (seat .own) m ≡ t → Whenever (Few (seat .n) w refl below) (respondTo seat costs k u m)
+      go true h = rw (respond-on seat costs k u m steps h) (respond-few (seat .n) w refl below k u m)
+      go false h = rw (respond-9 seat costs k u m steps h) tt

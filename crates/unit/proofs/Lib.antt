@@ -1,7 +1,2 @@
--- What the proofs of the unit's functions share.
-pub mod Orders
-pub mod Lent
-pub mod Trying
-pub mod Rules
-pub mod Ranges
+-- What the proofs of making and a step share.
 pub mod Calls

@@ -1,92 +1,26 @@
-// One unit: its state, what it decides on a message, and what it sends.
+// One unit as it is called: made, and handed a packet.
+
+mod send; // what is sent, laid into the lent buffer
 
 use costs::Seat;
-use message::Message;
+pub use decide::fresh;
+pub use decide::in_range_paid;
+pub use decide::no_unit;
 use message::Read;
+pub use rules::Decided;
+pub use rules::Outcome;
+pub use rules::Report;
+pub use rules::Unit;
 ghost use mathlib.Core.Path.{_≡_};
 ghost use Prim.Native.Nat.{ℕ, pred, _-_, _≤_};
 ghost use lib.ListN.{length};
-ghost use Rattle.costs.specs.Instance.{viewFrom};
-ghost use Rattle.unit.specs.State.{fresh, noUnit};
-ghost use Rattle.unit.specs.Step.{Decision, refused};
-ghost use Rattle.unit.specs.Send.{packets};
-ghost use Rattle.unit.specs.Laying.{Room};
-ghost use Rattle.unit.specs.Calls.{outcomeOf, numbersOf, bytesOf, seatRefusal, makeRefusal, rangeRefusal, start, makeOut, stepRefusal, stepOut};
-ghost use Rattle.unit.specs.Trusted.{canStep, canHear, trustedOut};
-ghost use Rattle.unit.specs.Ready.{Own, Shaped, decidedOf};
-
-mod assign; // assigning: values tried, the first below the bound written
-mod backtrack; // backtracking: the own value off, the cpa handed back
-mod decide; // what a message makes a unit do, by its kind
-mod estimate; // requests and the estimates that answer them
-mod receive; // a cpa that comes in
-mod send; // what is sent, laid into the lent buffer
-mod state; // whether a state is in range, the order of stamps, and the parts of a state set
-
-pub use state::in_range_paid;
-
-// 01: "A unit's state keeps its threshold stamp, its best bound and lotting, its estimates, its paper, its own counter and
-// whether it has stopped." The paper out is the cpa in stamp, values and cost; the own value 0 means that none is out.
-#[repr(C)]
-pub struct Unit {
-    pub threshold: [u8; 16],
-    pub bound: u32,
-    pub best: [u8; 16],
-    pub estimates: [u32; 16],
-    pub stamp: [u8; 16],
-    pub values: [u8; 16],
-    pub cost: u32,
-    pub counter: u8,
-    pub stopped: bool,
-}
-
-// How two stamps compare.
-pub enum Ordering {
-    Less,
-    Equal,
-    Greater,
-}
-
-// What a step sends: nothing; the cpa to the next unit with a request to every later one; the cpa to the unit before, or
-// from unit 1 a stop to all others, and solutions behind it if unit n improved; an estimate.
-pub enum Plan {
-    Nothing,
-    Forward,
-    Back,
-    Reply,
-}
-
-// A plan, whether unit n improved its bound in this step, and the fields that the messages carry.
-pub struct Sending {
-    pub plan: Plan,
-    pub improved: bool,
-    pub message: Message,
-}
-
-// What a unit decides: a refusal with the state as lent, or the new state, what is sent and how many records were written.
-pub struct Decided {
-    pub refusal: u8,
-    pub unit: Unit,
-    pub sending: Sending,
-    pub records: u8,
-}
-
-// What making a unit and a step hand back beside the bytes.
-#[repr(C)]
-pub struct Outcome {
-    pub refusal: u8,
-    pub unit: Unit,
-    pub sent: u8,
-    pub records: u8,
-}
-
-// What a step in place hands back beside the state and the bytes.
-#[repr(C)]
-pub struct Report {
-    pub refusal: u8,
-    pub sent: u8,
-    pub records: u8,
-}
+ghost use Rattle.rules.specs.State.{noUnit};
+ghost use Rattle.rules.specs.Step.{Decision, refused};
+ghost use Rattle.rules.specs.Send.{packets};
+ghost use Rattle.rules.specs.Laying.{Room};
+ghost use Rattle.rules.specs.Calls.{outcomeOf, numbersOf, bytesOf, seatRefusal, makeRefusal, rangeRefusal, makeOut, stepRefusal, stepOut};
+ghost use Rattle.rules.specs.Trusted.{trustedOut};
+ghost use Rattle.rules.specs.Ready.{decidedOf};
 
 // A unit is made: unit 1 assigns, the others wait. Refusals 5, 10, 6, 7, 13 in order.
 pub fn make(own: u8, n: u8, sizes: [u8; 16], costs: &[u8], out: &mut [u8]) -> Outcome
@@ -97,7 +31,7 @@ pub fn make(own: u8, n: u8, sizes: [u8; 16], costs: &[u8], out: &mut [u8]) -> Ou
     if refusal != 0 {
         return refused(refusal, no_unit());
     }
-    let d = start(seat, costs);
+    let d = decide::start(seat, costs);
     carry_out(seat, d, out)
 }
 
@@ -128,7 +62,7 @@ pub fn step(
     carry_out(seat, d, out)
 }
 
-// The step on what is known to be good, as in a run that checked its table once: it asks only what it can't do without. Refusals 13, 5, 8, 9,
+// The step on what is known to be good, as in a run that checked its table once: it asks only what it can't do without. Refusals 13, 8, 9, 5,
 // then 12, 11. On what `step` accepts it is the step.
 pub fn step_trusted(
     u: Unit,
@@ -145,18 +79,12 @@ pub fn step_trusted(
     if out.len() < base::SENDING_SIZE {
         return refused(13, u);
     }
-    if !can_step(seat, u) {
-        return refused(5, u);
-    }
     let known = message::unpack(packet);
     let answer = known.answer;
     let Read::Good(kind) = answer else {
         return refused(message::refusal_of(answer), u);
     };
     let m = known.message;
-    if !can_hear(own, m) {
-        return refused(9, u);
-    }
     let d = decide::respond(seat, costs, kind, u, m);
     carry_out(seat, d, out)
 }
@@ -223,7 +151,7 @@ fn range_refusal(seat: Seat, costs: &[u8], u: Unit) -> u8
     if refusal != 0 {
         return refusal;
     }
-    if !state::lent_in_range(seat, costs, u) {
+    if !decide::in_range(seat, costs, u) {
         return 5;
     }
     0
@@ -243,70 +171,19 @@ fn seat_refusal(seat: Seat, costs: &[u8]) -> u8
     costs::lent_refusal(seat, costs)
 }
 
-// Whether a unit in this state can step at all.
-fn can_step(seat: Seat, u: Unit) -> bool
-    ensures { λ r. ⌜ r ≡ canStep (seat .own) (seat .n) (seat .sizes) u ⌝ }
-{
-    if !message::is_unit(seat.n, seat.own) {
-        return false;
-    }
-    if 16 < seat.n {
-        return false;
-    }
-    let place = (seat.own - 1) as usize;
-    if 16 < seat.sizes[place] {
-        return false;
-    }
-    if 17 < u.threshold[place] {
-        return false;
-    }
-    let value = u.values[place];
-    if value == 0 {
-        return true;
-    }
-    u.counter <= value
-}
-
-// Whether unit `own` can do anything with a message.
-fn can_hear(own: u8, m: Message) -> bool
-    requires { ⌜ Own own ⌝ }
-    ensures { λ r. ⌜ r ≡ canHear own m ⌝ }
-{
-    if !message::is_unit(16, m.sender) {
-        return false;
-    }
-    let place = (own - 1) as usize;
-    if 17 < m.stamp[place] {
-        return false;
-    }
-    if own <= m.sender {
-        return true;
-    }
-    m.values[place] == 0
-}
-
-// What a new unit decides.
-fn start(seat: Seat, costs: &[u8]) -> Decided
-    requires { ⌜ Shaped seat ⌝ }
-    ensures { λ r. ⌜ ((was : Unit) → r ≡ decidedOf was (start (viewFrom seat (now (costs .entry))) (pred (seat .own)))) ⌝ }
-{
-    let u = fresh();
-    if seat.own == 1 {
-        return assign::assign(seat, costs, u);
-    }
-    decide::quiet(u)
-}
-
 // What was decided is sent and handed back.
 fn carry_out(seat: Seat, d: Decided, out: &mut [u8]) -> Outcome
-    requires { ⌜ Room seat (now out) × (length (packets (seat .n) (seat .own - 1) (d .sending)) ≤ 16) ⌝ }
+    requires { ⌜ (d .refusal ≡ 0 → Room seat (now out) × (length (packets (seat .n) (seat .own - 1) (d .sending)) ≤ 16)) ⌝ }
     ensures { λ r. ⌜ ((was : Unit) (o : Decision) → d ≡ decidedOf was o → (r ≡ outcomeOf (seat .n) (pred (seat .own)) was o) × (now (out .exit) ≡ bytesOf (seat .n) (pred (seat .own)) (now (out .entry)) o)) ⌝ }
 {
+    let unit = d.unit;
+    if d.refusal != 0 {
+        return refused(d.refusal, unit);
+    }
     let sending = d.sending;
     let sent = send::send(seat, sending, out);
-    let unit = d.unit;
     Outcome {
-        refusal: d.refusal,
+        refusal: 0,
         unit,
         sent,
         records: d.records,
@@ -322,31 +199,5 @@ fn refused(refusal: u8, unit: Unit) -> Outcome
         unit,
         sent: 0,
         records: 0,
-    }
-}
-
-// A new unit: bound *none*, all else zero.
-pub fn fresh() -> Unit
-    ensures { λ r. ⌜ r ≡ fresh ⌝ }
-{
-    let mut u = no_unit();
-    u.bound = base::NONE;
-    u
-}
-
-// The unit beside a refusal of making: all zero.
-pub fn no_unit() -> Unit
-    ensures { λ r. ⌜ r ≡ noUnit ⌝ }
-{
-    Unit {
-        threshold: [0u8; 16],
-        bound: 0,
-        best: [0u8; 16],
-        estimates: [0u32; 16],
-        stamp: [0u8; 16],
-        values: [0u8; 16],
-        cost: 0,
-        counter: 0,
-        stopped: false,
     }
 }

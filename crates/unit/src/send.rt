@@ -1,7 +1,7 @@
 // What a unit sends, laid into the lent buffer: one message after the other, 64 bytes each.
 
-use crate::Plan;
-use crate::Sending;
+use rules::Plan;
+use rules::Sending;
 use costs::Seat;
 use message::Kind;
 use message::Message;
@@ -11,9 +11,9 @@ ghost use Prim.Native.Nat.{_+_, _*_, _-_, _≤_};
 ghost use lib.ListN.{length};
 ghost use Rattle.base.specs.Limits.{messageSize};
 ghost use Rattle.base.specs.Put.{putAt};
-ghost use Rattle.unit.specs.declared.Plan.the-variants.{Forward, Back};
-ghost use Rattle.unit.specs.Send.{withReceiver, sentTo, withoutBound, boundOnly, each, handBack, byPlan, packets, encodeAll, laid};
-ghost use Rattle.unit.specs.Laying.{Room};
+ghost use Rattle.rules.specs.declared.Plan.the-variants.{Forward, Back};
+ghost use Rattle.rules.specs.Send.{withReceiver, sentTo, withoutBound, boundOnly, each, handBack, byPlan, packets, encodeAll, laid};
+ghost use Rattle.rules.specs.Laying.{Room};
 
 // The messages of a plan are laid at the front; how many.
 pub(crate) fn send(seat: Seat, s: Sending, out: &mut [u8]) -> u8

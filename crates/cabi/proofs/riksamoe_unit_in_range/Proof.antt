@@ -1,8 +1,8 @@
 -- `riksamoe_unit_in_range` meets its contract: `unit::in_range` of the lent state as it is read.
 -- Assumes nothing.
 use mathlib.Core.Path.{ap, _∙_}
-use Rattle.unit.specs.declared.Unit.{Unit}
-use Rattle.unit.specs.Calls.{rangeRefusal}
+use Rattle.rules.specs.declared.Unit.{Unit}
+use Rattle.rules.specs.Calls.{rangeRefusal}
 use borrow.Author.Needs.{needs}
 use Rattle.cabi.proofs.riksamoe_unit_in_range.Statement.{statement}
 use Rattle.cabi.proofs.riksamoe_unit_in_range.Tie as tie

@@ -40,8 +40,8 @@ use denote.Triple.Table.{entered, cited}
 use denote.Triple.Clauses.{ensured, lasts}
 use denote.Triple.Walked.{says, Stays, stay-ref, stay-dropped, gave-slice, walkOf, AllGo, goes-ref, goes-dropped, goes-gave-slice, Walks, ends-at, walked, walk-meets}
 use denote.Exit.{yes}
-use Rattle.unit.proofs.Report as P
-use Rattle.unit.proofs.Report.Laws as P′
+use Rattle.rules.proofs.Report as P
+use Rattle.rules.proofs.Report.Laws as P′
 use Rattle.cabi.specs.declared.LentUnit.{LentUnit as State}
 use Rattle.cabi.specs.declared.LentOutcome.{LentOutcome as Outcome}
 use Rattle.cabi.specs.declared.Sizes.{Sizes}

@@ -9,9 +9,9 @@ use Rattle.message.specs.declared.Parsed.{Parsed as Reading}
 use Rattle.message.specs.declared.Read.the-variants.{Good, Refused}
 use Rattle.message.specs.Message.{kindOf, refusalOf}
 use Rattle.message.specs.Decode.{writeRefusal, packetInto}
-use Rattle.unit.specs.declared.Outcome.{Outcome}
-use Rattle.unit.specs.declared.Unit.{Unit}
-use Rattle.unit.specs.Calls.{outcomeOf, bytesOf, stepOut}
+use Rattle.rules.specs.declared.Outcome.{Outcome}
+use Rattle.rules.specs.declared.Unit.{Unit}
+use Rattle.rules.specs.Calls.{outcomeOf, bytesOf, stepOut}
 use Rattle.network.specs.declared.Network.{Network}
 use Rattle.network.specs.declared.Answer.{Answer}
 use Rattle.network.specs.Calls.{deliverOf}

@@ -15,8 +15,8 @@ use Rattle.table.specs.Stream.{unitsOf}
 use Rattle.costs.specs.Instance.{View, viewOf, instanceOf}
 use Rattle.costs.specs.Gather.{sizesIn}
 use Rattle.base.specs.Every.Laws.{every-not}
-use Rattle.unit.specs.declared.Unit.{Unit}
-use Rattle.unit.specs.State.{emptyUnit, allAtMost, paidInRange, inRange}
+use Rattle.rules.specs.declared.Unit.{Unit}
+use Rattle.rules.specs.State.{emptyUnit, allAtMost, paidInRange, inRange}
 use Rattle.network.specs.Run.{unitAt}
 use Rattle.network.specs.Calls.{networkInRange}
 use Rattle.cabi.specs.declared.LentUnit.{LentUnit}

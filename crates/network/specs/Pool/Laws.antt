@@ -9,7 +9,7 @@ use lib.Seq.{paste, length-paste-head, getD-append-add, getD-drop, length-take-l
 use Rattle.base.specs.Limits.{messageSize}
 use Rattle.base.specs.Put.Laws.{paste-more}
 use Rattle.message.specs.Message.{Packet}
-use Rattle.unit.specs.Send.{encodeAll, laid}
+use Rattle.rules.specs.Send.{encodeAll, laid}
 use Rattle.network.specs.Pool.{poolAfter}
 
 -- the cells behind one, up to those in use

@@ -17,8 +17,8 @@ use Rattle.message.specs.Message.{Packet}
 use Rattle.message.specs.Sized.{Sized}
 use Rattle.message.specs.Written.{encode}
 use Rattle.message.specs.EncodeLaws.{length-encode}
-use Rattle.unit.specs.Send.{encodeAll, laid}
-use Rattle.unit.specs.Laying.{encode-append}
+use Rattle.rules.specs.Send.{encodeAll, laid}
+use Rattle.rules.specs.Laying.{encode-append}
 use Rattle.network.specs.Pool.{cellOf, poolAfter}
 use Rattle.network.specs.Pool.Laws.{laterCells}
 use Rattle.network.specs.Run.{cells}

@@ -22,17 +22,17 @@ use Rattle.message.specs.declared.Parsed.{Parsed}
 use Rattle.message.specs.Message.{Packet, isUnit}
 use Rattle.message.specs.Written.{encode}
 use Rattle.message.specs.RoundTrip.{parse-encode, receiver-of-encode}
-use Rattle.unit.specs.declared.Unit.{Unit as UnitState}
-use Rattle.unit.specs.declared.Sending.{Sending}
-use Rattle.unit.specs.State.{fresh}
-use Rattle.unit.specs.Step as U
-use Rattle.unit.specs.Step.{Written}
-use Rattle.unit.specs.Send.{packets}
-use Rattle.unit.specs.Calls.{onRead}
-use Rattle.unit.specs.Units.{unitAt, placeOf, stepOn}
-use Rattle.unit.specs.Laws.Views.{GoodView, view-good}
-use Rattle.unit.specs.Laws.Packets.{Sendable}
-use Rattle.unit.specs.Laws.Units.{AllInRange, Leaves, receiver-unit}
+use Rattle.rules.specs.declared.Unit.{Unit as UnitState}
+use Rattle.rules.specs.declared.Sending.{Sending}
+use Rattle.rules.specs.State.{fresh}
+use Rattle.rules.specs.Step as U
+use Rattle.rules.specs.Step.{Written}
+use Rattle.rules.specs.Send.{packets}
+use Rattle.rules.specs.Calls.{onRead}
+use Rattle.rules.specs.Units.{unitAt, placeOf, stepOn}
+use Rattle.rules.specs.Laws.Views.{GoodView, view-good}
+use Rattle.rules.specs.Laws.Packets.{Sendable}
+use Rattle.rules.specs.Laws.Units.{AllInRange, Leaves, receiver-unit}
 use Rattle.protocol.specs.Problem.{Laws}
 use Rattle.protocol.specs.Machine as M
 use Rattle.protocol.specs.Machine.{Msg, to, Agent, Result}

@@ -24,15 +24,15 @@ use Rattle.base.specs.Members.{In, here}
 use Rattle.base.specs.Members.Laws.{in-right, in-more, every-append}
 use Rattle.message.specs.Message.{Packet}
 use Rattle.message.specs.Written.{encode}
-use Rattle.unit.specs.declared.Unit.{Unit as UnitState}
-use Rattle.unit.specs.declared.Sending.{Sending}
-use Rattle.unit.specs.Step as U
-use Rattle.unit.specs.Step.{Decision, Written}
-use Rattle.unit.specs.Send.{packets}
-use Rattle.unit.specs.Units.{unitAt, placeOf, stepOn}
-use Rattle.unit.specs.Laws.Packets.{Sendable}
-use Rattle.unit.specs.Laws.Assign.{Whenever}
-use Rattle.unit.specs.Laws.Units.{Leaves, step-in-range}
+use Rattle.rules.specs.declared.Unit.{Unit as UnitState}
+use Rattle.rules.specs.declared.Sending.{Sending}
+use Rattle.rules.specs.Step as U
+use Rattle.rules.specs.Step.{Decision, Written}
+use Rattle.rules.specs.Send.{packets}
+use Rattle.rules.specs.Units.{unitAt, placeOf, stepOn}
+use Rattle.rules.specs.Laws.Packets.{Sendable}
+use Rattle.rules.specs.Laws.Assign.{Whenever}
+use Rattle.rules.specs.Laws.Units.{Leaves, step-in-range}
 use Rattle.protocol.specs.Machine as M
 use Rattle.protocol.specs.Machine.{to, Network}
 use Rattle.protocol.specs.Walk.{deliver-stopped, deliver-none, deliver-at}

@@ -18,8 +18,8 @@ use Rattle.costs.specs.Laws.{problemOf}
 use Rattle.costs.specs.Laws.Stream.{sound-of}
 use Rattle.costs.specs.Gather.{sizesIn}
 use Rattle.message.specs.Message.{Packet}
-use Rattle.unit.specs.Units.{placeOf, stepOn}
-use Rattle.unit.specs.Laws.Packets.{Sendable}
+use Rattle.rules.specs.Units.{placeOf, stepOn}
+use Rattle.rules.specs.Laws.Packets.{Sendable}
 use Rattle.protocol.specs.Machine as M
 use Rattle.protocol.specs.Machine.{to, Network}
 use Rattle.protocol.specs.Tests.{true-not-false}

@@ -10,13 +10,13 @@ use Rattle.costs.specs.Instance.{viewOf, instanceOf}
 use Rattle.costs.specs.Laws.{problemOf}
 use Rattle.costs.specs.Laws.Stream.{sound-of}
 use Rattle.costs.specs.Gather.{sizesIn}
-use Rattle.unit.specs.State.{fresh}
-use Rattle.unit.specs.Step as U
-use Rattle.unit.specs.Step.{Decision, assign}
-use Rattle.unit.specs.Send.{packets}
-use Rattle.unit.specs.Calls.{unlessRefused}
-use Rattle.unit.specs.Laws.Assign.{Whenever}
-use Rattle.unit.specs.Laws.Units.{Leaves, start-in-range}
+use Rattle.rules.specs.State.{fresh}
+use Rattle.rules.specs.Step as U
+use Rattle.rules.specs.Step.{Decision, assign}
+use Rattle.rules.specs.Send.{packets}
+use Rattle.rules.specs.Calls.{unlessRefused}
+use Rattle.rules.specs.Laws.Assign.{Whenever}
+use Rattle.rules.specs.Laws.Units.{Leaves, start-in-range}
 use Rattle.protocol.specs.Machine as M
 use Rattle.protocol.specs.Machine.{Result}
 use Rattle.protocol.specs.Theorem.{Kept, make-kept}

@@ -8,11 +8,11 @@ use mathlib.Core.List.{List}
 use mathlib.Core.Option.{Option, none, some}
 use Rattle.costs.specs.Instance.{Instance}
 use Rattle.message.specs.Message.{Packet}
-use Rattle.unit.specs.declared.Unit.{Unit as UnitState}
-use Rattle.unit.specs.declared.Sending.{Sending}
-use Rattle.unit.specs.Step as U
-use Rattle.unit.specs.Step.{Decision, Written}
-use Rattle.unit.specs.Send.{packets}
+use Rattle.rules.specs.declared.Unit.{Unit as UnitState}
+use Rattle.rules.specs.declared.Sending.{Sending}
+use Rattle.rules.specs.Step as U
+use Rattle.rules.specs.Step.{Decision, Written}
+use Rattle.rules.specs.Send.{packets}
 use Rattle.network.specs.Run.{Pool, HistoryOf, DeliveryOf, refusedBy, delivered, placeOf, stepOn, stopped, after, ifFits, onOut, takeCell, deliverIn}
 
 module _ {W : Type 0} (I : Instance) (H : HistoryOf W) (Q : DeliveryOf W → Type 0) where

@@ -18,12 +18,12 @@ use Rattle.costs.specs.Laws.{against, costOf, lookaheadOf, problemOf}
 use Rattle.costs.specs.Laws.Prefix.{pre, pre-set, pre-set-next, cost-with-prefix, cost-next, lookahead-next}
 use Rattle.message.specs.declared.Kind.the-variants.{Cpa, Request, Solution, Stop}
 use Rattle.message.specs.Message.{Packet}
-use Rattle.unit.specs.declared.Unit.{Unit as UnitState}
-use Rattle.unit.specs.State.{zeros, withBest}
-use Rattle.unit.specs.Step as U
-use Rattle.unit.specs.Tests.{tryValue}
-use Rattle.unit.specs.Step.{takeOff, carried}
-use Rattle.unit.specs.Send.{packets, each, sentTo, withoutBound, boundOnly, handBack, solutions}
+use Rattle.rules.specs.declared.Unit.{Unit as UnitState}
+use Rattle.rules.specs.State.{zeros, withBest}
+use Rattle.rules.specs.Step as U
+use Rattle.rules.specs.Tests.{tryValue}
+use Rattle.rules.specs.Step.{takeOff, carried}
+use Rattle.rules.specs.Send.{packets, each, sentTo, withoutBound, boundOnly, handBack, solutions}
 use Rattle.protocol.specs.Machine as M
 use Rattle.protocol.specs.Machine.{Msg, Agent}
 use Rattle.protocol.specs.Simulation.Stamps.{rank, rank-set, zero-place, digits-set, filled-next, filled-off, take-is-prefix}

@@ -9,8 +9,8 @@ use native.Mathlib.Omega.{arith}
 use lib.ListN.{length, length-append}
 use Rattle.base.specs.Members.{In, here, there, Every}
 use Rattle.base.specs.Members.Laws.{in-cases, in-append, in-left, in-right, not-in-nil}
-use Rattle.unit.specs.Step.{Written}
-use Rattle.unit.specs.Units.{SamePrefix, Distinct}
+use Rattle.rules.specs.Step.{Written}
+use Rattle.rules.specs.Units.{SamePrefix, Distinct}
 use Rattle.protocol.specs.Problem.{Problem}
 use Rattle.protocol.specs.Machine.{Record, valuesOf, Agent}
 use Rattle.protocol.specs.Safety.Facts.{History, Sorted, rank}

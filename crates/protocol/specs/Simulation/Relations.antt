@@ -14,10 +14,10 @@ use Rattle.costs.specs.Laws.{costOf}
 use Rattle.costs.specs.Laws.Prefix.{pre}
 use Rattle.message.specs.declared.Kind.the-variants.{Cpa, Request, Estimate, Solution, Stop}
 use Rattle.message.specs.Message.{Packet}
-use Rattle.unit.specs.declared.Unit.{Unit as UnitState}
-use Rattle.unit.specs.State.{zeros}
-use Rattle.unit.specs.Step.{Decision, refused, accepted, Written, after, bareCost}
-use Rattle.unit.specs.Send.{packets, each}
+use Rattle.rules.specs.declared.Unit.{Unit as UnitState}
+use Rattle.rules.specs.State.{zeros}
+use Rattle.rules.specs.Step.{Decision, refused, accepted, Written, after, bareCost}
+use Rattle.rules.specs.Send.{packets, each}
 use Rattle.protocol.specs.Machine as M
 use Rattle.protocol.specs.Machine.{Msg, Agent, Result, Record, valuesOf, stampOf, toEach}
 use Rattle.protocol.specs.Simulation.Stamps.{rank, Digits, FilledTo, zero-place, zeros-filled, zeros-digits}

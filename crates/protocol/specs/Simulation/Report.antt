@@ -11,7 +11,7 @@ use Rattle.costs.specs.Instance.{Instance}
 use Rattle.costs.specs.Bounds.{Assignment, total}
 use Rattle.costs.specs.Laws.{Sound, costOf, problemOf, closed-limit}
 use Rattle.costs.specs.Laws.Prefix.{pre, total-prefix, full-assignment, closed-total}
-use Rattle.unit.specs.declared.Unit.{Unit as UnitState}
+use Rattle.rules.specs.declared.Unit.{Unit as UnitState}
 use Rattle.protocol.specs.Problem.{Full, Closed, ValidBound, NONE}
 use Rattle.protocol.specs.Machine.{Agent}
 use Rattle.protocol.specs.Simulation.Relations.{BestIs, AtRest}

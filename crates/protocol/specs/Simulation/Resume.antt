@@ -11,11 +11,11 @@ use Rattle.costs.specs.Instance.{Instance, viewOf}
 use Rattle.costs.specs.Laws.{costOf, problemOf}
 use Rattle.costs.specs.Laws.Prefix.{pre-set}
 use Rattle.message.specs.declared.Message.{Message}
-use Rattle.unit.specs.declared.Unit.{Unit as UnitState}
-use Rattle.unit.specs.State.{ownValue}
-use Rattle.unit.specs.Step as U
-use Rattle.unit.specs.Step.{takeOff, begun, takeBound}
-use Rattle.unit.specs.Tests.{takeLower, reachedBound}
+use Rattle.rules.specs.declared.Unit.{Unit as UnitState}
+use Rattle.rules.specs.State.{ownValue}
+use Rattle.rules.specs.Step as U
+use Rattle.rules.specs.Step.{takeOff, begun, takeBound}
+use Rattle.rules.specs.Tests.{takeLower, reachedBound}
 use Rattle.protocol.specs.Machine as M
 use Rattle.protocol.specs.Machine.{Agent}
 use Rattle.protocol.specs.Simulation.Stamps.{rank-set, digits-set, filled-off}

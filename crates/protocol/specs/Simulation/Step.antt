@@ -20,14 +20,14 @@ use Rattle.costs.specs.Laws.Prefix.{pre, cost-with-prefix, cost-next, estimate-
 use Rattle.message.specs.declared.Message.{Message}
 use Rattle.message.specs.declared.Kind.the-variants.{Estimate}
 use Rattle.message.specs.Message.{Packet}
-use Rattle.unit.specs.declared.Unit.{Unit as UnitState}
-use Rattle.unit.specs.declared.Ordering.{Ordering}
-use Rattle.unit.specs.declared.Ordering.the-variants.{Less, Equal, Greater}
-use Rattle.unit.specs.State.{withThreshold, withCpa, withEstimates, withStopped, ownValue, compareOn, sameOn}
-use Rattle.unit.specs.Step as U
-use Rattle.unit.specs.Step.{accepted, takeBound, reply}
-use Rattle.unit.specs.Tests.{stored, sumLater, takeLower, onEither, reachedByEstimates, unlessStopped, onOwn}
-use Rattle.unit.specs.Send.{packets}
+use Rattle.rules.specs.declared.Unit.{Unit as UnitState}
+use Rattle.rules.specs.declared.Ordering.{Ordering}
+use Rattle.rules.specs.declared.Ordering.the-variants.{Less, Equal, Greater}
+use Rattle.rules.specs.State.{withThreshold, withCpa, withEstimates, withStopped, ownValue, compareOn, sameOn}
+use Rattle.rules.specs.Step as U
+use Rattle.rules.specs.Step.{accepted, takeBound, reply}
+use Rattle.rules.specs.Tests.{stored, sumLater, takeLower, onEither, reachedByEstimates, unlessStopped, onOwn}
+use Rattle.rules.specs.Send.{packets}
 use Rattle.protocol.specs.Machine as M
 use Rattle.protocol.specs.Machine.{Msg, Agent}
 use Rattle.protocol.specs.Tests.{eqb-same, and-true, same-refl}

@@ -15,14 +15,14 @@ use Rattle.base.specs.Members.Laws.{in-left, in-right, every-nil, every-append}
 use Rattle.costs.specs.Instance.{Instance, viewOf}
 use Rattle.costs.specs.Laws.{Sound, laws-of, problemOf}
 use Rattle.message.specs.Message.{Packet}
-use Rattle.unit.specs.declared.Unit.{Unit as UnitState}
-use Rattle.unit.specs.declared.Sending.{Sending}
-use Rattle.unit.specs.State.{fresh, emptyUnit}
-use Rattle.unit.specs.Step as U
-use Rattle.unit.specs.Step.{Decision, Written}
-use Rattle.unit.specs.Send.{packets}
-use Rattle.unit.specs.Units.{unitAt, placeOf, stepOn, Distinct}
-use Rattle.unit.specs.Laws.Units.{set-unit}
+use Rattle.rules.specs.declared.Unit.{Unit as UnitState}
+use Rattle.rules.specs.declared.Sending.{Sending}
+use Rattle.rules.specs.State.{fresh, emptyUnit}
+use Rattle.rules.specs.Step as U
+use Rattle.rules.specs.Step.{Decision, Written}
+use Rattle.rules.specs.Send.{packets}
+use Rattle.rules.specs.Units.{unitAt, placeOf, stepOn, Distinct}
+use Rattle.rules.specs.Laws.Units.{set-unit}
 use Rattle.protocol.specs.Problem.{Laws}
 use Rattle.protocol.specs.Machine as M
 use Rattle.protocol.specs.Machine.{Msg, to, Record, Agent, Result}

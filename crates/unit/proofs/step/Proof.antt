@@ -8,10 +8,10 @@ use Rattle.base.specs.Shape.Laws.{shape-n}
 use Rattle.costs.specs.Instance.{lentView}
 use Rattle.message.specs.declared.Parsed.{Parsed}
 use Rattle.message.specs.Sized.{Sized}
-use Rattle.unit.specs.Step.{respond}
-use Rattle.unit.specs.Laws.Range.{SizedUnit}
-use Rattle.unit.specs.Laws.Calls.{Passed, passed}
-use Rattle.unit.proofs.Calls.{told-by, told-refused, step-stops, step-unread, step-reads, step-room, step-asks, step-few}
+use Rattle.rules.specs.Step.{respond}
+use Rattle.rules.specs.Laws.Range.{SizedUnit}
+use Rattle.rules.specs.Laws.Calls.{Passed, passed}
+use Rattle.unit.proofs.Calls.{told-by, told-refused, step-stops, step-unread, step-reads, step-room, step-decides, step-few}
 use contract.Lifetimes.{Lfts}
 use borrow.Author.Needs.{needs}
 use Rattle.unit.proofs.step.Statement.{statement}
@@ -49,26 +49,29 @@ returns-2 c =
     (c .before .before .enum-told .given .1) _ (c .before .refusal-of .ensures))
     (c .refused2 .ensures (a .n) (pred (a .own)))
 
-respond-requires : tie.Need-respond-requires
-respond-requires c κs =
-    let a = c .before .before .before .before .before .before .before .before .before .before .args in
-    step-asks (a .u) (a .own) (a .n) (a .sizes) (a .costs .now) (a .out .now) (through (c .before .before .before .before .before)) (long (c .before .before .before .before .before)) (a .packet .now) (c .before .before .before .before .parse-for .result) (c .before .before .before .before .parse-for .ensures) _ (c .before .before .answer .given .1)
-
 carry-out-requires : tie.Need-carry-out-requires
 carry-out-requires c κs =
-    let a = c .before .before .before .before .before .before .before .before .before .before .before .before .args in (
-      step-room (a .u) (a .own) (a .n) (a .sizes) (a .costs .now) (a .out .now) (through (c .before .before .before .before .before .before .before)),
-      step-few (a .u) (a .own) (a .n) (a .sizes) (a .costs .now) (a .out .now) (through (c .before .before .before .before .before .before .before)) (long (c .before .before .before .before .before .before .before)) (a .packet .now) (c .before .before .before .before .before .before .parse-for .result) (c .before .before .before .before .before .before .parse-for .ensures) _ (c .before .before .before .before .answer .given .1)
-          (arrays (c .before .before .before .before .before .before .before .before .before .before .before .before)) (sized (c .before .before .before .before .before .before .parse-for .lifetimes) (c .before .before .before .before .before .before .parse-for .result) (c .before .before .before .before .before .before .parse-for .ok)) (a .u) _ (c .before .respond .ensures),
+    let a = c .before .before .before .before .before .before .before .before .before .before .before .before .args in
+    let t = through (c .before .before .before .before .before .before .before) in
+    let l = long (c .before .before .before .before .before .before .before) in
+    let r = c .before .before .before .before .before .before .parse-for in
+    let good = c .before .before .before .before .answer .given .1 in
+    λ z. (
+      step-room (a .u) (a .own) (a .n) (a .sizes) (a .costs .now) (a .out .now) t,
+      step-few (a .u) (a .own) (a .n) (a .sizes) (a .costs .now) (a .out .now) t l (a .packet .now) (r .result) (r .ensures) _ good (arrays (c .before .before .before .before .before .before .before .before .before .before .before .before)) (sized (r .lifetimes) (r .result) (r .ok)) (a .u) _
+          (step-decides (a .u) (a .own) (a .n) (a .sizes) (a .costs .now) (a .out .now) t l (a .packet .now) (r .result) (r .ensures) _ good _ (c .before .respond .ensures)),
     )
 
 returns-3 : tie.Need-returns-3
 returns-3 c =
     let a = c .before .before .before .before .before .before .before .before .before .before .before .before .before .before .before .args in
+    let checks = c .before .before .before .before .before .before .before .before .before .before in
+    let r = c .before .before .before .before .before .before .before .before .before .parse-for in
     let good = c .before .before .before .before .before .before .before .answer .given .1 in
     told-by (a .n) (pred (a .own)) (a .u) (a .out .now) _ _ _ _
-    (step-reads (a .u) (a .own) (a .n) (a .sizes) (a .costs .now) (length (a .out .now)) (a .packet .now) _ (c .before .before .before .before .before .before .before .before .before .before .before .step-refusal .ensures) (c .before .before .before .before .before .before .before .before .before .before .if1 .left) (c .before .before .before .before .before .before .before .before .before .parse-for .result) (c .before .before .before .before .before .before .before .before .before .parse-for .ensures) _ good)
-    (c .before .before .carry-out .ensures (a .u) (respond (lentView (a .own) (a .n) (a .sizes) (a .costs .now)) _ (a .u) (c .before .before .before .before .before .before .before .before .before .parse-for .result .message)) (c .before .before .before .before .respond .ensures))
+    (step-reads (a .u) (a .own) (a .n) (a .sizes) (a .costs .now) (length (a .out .now)) (a .packet .now) _ (checks .before .step-refusal .ensures) (checks .if1 .left) (r .result) (r .ensures) _ good)
+    (c .before .before .carry-out .ensures (a .u) (respond (lentView (a .own) (a .n) (a .sizes) (a .costs .now)) _ (a .u) (r .result .message))
+    (step-decides (a .u) (a .own) (a .n) (a .sizes) (a .costs .now) (a .out .now) (through checks) (long checks) (a .packet .now) (r .result) (r .ensures) _ good _ (c .before .before .before .before .respond .ensures)))
 
 pub step-spec : {M : Type 1} → statement M
 step-spec =
@@ -83,7 +86,7 @@ step-spec =
     (λ c κs. search needs)
     (λ c κs. search needs)
     returns-2
-    respond-requires
+    (λ c κs. search needs)
     carry-out-requires
     (λ c. search needs)
     returns-3)

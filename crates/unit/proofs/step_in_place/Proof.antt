@@ -42,16 +42,16 @@ use denote.Triple.Table.{entered, cited}
 use denote.Triple.Clauses.{ensured, lasts}
 use denote.Triple.Walked.{says, Stays, stay-ref, stay-dropped, gave-slice, walkOf, AllGo, goes-ref, goes-dropped, goes-gave-slice, Walks, ends-at, walked, walk-meets}
 use denote.Exit.{yes}
-use Rattle.unit.specs.declared.Unit.{Unit as State}
-use Rattle.unit.specs.declared.Outcome.{Outcome}
-use Rattle.unit.specs.Step.{Decision}
-use Rattle.unit.specs.Calls.{outcomeOf, numbersOf, bytesOf, stepOut}
-use Rattle.unit.proofs.Unit as T
-use Rattle.unit.proofs.Unit.Laws as T′
-use Rattle.unit.proofs.Outcome as O
-use Rattle.unit.proofs.Outcome.Laws as O′
-use Rattle.unit.proofs.Report as P
-use Rattle.unit.proofs.Report.Laws as P′
+use Rattle.rules.specs.declared.Unit.{Unit as State}
+use Rattle.rules.specs.declared.Outcome.{Outcome}
+use Rattle.rules.specs.Step.{Decision}
+use Rattle.rules.specs.Calls.{outcomeOf, numbersOf, bytesOf, stepOut}
+use Rattle.rules.proofs.Unit as T
+use Rattle.rules.proofs.Unit.Laws as T′
+use Rattle.rules.proofs.Outcome as O
+use Rattle.rules.proofs.Outcome.Laws as O′
+use Rattle.rules.proofs.Report as P
+use Rattle.rules.proofs.Report.Laws as P′
 use Rattle.unit.proofs.step as callee
 use Rattle.unit.proofs.step.Symbol as callee-def
 use Rattle.unit.proofs.step.Symbol.{name as #unit·step}

@@ -5,7 +5,7 @@ use mathlib.Core.Path.{_≡_, refl, _∙_}
 use mathlib.Core.List.{_++_}
 use native.Mathlib.Omega.{arith}
 use lib.ListN.{length, getD, drop}
-use Rattle.unit.specs.State.{emptyUnit}
+use Rattle.rules.specs.State.{emptyUnit}
 use Rattle.cabi.specs.Lent.{emptyLent, upTo, unitBack}
 use Rattle.cabi.specs.Lent.Laws.{up-to-next, up-to-done}
 use borrow.Author.Needs.{needs}

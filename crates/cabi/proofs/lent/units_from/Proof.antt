@@ -5,7 +5,7 @@ use mathlib.Core.Path.{_≡_, refl, _∙_}
 use mathlib.Core.List.{_++_}
 use native.Mathlib.Omega.{arith}
 use lib.ListN.{getD, drop, replicate}
-use Rattle.unit.specs.State.{noUnit}
+use Rattle.rules.specs.State.{noUnit}
 use Rattle.cabi.specs.Lent.{emptyLent, upTo, unitFrom}
 use Rattle.cabi.specs.Lent.Laws.{up-to-next, up-to-done}
 use borrow.Author.Needs.{needs}

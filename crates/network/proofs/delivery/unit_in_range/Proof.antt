@@ -2,7 +2,7 @@
 use Prim.Native.Nat.{_+_, pred}
 use mathlib.Core.Path.{_≡_, _∙_}
 use native.Mathlib.Omega.{arith}
-use Rattle.unit.specs.Laws.Range.{range-numbered}
+use Rattle.rules.specs.Laws.Range.{range-numbered}
 use borrow.Author.Needs.{needs}
 use Rattle.network.proofs.delivery.unit_in_range.Statement.{statement}
 use Rattle.network.proofs.delivery.unit_in_range.Tie as tie

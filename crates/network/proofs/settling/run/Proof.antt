@@ -13,7 +13,7 @@ use Rattle.table.specs.Stream.{unitsOf, Accepted}
 use Rattle.table.specs.StreamLaws.{accepted-units}
 use Rattle.costs.specs.Instance.{instanceOf}
 use Rattle.costs.specs.Gathered.{gathered}
-use Rattle.unit.specs.Units.{unitAt}
+use Rattle.rules.specs.Units.{unitAt}
 use Rattle.network.specs.declared.Network.{Network}
 use Rattle.network.specs.Count.{valueOf}
 use Rattle.network.specs.Calls.{deliverOf}

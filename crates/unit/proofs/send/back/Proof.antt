@@ -7,7 +7,7 @@ use native.Mathlib.Omega.{arith}
 use lib.ListN.{length}
 use borrow.Author.Tests.{not-true, not-false}
 use Rattle.message.specs.Sized.{Sized}
-use Rattle.unit.specs.Laying.{back-laid, back-count, back-quiet}
+use Rattle.rules.specs.Laying.{back-laid, back-count, back-quiet}
 use borrow.Author.Needs.{needs}
 use Rattle.unit.proofs.send.back.Statement.{statement}
 use Rattle.unit.proofs.send.back.Tie as tie

@@ -3,7 +3,7 @@
 use mathlib.Core.Path.{_∙_}
 use native.Mathlib.Omega.{arith}
 use Rattle.message.specs.Sized.{Sized}
-use Rattle.unit.specs.Laying.{forward-laid, forward-count}
+use Rattle.rules.specs.Laying.{forward-laid, forward-count}
 use borrow.Author.Needs.{needs}
 use Rattle.unit.proofs.send.forward.Statement.{statement}
 use Rattle.unit.proofs.send.forward.Tie as tie

@@ -3,7 +3,7 @@
 use mathlib.Core.Path.{_∙_}
 use native.Mathlib.Omega.{arith}
 use Rattle.message.specs.Sized.{Sized}
-use Rattle.unit.specs.Laying.{stops-laid, stops-count, back-one-laid, back-one-count}
+use Rattle.rules.specs.Laying.{stops-laid, stops-count, back-one-laid, back-one-count}
 use borrow.Author.Needs.{needs}
 use Rattle.unit.proofs.send.hand_back.Statement.{statement}
 use Rattle.unit.proofs.send.hand_back.Tie as tie

@@ -4,8 +4,8 @@ use Prim.Native.Nat.{_-_}
 use mathlib.Core.Path.{refl, sym, _∙_}
 use native.Mathlib.Omega.{arith}
 use Rattle.message.specs.Sized.{Sized}
-use Rattle.unit.specs.declared.Plan.the-variants.{Nothing, Forward, Back, Reply}
-use Rattle.unit.specs.Laying.{laid-none, reply-laid, sent-by, few-by}
+use Rattle.rules.specs.declared.Plan.the-variants.{Nothing, Forward, Back, Reply}
+use Rattle.rules.specs.Laying.{laid-none, reply-laid, sent-by, few-by}
 use borrow.Author.Needs.{needs}
 use Rattle.unit.proofs.send.send.Statement.{statement}
 use Rattle.unit.proofs.send.send.Tie as tie

@@ -7,8 +7,8 @@ use lib.ListN.{length}
 use borrow.Author.Needs.{needs}
 use Rattle.message.specs.Sized.{Sized}
 use Rattle.base.specs.Put.{putAt}
-use Rattle.unit.specs.Send.{sentTo, each, encodeAll}
-use Rattle.unit.specs.Laying.{spread-none, spread-more}
+use Rattle.rules.specs.Send.{sentTo, each, encodeAll}
+use Rattle.rules.specs.Laying.{spread-none, spread-more}
 use Rattle.unit.proofs.send.spread.Statement.{statement}
 use Rattle.unit.proofs.send.spread.Tie as tie
 

@@ -1,0 +1,6 @@
+-- What the proofs of the deciding functions share.
+pub mod Orders
+pub mod Lent
+pub mod Trying
+pub mod Rules
+pub mod Ranges

@@ -1,0 +1,178 @@
+-- What each rule of a unit gives, once its tests are decided.
+-- By the clauses of the definitions. Assumes nothing.
+use Prim.Native.Nat.{ℕ, zero, suc, pred, _+_, _-_, _≤_, _<_}
+use native.Mathlib.Omega.{arith}
+use native.Mathlib.Numerals.{add-one}
+use mathlib.Core.Path.{_≡_, refl, sym, ap, _∙_}
+use mathlib.Core.Bool.{Bool, true, false, cond, _&&_, false≢true}
+use mathlib.Core.List.{List}
+use lib.Dec.{ltb, eqb}
+use lib.ListN.{getD}
+use borrow.Author.Tests.{lt-ltb, le-ltb, le-leb, lt-leb, ne-eqb}
+use Rattle.base.specs.Sums.{sumFrom}
+use Rattle.costs.specs.declared.Seat.{Seat}
+use Rattle.costs.specs.Instance.{View, viewFrom}
+use Rattle.message.specs.declared.Message.{Message}
+use Rattle.message.specs.declared.Kind.{Kind}
+use Rattle.rules.specs.declared.Unit.{Unit}
+use Rattle.rules.specs.declared.Ordering.{Ordering}
+use Rattle.rules.specs.declared.Ordering.the-variants.{Less, Equal, Greater}
+use Rattle.rules.specs.State.{zeros, fresh, withThreshold, withCpa, withCounter, withEstimates, ownValue, compareOn, sameOn, notLess}
+use Rattle.rules.specs.Step.{refused, quiet, takeBound, bareCost, takeOff, backtrack, tryAfter, begun, assign, resume, onDown, isOut, isCpaOut, onBack, onCpa, onFresh, onRequest, onOwnEstimate, onTimely, onEstimate, byKind, respond}
+use Rattle.rules.specs.Tests.{stored, sumLater, onOwn, takeLower, reachedByEstimates, unlessStopped}
+use Rattle.rules.specs.Calls.{start}
+use Rattle.rules.specs.Ready.{Ready, Heard, decidedOf}
+use Rattle.decide.proofs.Lent.{dom-lent, value-lent}
+use Rattle.rules.specs.Laws.Readiness.{pred-sub}
+
+-- ---- the state stays ready
+
+pub ready-lower : (own : ℕ) (b : Bool) (B : ℕ) (l : List ℕ) (u : Unit) → Ready own u → Ready own (takeLower b B l u)
+ready-lower own true B l u r = record { threshold = r .threshold; counter = r .counter }
+ready-lower own false B l u r = r
+
+pub ready-bound : (own : ℕ) (m : Message) (u t : Unit) → t ≡ takeBound m u → Ready own u → Ready own t
+ready-bound own m u t e r = rw e (ready-lower own (ltb (m .bound) (u .bound)) (m .bound) (m .best) u r)
+
+-- the cpa of a message from a lower unit has no own value
+pub ready-down : (own : ℕ) (m : Message) (u : Unit) → Heard own m → m .sender < own → Ready own u → Ready own (withCpa (m .stamp) (m .values) (m .cost) u)
+ready-down own m u d l r = record { threshold = r .threshold; counter = λ z. absurd (none z) } where
+  none : 0 < getD (m .values) (own - 1) 0 → ⊥
+  none z = omega (arith, d .bare l)
+
+pub ready-follow : (own : ℕ) (m : Message) (u t : Unit) → t ≡ withThreshold (m .stamp) u → Heard own m → Ready own u → Ready own t
+ready-follow own m u t e d r = rw e (record { threshold = d .stamp; counter = r .counter })
+
+pub ready-stored : (own : ℕ) (m : Message) (u t : Unit) → t ≡ stored m u → Ready own u → Ready own t
+ready-stored own m u t e r = rw e (record { threshold = r .threshold; counter = r .counter })
+
+-- ---- assign
+
+-- the counter where assigning begins is at most the own value
+begun-counter : (v c : ℕ) → (0 < v → c ≤ v) → cond (eqb v 0) 0 c ≤ v
+begun-counter zero c f = omega arith
+begun-counter (suc v) c f = simp (ne-eqb (suc v) 0 (λ z. omega arith)) (f (omega arith))
+
+-- the threshold is as it was
+pub begun-low : (w : View) (u t : Unit) → t ≡ begun w u → (own : ℕ) → Ready own u → getD (t .threshold) (own - 1) 0 ≤ 17
+begun-low w u t e own r = rw e (r .threshold)
+
+module _ (seat : Seat) (costs : List ℕ) where
+  abbrev view : View
+  view = viewFrom seat costs
+
+  pub begun-lent : (u : Unit) (x : ℕ) → x ≡ cond (eqb (getD (u .values) (seat .own - 1) 0) 0) 0 (u .counter)
+      → takeOff view (withCounter x (withEstimates zeros u)) ≡ begun view u
+  begun-lent u x e =
+      ap (λ (y : ℕ). takeOff view (withCounter y (withEstimates zeros u)))
+      (e ∙ ap (λ (v : ℕ). cond (eqb v 0) 0 (u .counter)) (sym (value-lent seat costs u)))
+
+  pub begun-few : (u t : Unit) → t ≡ begun view u → Ready (seat .own) u → t .counter ≤ getD (u .values) (seat .own - 1) 0
+  begun-few u t e r =
+      let f : t .counter ≡ cond (eqb (ownValue view u) 0) 0 (u .counter) = ap (λ (s : Unit). s .counter) e in
+      rw (f, value-lent seat costs u) (begun-counter (getD (u .values) (seat .own - 1) 0) (u .counter) (r .counter))
+
+  pub assign-lent : 1 ≤ seat .own → seat .own ≤ seat .n → (u t : Unit) → t ≡ begun view u
+      → tryAfter view (getD (seat .sizes) (seat .own - 1) 0 - getD (u .values) (seat .own - 1) 0) (getD (u .values) (seat .own - 1) 0) false t ≡ assign view u
+  unfolding assign
+  assign-lent a b u t e =
+      ap (λ (s : Unit). tryAfter view (getD (seat .sizes) (seat .own - 1) 0 - getD (u .values) (seat .own - 1) 0) (getD (u .values) (seat .own - 1) 0) false s) e
+      ∙ ap (λ (v : ℕ). tryAfter view (getD (seat .sizes) (seat .own - 1) 0 - v) v false (begun view u)) (sym (value-lent seat costs u))
+      ∙ ap (λ (d : ℕ). tryAfter view (d - ownValue view u) (ownValue view u) false (begun view u)) (sym (dom-lent seat costs a b))
+
+-- ---- resume
+
+pub resume-back : (w : View) (u : Unit) → u .bound ≤ bareCost w u → resume w u ≡ backtrack w false (takeOff w u)
+unfolding resume
+resume-back w u l = simp (le-leb _ _ l)
+
+pub resume-on : (w : View) (u : Unit) → bareCost w u < u .bound → resume w u ≡ assign w u
+unfolding resume
+resume-on w u l = simp (lt-leb _ _ l)
+
+-- ---- cpas
+
+pub is-out-not : (w : View) (u : Unit) (k : ℕ) → w .place ≡ k → getD (u .values) k 0 < 1 → isOut w u ≡ false
+is-out-not w u k p l = rw p (le-ltb 0 (getD (u .values) k 0) (omega arith))
+
+pub is-out : (w : View) (u : Unit) (k : ℕ) → w .place ≡ k → 1 ≤ getD (u .values) k 0 → isOut w u ≡ true
+is-out w u k p l = rw p (lt-ltb 0 (getD (u .values) k 0) (omega arith))
+
+-- the stamp of the cpa out, then its values and cost
+pub cpa-out : (w : View) (u : Unit) (m : Message) (own : ℕ) (stamps values : Bool) → suc (w .place) ≡ own
+    → stamps ≡ (isOut w u && sameOn (suc (w .place)) (m .stamp) (u .stamp)) → values ≡ sameOn own (m .values) (u .values)
+    → (stamps && values && eqb (m .cost) (u .cost)) ≡ isCpaOut w u m
+cpa-out w u m own stamps values o e f = rw (e, f, ← o)
+
+pub back-stale : (w : View) (o : Ordering) (u : Unit) (m : Message) → notLess o ≡ false → quiet u ≡ onBack w o u m
+back-stale w Less u m e = refl
+back-stale w Equal u m e = absurd (false≢true (sym e))
+back-stale w Greater u m e = absurd (false≢true (sym e))
+
+pub back-own : (w : View) (o : Ordering) (u : Unit) (m : Message) → notLess o ≡ true → onOwn w (isCpaOut w u m) u m ≡ onBack w o u m
+back-own w Less u m e = absurd (false≢true e)
+back-own w Equal u m e = refl
+back-own w Greater u m e = refl
+
+module _ (w : View) (own : ℕ) (u : Unit) (m : Message) (o : Ordering) (number : suc (w .place) ≡ own) (compared : o ≡ compareOn own (m .stamp) (u .threshold)) where
+  there : o ≡ compareOn (suc (w .place)) (m .stamp) (u .threshold)
+  there = compared ∙ ap (λ (k : ℕ). compareOn k (m .stamp) (u .threshold)) (sym number)
+
+  pub cpa-down : m .sender < own → onDown w o u m ≡ onCpa w u m
+  unfolding onCpa
+  cpa-down l = rw (lt-ltb (m .sender) (suc (w .place)) (omega arith)) (ap (λ (x : Ordering). onDown w x u m) there)
+
+  pub cpa-back : own ≤ m .sender → onBack w o u m ≡ onCpa w u m
+  unfolding onCpa
+  cpa-back l = rw (le-ltb (m .sender) (suc (w .place)) (omega arith)) (ap (λ (x : Ordering). onBack w x u m) there)
+
+  pub estimate-timely : onTimely w o u m ≡ onEstimate w u m
+  unfolding onEstimate
+  estimate-timely = ap (λ (x : Ordering). onTimely w x u m) there
+
+-- ---- requests
+
+pub request-fresh : (w : View) (u : Unit) (m : Message) (o : Ordering) (k : ℕ) → w .place ≡ k → o ≡ compareOn k (m .stamp) (u .threshold) → onFresh w o u m ≡ onRequest w u m
+unfolding onRequest
+request-fresh w u m o k p e = ap (λ (x : Ordering). onFresh w x u m) (e ∙ ap (λ (i : ℕ). compareOn i (m .stamp) (u .threshold)) (sym p))
+
+-- ---- estimates
+
+-- the sum from place j on is the estimate there and the rest
+pub sum-more : (f : ℕ → ℕ) (j n : ℕ) → j < n → sumFrom f j (n - j) ≡ f j + sumFrom f (j + 1) (n - (j + 1))
+sum-more f j n l = let e : n - j ≡ suc (n - (j + 1)) = omega arith in rw (e, add-one)
+
+pub sum-done : (f : ℕ → ℕ) (j n : ℕ) → n ≤ j → sumFrom f j (n - j) ≡ 0
+sum-done f j n l = let e : n - j ≡ 0 = omega arith in rw e
+
+-- a stamp that is not the cpa out's
+pub estimate-foreign : (w : View) (u : Unit) (m : Message) → (isOut w u && sameOn (suc (w .place)) (m .stamp) (u .stamp)) ≡ false → refused 11 ≡ onTimely w Equal u m
+estimate-foreign w u m e = sym (ap (λ (b : Bool). onOwnEstimate w b (stored m u)) e)
+
+module _ (w : View) (u t : Unit) (m : Message) (same : (isOut w u && sameOn (suc (w .place)) (m .stamp) (u .stamp)) ≡ true) (kept : t ≡ stored m u) where
+  own-estimate : onTimely w Equal u m ≡ onOwnEstimate w true t
+  own-estimate = ap (λ (b : Bool). onOwnEstimate w b (stored m u)) same ∙ ap (λ (s : Unit). onOwnEstimate w true s) (sym kept)
+
+  pub estimate-reached : t .bound ≤ t .cost + sumLater w (t .estimates) → assign w t ≡ onTimely w Equal u m
+  estimate-reached l = sym (own-estimate ∙ ap (λ (b : Bool). reachedByEstimates w b t) (le-leb _ _ l))
+
+  pub estimate-short : t .cost + sumLater w (t .estimates) < t .bound → quiet t ≡ onTimely w Equal u m
+  estimate-short l = sym (own-estimate ∙ ap (λ (b : Bool). reachedByEstimates w b t) (lt-leb _ _ l))
+
+-- ---- a message that was read
+
+pub respond-stopped : (w : View) (k : Kind) (u : Unit) (m : Message) → u .stopped ≡ true → refused 12 ≡ respond w k u m
+unfolding respond
+respond-stopped w k u m e = ap (λ (b : Bool). unlessStopped b w k u m) (sym e)
+
+pub respond-kind : (w : View) (k x : Kind) (u : Unit) (m : Message) → u .stopped ≡ false → k ≡ x → byKind w x u m ≡ respond w k u m
+unfolding respond
+respond-kind w k x u m e f = ap (λ (y : Kind). byKind w y u m) (sym f) ∙ ap (λ (b : Bool). unlessStopped b w k u m) (sym e)
+
+-- ---- a new unit
+
+pub start-first : (own : ℕ) (was : Unit) (w : View) → own ≡ 1 → decidedOf was (assign w fresh) ≡ decidedOf was (start w (pred own))
+start-first own was w e = rw e
+
+pub start-later : (own : ℕ) (was : Unit) (w : View) → 1 ≤ own → (own ≡ 1 → ⊥) → decidedOf was (quiet fresh) ≡ decidedOf was (start w (pred own))
+start-later own was w h f = let e : pred own ≡ suc (own - 2) = pred-sub own ∙ omega arith in rw e

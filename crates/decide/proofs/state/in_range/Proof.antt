@@ -1,0 +1,32 @@
+-- `in_range` meets its contract: a number of no unit is refused; what the own value costs is what the unit's view says.
+-- Assumes nothing.
+use mathlib.Core.Path.{_≡_, sym, _∙_}
+use mathlib.Core.Bool.{true}
+use borrow.Author.Needs.{needs}
+use borrow.Author.Tests.{not-true, not-false}
+use Rattle.message.specs.Message.{isUnit}
+use Rattle.rules.specs.Trusted.{inRangeAt}
+use Rattle.rules.specs.Ready.{Own}
+use Rattle.rules.specs.Laws.Views.{unit-range}
+use Rattle.decide.proofs.Ranges.{range-lent}
+use Rattle.decide.proofs.state.in_range.Statement.{statement}
+use Rattle.decide.proofs.state.in_range.Tie as tie
+
+unit : (c : tie.Else1) → isUnit 16 (c .before .before .before .args .seat .own) ≡ true
+unit c = sym (c .before .is-unit .ensures) ∙ not-false _ (c .if1 .left)
+
+own : (c : tie.Else1) → Own (c .before .before .before .args .seat .own)
+own c = let u = unit-range 16 (c .before .before .before .args .seat .own) (unit c) in record { first = u .0; last = u .1 }
+
+returns : tie.Need-returns
+unfolding inRangeAt
+returns c = rw (sym (c .before .is-unit .ensures) ∙ not-true _ (c .if1 .taken))
+
+returns-2 : tie.Need-returns-2
+unfolding inRangeAt
+returns-2 c =
+    let a = c .before .before .before .before .before .args in
+    rw (unit (c .before .before)) (c .paid-in-range .ensures ∙ range-lent (a .seat) (a .costs .now) (a .u) _ (own (c .before .before) .first) (c .before .own-cost .ensures))
+
+pub in-range-spec : {M : Type 1} → statement M
+in-range-spec = tie.close (tie.spec (λ c κs. search needs) returns (λ c κs. own c) (λ c κs. own (c .before)) returns-2)

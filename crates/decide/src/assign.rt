@@ -1,0 +1,140 @@
+// Assigning: 01, "Assign".
+
+use rules::Decided;
+use rules::Plan;
+use rules::Sending;
+use rules::Unit;
+use crate::backtrack::backtrack;
+use crate::backtrack::carry;
+use crate::backtrack::take_off;
+use crate::state::with_best;
+use costs::Seat;
+ghost use mathlib.Core.Path.{_≡_};
+ghost use mathlib.Core.Bool.{false, cond};
+ghost use Prim.Native.Nat.{suc, _+_, _-_, _≤_, _<_};
+ghost use lib.Dec.{eqb};
+ghost use lib.ListN.{getD};
+ghost use Rattle.costs.specs.Instance.{View, viewFrom};
+ghost use Rattle.rules.specs.State.{withBest};
+ghost use Rattle.rules.specs.Step.{takeOff, carried, write, tryAfter, begun, assign};
+ghost use Rattle.rules.specs.Tests.{costAt};
+ghost use Rattle.rules.specs.Ready.{Own, Shaped, Ready, decidedOf};
+
+// Assign: the first value after the own one that stays below the bound is written and sent on; without one, backtrack.
+pub(crate) fn assign(seat: Seat, costs: &[u8], u: Unit) -> Decided
+    requires { ⌜ Shaped seat × Ready (seat .own) u ⌝ }
+    ensures { λ r. ⌜ ((was : Unit) → r ≡ decidedOf was (assign (viewFrom seat (now (costs .entry))) u)) ⌝ }
+{
+    let place = (seat.own - 1) as usize;
+    let value = u.values[place];
+    let t = begin(seat, costs, u);
+    try_after(seat, costs, value, t)
+}
+
+// Estimates cleared, the counter as assigning begins, the own value off.
+fn begin(seat: Seat, costs: &[u8], u: Unit) -> Unit
+    requires { ⌜ Own (seat .own) ⌝ }
+    ensures { λ r. ⌜ r ≡ begun (viewFrom seat (now (costs .entry))) u ⌝ }
+{
+    let place = (seat.own - 1) as usize;
+    let count = started(u.values[place], u.counter);
+    let mut t = u;
+    t.estimates = [0u32; 16];
+    t.counter = count;
+    take_off(seat, costs, t)
+}
+
+// The counter where assigning begins: 0 with no own value.
+fn started(value: u8, counter: u8) -> u8
+    ensures { λ r. ⌜ r ≡ cond (eqb value 0) 0 counter ⌝ }
+{
+    if value == 0 {
+        return 0;
+    }
+    counter
+}
+
+// Try the values after v, ascending; the own value is off.
+fn try_after(seat: Seat, costs: &[u8], from: u8, u: Unit) -> Decided
+    requires { ⌜ Shaped seat × (getD (u .threshold) (seat .own - 1) 0 ≤ 17) × (u .counter ≤ from) ⌝ }
+    ensures { λ r. ⌜ ((was : Unit) → r ≡ decidedOf was (tryAfter (viewFrom seat (now (costs .entry))) (getD (seat .sizes) (seat .own - 1) 0 - from) from false u)) ⌝ }
+{
+    let sizes = seat.sizes;
+    let d = sizes[(seat.own - 1) as usize];
+    let mut t = u;
+    let mut improved = false;
+    let mut records = 0;
+    let mut v = from;
+    while v < d {
+        v += 1;
+        let cost = cost_at(seat, costs, v, t);
+        let ahead = costs::h(seat, costs, v);
+        if cost + base::wide_u64(ahead) < base::wide_u64(t.bound) {
+            records += 1;
+            let s = put(seat.own, v, cost as u32, t);
+            if seat.own != seat.n {
+                let sending = forward(seat.own, s);
+                return Decided {
+                    refusal: 0,
+                    unit: s,
+                    sending,
+                    records,
+                };
+            }
+            t = improve(seat, costs, s);
+            improved = true;
+        }
+    }
+    let mut back = backtrack(seat.own, improved, t);
+    back.records = records;
+    back
+}
+
+// The cost with own value v; wide, so that no sum wraps.
+fn cost_at(seat: Seat, costs: &[u8], v: u8, u: Unit) -> u64
+    requires { ⌜ Own (seat .own) ⌝ }
+    ensures { λ r. ⌜ (r ≡ costAt (viewFrom seat (now (costs .entry))) v u) × (r < 8589934592) ⌝ }
+{
+    let values = u.values;
+    let paid = costs::cost_with(seat, costs, values, seat.own - 1, v);
+    base::wide_u64(u.cost) + base::wide_u64(paid)
+}
+
+// Value v at this cost is written: one record.
+fn put(own: u8, v: u8, cost: u32, u: Unit) -> Unit
+    requires { ⌜ Own own × (u .counter ≤ 254) ⌝ }
+    ensures { λ r. ⌜ (r .counter ≡ u .counter + 1) × (getD (r .threshold) (own - 1) 0 ≡ u .counter + 1) × ((w : View) → suc (w .place) ≡ own → r ≡ write w v cost u) ⌝ }
+{
+    let place = (own - 1) as usize;
+    let count = u.counter + 1;
+    let mut t = u;
+    t.counter = count;
+    t.stamp[place] = count;
+    t.values[place] = v;
+    t.cost = cost;
+    let stamp = t.stamp;
+    t.threshold = stamp;
+    t
+}
+
+// Unit n takes its cost as bound and its values as best, and the own value off.
+fn improve(seat: Seat, costs: &[u8], u: Unit) -> Unit
+    requires { ⌜ Own (seat .own) ⌝ }
+    ensures { λ r. ⌜ r ≡ takeOff (viewFrom seat (now (costs .entry))) (withBest (u .cost) (u .values) u) ⌝ }
+{
+    let values = u.values;
+    let t = with_best(u.cost, values, u);
+    take_off(seat, costs, t)
+}
+
+// The cpa goes to the next unit, and requests to every later one.
+fn forward(own: u8, u: Unit) -> Sending
+    ensures { λ r. ⌜ ((w : View) → suc (w .place) ≡ own → r ≡ record { plan = Plan.Forward; improved = false; message = carried w u }) ⌝ }
+{
+    let message = carry(own, u);
+    Sending {
+        plan: Plan::Forward,
+        improved: false,
+        message,
+    }
+}

@@ -1,0 +1,229 @@
+// A unit's state: whether it is in range, the order of stamps, and its parts set one at a time.
+
+use rules::Ordering;
+use rules::Unit;
+use costs::Seat;
+ghost use mathlib.Core.Path.{_≡_};
+ghost use mathlib.Core.Bool.{_&&_};
+ghost use Prim.Native.Nat.{_≤_};
+ghost use Rattle.base.specs.Limits.{estimateLimit};
+ghost use Rattle.costs.specs.Instance.{viewFrom};
+ghost use Rattle.rules.specs.State.{
+  ownCost,
+  withThreshold,
+  withBest,
+  withCpa,
+  withStopped,
+  compareOn,
+  sameOn,
+  notLess,
+  allAtMost,
+  cpaZero,
+  cpaOutInRange,
+  paidInRange,
+  inRangePaid,
+};
+ghost use Rattle.rules.specs.Trusted.{inRangeAt};
+ghost use Rattle.rules.specs.Ready.{Own};
+
+// Whether a lent state is in range; none is for a number that is not 1 to 16.
+pub fn in_range(seat: Seat, costs: &[u8], u: Unit) -> bool
+    ensures { λ r. ⌜ r ≡ inRangeAt seat (now (costs .entry)) u ⌝ }
+{
+    if !message::is_unit(16, seat.own) {
+        return false;
+    }
+    let paid = own_cost(seat, costs, u);
+    paid_in_range(seat, paid, u)
+}
+
+// The own value's costs; without one there are none to add up.
+pub(crate) fn own_cost(seat: Seat, costs: &[u8], u: Unit) -> u32
+    requires { ⌜ Own (seat .own) ⌝ }
+    ensures { λ r. ⌜ r ≡ ownCost (viewFrom seat (now (costs .entry))) u ⌝ }
+{
+    let place = seat.own - 1;
+    let values = u.values;
+    let value = values[place as usize];
+    if value == 0 {
+        return 0;
+    }
+    costs::cost_with(seat, costs, values, place, value)
+}
+
+// Whether the state of unit `own` is in range, its own value's costs being `paid`; no state is for a number that is not 1 to 16.
+pub fn in_range_paid(own: u8, n: u8, sizes: [u8; 16], paid: u32, u: Unit) -> bool
+    ensures { λ r. ⌜ r ≡ inRangePaid n sizes own paid u ⌝ }
+{
+    if !message::is_unit(16, own) {
+        return false;
+    }
+    paid_in_range(Seat { own, n, sizes }, paid, u)
+}
+
+// The same of a unit.
+fn paid_in_range(seat: Seat, paid: u32, u: Unit) -> bool
+    requires { ⌜ Own (seat .own) ⌝ }
+    ensures { λ r. ⌜ r ≡ paidInRange (seat .n) (seat .sizes) (seat .own) paid u ⌝ }
+{
+    let threshold = u.threshold;
+    let estimates = u.estimates;
+    if !limits_kept(threshold, estimates) {
+        return false;
+    }
+    let sizes = seat.sizes;
+    let best = u.best;
+    if !message::none_or_bound(seat.n, sizes, u.bound, best) {
+        return false;
+    }
+    let values = u.values;
+    if values[(seat.own - 1) as usize] == 0 {
+        return cpa_zero(sizes, u);
+    }
+    cpa_out_in_range(seat, paid, u)
+}
+
+// Whether each of the 16 places keeps its limit.
+fn limits_kept(threshold: [u8; 16], estimates: [u32; 16]) -> bool
+    ensures { λ r. ⌜ r ≡ (allAtMost 17 threshold && allAtMost estimateLimit estimates) ⌝ }
+{
+    let mut i = 0;
+    while i < 16 {
+        if 17 < threshold[i] {
+            return false;
+        }
+        if base::ESTIMATE_LIMIT < estimates[i] {
+            return false;
+        }
+        i += 1;
+    }
+    true
+}
+
+// Whether the cpa is all zero.
+fn cpa_zero(sizes: [u8; 16], u: Unit) -> bool
+    ensures { λ r. ⌜ r ≡ cpaZero sizes u ⌝ }
+{
+    let stamp = u.stamp;
+    if !message::filled_to(0, sizes, stamp) {
+        return false;
+    }
+    let values = u.values;
+    if !message::filled_to(0, sizes, values) {
+        return false;
+    }
+    u.cost == 0
+}
+
+// Whether a cpa that is out keeps its limits.
+fn cpa_out_in_range(seat: Seat, paid: u32, u: Unit) -> bool
+    requires { ⌜ Own (seat .own) ⌝ }
+    ensures { λ r. ⌜ r ≡ cpaOutInRange (seat .sizes) (seat .own) paid u ⌝ }
+{
+    let own = seat.own;
+    let place = own - 1;
+    let sizes = seat.sizes;
+    let stamp = u.stamp;
+    let values = u.values;
+    if !message::filled_to(own, sizes, stamp) {
+        return false;
+    }
+    if !message::filled_to(own, sizes, values) {
+        return false;
+    }
+    if message::prefix_limit(own) < u.cost {
+        return false;
+    }
+    if u.counter != stamp[place as usize] {
+        return false;
+    }
+    if values[place as usize] < u.counter {
+        return false;
+    }
+    let threshold = u.threshold;
+    if !not_less(compare(own as usize, threshold, stamp)) {
+        return false;
+    }
+    if u.cost < paid {
+        return false;
+    }
+    u.cost - paid <= message::prefix_limit(place)
+}
+
+// How a compares with b on the first k units.
+pub(crate) fn compare(k: usize, a: [u8; 16], b: [u8; 16]) -> Ordering
+    requires { ⌜ k ≤ 16 ⌝ }
+    ensures { λ r. ⌜ r ≡ compareOn k a b ⌝ }
+{
+    let mut i = 0;
+    while i < k {
+        if a[i] < b[i] {
+            return Ordering::Less;
+        }
+        if b[i] < a[i] {
+            return Ordering::Greater;
+        }
+        i += 1;
+    }
+    Ordering::Equal
+}
+
+// Whether the first k places are equal.
+pub(crate) fn same(k: usize, a: [u8; 16], b: [u8; 16]) -> bool
+    requires { ⌜ k ≤ 16 ⌝ }
+    ensures { λ r. ⌜ r ≡ sameOn k a b ⌝ }
+{
+    let order = compare(k, a, b);
+    match order {
+        Ordering::Less => false,
+        Ordering::Equal => true,
+        Ordering::Greater => false,
+    }
+}
+
+// Equal or bigger.
+pub(crate) fn not_less(o: Ordering) -> bool
+    ensures { λ r. ⌜ r ≡ notLess o ⌝ }
+{
+    match o {
+        Ordering::Less => false,
+        Ordering::Equal => true,
+        Ordering::Greater => true,
+    }
+}
+
+pub(crate) fn with_threshold(t: [u8; 16], u: Unit) -> Unit
+    ensures { λ r. ⌜ r ≡ withThreshold t u ⌝ }
+{
+    let mut v = u;
+    v.threshold = t;
+    v
+}
+
+// A bound and the assignment that has it, always together.
+pub(crate) fn with_best(bound: u32, best: [u8; 16], u: Unit) -> Unit
+    ensures { λ r. ⌜ r ≡ withBest bound best u ⌝ }
+{
+    let mut v = u;
+    v.bound = bound;
+    v.best = best;
+    v
+}
+
+pub(crate) fn with_cpa(stamp: [u8; 16], values: [u8; 16], cost: u32, u: Unit) -> Unit
+    ensures { λ r. ⌜ r ≡ withCpa stamp values cost u ⌝ }
+{
+    let mut v = u;
+    v.stamp = stamp;
+    v.values = values;
+    v.cost = cost;
+    v
+}
+
+pub(crate) fn with_stopped(b: bool, u: Unit) -> Unit
+    ensures { λ r. ⌜ r ≡ withStopped b u ⌝ }
+{
+    let mut v = u;
+    v.stopped = b;
+    v
+}

@@ -1,0 +1,318 @@
+-- Assigning and backtracking keep a state in range and send what can be written, from a CPA in hand whose own value is off.
+-- The threshold's own place is at most 16 before, so at most 17 after backtracking; the counter is at most the value tried. By recursion over
+-- the values left. In order: what is kept; backtrack; a value written; the values left; assign and resume. Assumes nothing.
+use Prim.Native.Nat.{ℕ, zero, suc, _+_, _-_, _≤_, _<_}
+use mathlib.Core.Path.{_≡_, refl, sym, ap, _∙_}
+use mathlib.Core.Bool.{Bool, true, false, cond, false≢true}
+use mathlib.Core.List.{List, [], _∷_}
+use native.Mathlib.Omega.{arith}
+use lib.Dec.{ltb, leb, eqb}
+use lib.ListN.{length, getD, set, length-set}
+use lib.Seq.{getD-set-same, getD-set-other}
+use borrow.Author.Tests.{eqb-true, eqb-false}
+use Rattle.base.specs.Limits.{estimateLimit, prefixLimit}
+use Rattle.base.specs.Sums.{sumTo}
+use Rattle.base.specs.Members.{Every}
+use Rattle.costs.specs.Instance.{View}
+use Rattle.costs.specs.Bounds.{costWith, h}
+use Rattle.costs.specs.Lent.Bounds.{cost-most}
+use Rattle.message.specs.Message.{filledTo, boundGood, noneOrBound}
+use Rattle.message.specs.Laws.{blank-filled, bound-by}
+use Rattle.rules.specs.declared.Unit.{Unit as State}
+use Rattle.rules.specs.declared.Sending.{Sending}
+use Rattle.rules.specs.declared.Plan.the-variants.{Forward}
+use Rattle.rules.specs.State.{withBest, ownValue, notLess, inRange}
+use Rattle.rules.specs.Step.{Decision, refused, accepted, Written, after, bareCost, takeOff, carried, backedUp, backtrack, write, recordOf, afterWrite, tryAfter, begun, assign, resume}
+use Rattle.rules.specs.Tests.{isLast, tryValue, reachedBound}
+use Rattle.rules.specs.Send.{packets}
+use Rattle.rules.specs.Laws.Views.{GoodView, units-most, place-16, size-most}
+use Rattle.rules.specs.Laws.Stamps.{places-equal}
+use Rattle.rules.specs.Laws.Filled.{filled-own, filled-off, filled-most, zeros-at, set-most, good-or-none, bound-32, limit-next, limit-total}
+use Rattle.rules.specs.Laws.Range.{SizedUnit, InRange, range-tests}
+use Rattle.rules.specs.Laws.Packets.{Sendable, Carries, Improved, forward-sendable, back-sendable, forward-few, back-few}
+
+-- ---- what is kept
+
+-- of what a unit decides, if it isn't a refusal
+abbrev pub Whenever : (State → Sending → List Written → Type 0) → Decision → Type 0
+Whenever P (refused r) = Unit {0}
+Whenever P (accepted u s ws) = P u s ws
+
+-- the state stays in range, all that is sent can be written and is at most 16 packets, at most `most` records are written
+pub record GoodDecision (n : ℕ) (sizes : List ℕ) (w : View) (most : ℕ) (u : State) (s : Sending) (ws : List Written) : Type 0 where
+  pub state : inRange sizes w u ≡ true
+  pub arrays : SizedUnit u
+  pub sent : Every (Sendable n sizes) (packets n (w .place) s)
+  pub few : length (packets n (w .place) s) ≤ 16
+  pub records : length ws ≤ most
+
+module _ (n : ℕ) (sizes : List ℕ) (w : View) where
+  pub kept-more : (m m′ : ℕ) → m ≤ m′ → (o : Decision) → Whenever (GoodDecision n sizes w m) o → Whenever (GoodDecision n sizes w m′) o
+  kept-more m m′ l (refused r) h = tt
+  kept-more m m′ l (accepted u s ws) h = record { state = h .state; arrays = h .arrays; sent = h .sent; few = h .few; records = omega (arith, h .records) }
+
+  kept-after : (m : ℕ) (r : Written) (o : Decision) → Whenever (GoodDecision n sizes w m) o → Whenever (GoodDecision n sizes w (suc m)) (after r o)
+  kept-after m r (refused x) h = tt
+  kept-after m r (accepted u s ws) h = record { state = h .state; arrays = h .arrays; sent = h .sent; few = h .few; records = omega (arith, h .records) }
+
+-- a CPA in hand, the own value off
+pub record InHand (n : ℕ) (sizes : List ℕ) (w : View) (u : State) : Type 0 where
+  pub arrays : SizedUnit u
+  pub threshold : (j : ℕ) → j < 16 → getD (u .threshold) j 0 ≤ 17
+  pub own : getD (u .threshold) (w .place) 0 ≤ 16
+  pub estimates : (j : ℕ) → j < 16 → getD (u .estimates) j 0 ≤ estimateLimit
+  pub bound : noneOrBound n sizes (u .bound) (u .best) ≡ true
+  pub stamp : filledTo (w .place) sizes (u .stamp) ≡ true
+  pub values : filledTo (w .place) sizes (u .values) ≡ true
+  pub cost : u .cost ≤ prefixLimit (w .place)
+
+module _ (n : ℕ) (sizes : List ℕ) (w : View) (g : GoodView n sizes w) where
+  k16 : w .place < 16
+  k16 = place-16 n sizes w g
+
+  -- ---- what the messages carry
+
+  carries : (u : State) (c : ℕ) → c ≤ 16 → SizedUnit u → filledTo c sizes (u .stamp) ≡ true → filledTo c sizes (u .values) ≡ true → u .cost ≤ prefixLimit c
+      → noneOrBound n sizes (u .bound) (u .best) ≡ true → Carries n sizes (w .place) c (carried w u)
+  carries u c l a s v p b =
+      record {
+        sender = refl;
+        stamp = s;
+        values = v;
+        cost = p;
+        bound = b;
+        arrays = record { stamp = a .stamp; values = a .values; best = a .best; cost = omega (arith, limit-total c l); bound = bound-32 n sizes (u .bound) (u .best) b };
+      }
+
+  -- ---- backtrack
+
+  pub backtrack-kept : (u : State) → InHand n sizes w u → (b : Bool) → Improved n sizes (w .place) (u .bound) (u .best) b → Whenever (GoodDecision n sizes w 0) (backtrack w b u)
+  unfolding backtrack packets
+  backtrack-kept u i b imp =
+      record {
+        state =
+            range-tests sizes w (backedUp w u)
+            record {
+              threshold = set-most 17 (u .threshold) (w .place) (suc (getD (u .threshold) (w .place) 0)) (i .arrays .threshold) k16 (omega (arith, i .own)) (i .threshold);
+              estimates = λ j l. omega (arith, zeros-at j l);
+              bound = rw (g .units) (i .bound);
+              none = λ z. record { stamp = blank-filled sizes; values = blank-filled sizes; cost = refl };
+              out = λ l. absurd (omega (arith, zeros-at (w .place) k16));
+            };
+        arrays = record { threshold = rw length-set (i .arrays .threshold); best = i .arrays .best; estimates = refl; stamp = refl; values = refl };
+        sent = back-sendable n sizes (w .place) (w .place) (carried w u) (g .place) (carries u (w .place) (omega (arith, k16)) (i .arrays) (i .stamp) (i .values) (i .cost) (i .bound)) refl b imp;
+        few = omega (arith, units-most n sizes w g, back-few n (w .place) (carried w u) (g .place) b (λ e. imp e .0));
+        records = omega arith;
+      }
+
+  -- ---- a value written
+
+  -- the cost of a value with the units before doesn't ask for the own place
+  sum-set : (l : List ℕ) (a x k m : ℕ) → m ≤ k → sumTo (λ j. w .pair j (getD (set l k a) j 0) x) m ≡ sumTo (λ j. w .pair j (getD l j 0) x) m
+  sum-set l a x k zero h = refl
+  sum-set l a x k (suc m) h = rw (sum-set l a x k m (omega arith), getD-set-other l k m a 0 (λ z. omega arith))
+
+  cost-set : (l : List ℕ) (a x : ℕ) → costWith w (set l (w .place) a) (w .place) x ≡ costWith w l (w .place) x
+  unfolding costWith
+  cost-set l a x = sum-set l a x (w .place) (w .place) (omega arith)
+
+  module _ (u : State) (v : ℕ) (i : InHand n sizes w u) (tried : u .counter ≤ v) (left : v < getD sizes (w .place) 0) where
+    abbrev next-cost : ℕ
+    next-cost = u .cost + costWith w (u .values) (w .place) (suc v)
+
+    abbrev written : State
+    written = write w (suc v) next-cost u
+
+    stamp-filled : filledTo (suc (w .place)) sizes (written .stamp) ≡ true
+    stamp-filled = filled-own sizes (u .stamp) (w .place) (i .arrays .stamp) k16 (suc (u .counter)) (omega arith) (omega arith) (i .stamp)
+
+    values-filled : filledTo (suc (w .place)) sizes (written .values) ≡ true
+    values-filled = filled-own sizes (u .values) (w .place) (i .arrays .values) k16 (suc v) (omega arith) left (i .values)
+
+    own-is : ownValue w written ≡ suc v
+    own-is = getD-set-same (u .values) (w .place) (suc v) 0 (omega (arith, i .arrays .values, k16))
+
+    own-stamp : getD (written .stamp) (w .place) 0 ≡ suc (u .counter)
+    own-stamp = getD-set-same (u .stamp) (w .place) (suc (u .counter)) 0 (omega (arith, i .arrays .stamp, k16))
+
+    paid-is : costWith w (written .values) (w .place) (ownValue w written) ≡ costWith w (u .values) (w .place) (suc v)
+    paid-is = rw own-is (cost-set (u .values) (suc v) (suc v))
+
+    bare-is : bareCost w written ≡ u .cost
+    bare-is = omega (arith, paid-is)
+
+    cost-limit : next-cost ≤ prefixLimit (suc (w .place))
+    cost-limit = omega (arith, i .cost, cost-most w (g .small) (u .values) (w .place) (suc v), limit-next (w .place))
+
+    stamp-most : (j : ℕ) → j < 16 → getD (written .stamp) j 0 ≤ 16
+    stamp-most = filled-most n (suc (w .place)) sizes (written .stamp) (g .place) (size-most n sizes w g) stamp-filled
+
+    written-arrays : SizedUnit written
+    written-arrays =
+        record {
+          threshold = rw length-set (i .arrays .stamp);
+          best = i .arrays .best;
+          estimates = i .arrays .estimates;
+          stamp = rw length-set (i .arrays .stamp);
+          values = rw length-set (i .arrays .values);
+        }
+
+    written-range : InRange sizes w written
+    written-range =
+        record {
+          threshold = λ j l. omega (arith, stamp-most j l);
+          estimates = i .estimates;
+          bound = rw (g .units) (i .bound);
+          none = λ z. absurd (omega (arith, own-is));
+          out = λ l.
+              record {
+                stamp = stamp-filled;
+                values = values-filled;
+                cost = cost-limit;
+                counter = sym own-stamp;
+                tried = omega (arith, own-is);
+                threshold = ap notLess (places-equal (suc (w .place)) (written .stamp) (written .stamp) (λ j b. refl));
+                paid = omega (arith, paid-is);
+                bare = omega (arith, bare-is, i .cost);
+              };
+        }
+
+    forward-kept : suc (w .place) < n → GoodDecision n sizes w 1 written (record { plan = Forward; improved = false; message = carried w written }) (recordOf w written ∷ [])
+    unfolding packets
+    forward-kept l =
+        record {
+          state = range-tests sizes w written written-range;
+          arrays = written-arrays;
+          sent = forward-sendable n sizes (w .place) (suc (w .place)) (carried w written) (g .place) (carries written (suc (w .place)) (omega (arith, k16)) written-arrays stamp-filled values-filled cost-limit (i .bound)) refl l false;
+          few = omega (arith, units-most n sizes w g, forward-few n (w .place) (carried w written) (g .place) false);
+          records = omega arith;
+        }
+
+    -- unit n takes it as its best, and takes it off again
+    abbrev taken : State
+    taken = takeOff w (withBest (written .cost) (written .values) written)
+
+    best-good : suc (w .place) ≡ n → boundGood n sizes (taken .bound) (taken .best) ≡ true
+    best-good l = bound-by n sizes next-cost (written .values) (omega (arith, cost-limit, limit-total (suc (w .place)) (omega (arith, k16)))) (rw (← l) values-filled)
+
+    taken-in-hand : suc (w .place) ≡ n → InHand n sizes w taken
+    taken-in-hand l =
+        record {
+          arrays =
+              record {
+                threshold = written-arrays .threshold;
+                best = written-arrays .values;
+                estimates = i .arrays .estimates;
+                stamp = rw length-set (written-arrays .stamp);
+                values = rw length-set (written-arrays .values);
+              };
+          threshold = λ j b. omega (arith, stamp-most j b);
+          own = stamp-most (w .place) k16;
+          estimates = i .estimates;
+          bound = good-or-none n sizes (taken .bound) (taken .best) (best-good l);
+          stamp = filled-off sizes (written .stamp) (w .place) (written-arrays .stamp) k16 (suc (w .place)) (omega arith) (omega arith) stamp-filled;
+          values = filled-off sizes (written .values) (w .place) (written-arrays .values) k16 (suc (w .place)) (omega arith) (omega arith) values-filled;
+          cost = omega (arith, bare-is, i .cost);
+        }
+
+  -- ---- the values left
+
+  last-or-not : (b : Bool) → isLast w ≡ b → (b ≡ true → suc (w .place) ≡ n) × (b ≡ false → suc (w .place) < n)
+  last-or-not true e = (λ q. eqb-true (suc (w .place)) (w .n) e ∙ g .units, λ q. absurd (false≢true (sym q)))
+  last-or-not false e = (λ q. absurd (false≢true q), λ q. below (eqb-false (suc (w .place)) (w .n) e))
+    where
+      below : (suc (w .place) ≡ w .n → ⊥) → suc (w .place) < n
+      below d = omega (arith, g .place, g .units)
+
+  -- one value tried, where those after it keep what is to be kept
+  module _ (m : ℕ) (again : Bool → State → Decision) (x : ℕ)
+      (next : (b : Bool) (u : State) → InHand n sizes w u → u .counter ≤ x → Improved n sizes (w .place) (u .bound) (u .best) b → Whenever (GoodDecision n sizes w m) (again b u)) where
+    after-write-kept : (v : ℕ) → x ≡ suc v → (u : State) (i : InHand n sizes w u) (tried : u .counter ≤ v) (left : v < getD sizes (w .place) 0) (b : Bool) → isLast w ≡ b
+        → Whenever (GoodDecision n sizes w (suc m)) (afterWrite w b (write w (suc v) (u .cost + costWith w (u .values) (w .place) (suc v)) u) again)
+    after-write-kept v q u i tried left true e =
+        let l : suc (w .place) ≡ n = last-or-not true e .0 refl in
+        kept-after n sizes w m (recordOf w (written u v i tried left)) (again true (taken u v i tried left))
+        (next true (taken u v i tried left) (taken-in-hand u v i tried left l) (omega arith) (λ z. (l, best-good u v i tried left l)))
+    after-write-kept v q u i tried left false e = kept-more n sizes w 1 (suc m) (omega arith) (accepted _ _ _) (forward-kept u v i tried left (last-or-not false e .1 refl))
+
+    try-kept : (v : ℕ) → x ≡ suc v → (u : State) → InHand n sizes w u → u .counter ≤ v → v < getD sizes (w .place) 0 → (b : Bool) → Improved n sizes (w .place) (u .bound) (u .best) b → (t : Bool)
+        → Whenever (GoodDecision n sizes w (suc m)) (tryValue w t (suc v) (u .cost + costWith w (u .values) (w .place) (suc v)) b u again)
+    try-kept v q u i tried left b imp true = after-write-kept v q u i tried left (isLast w) refl
+    try-kept v q u i tried left b imp false = kept-more n sizes w m (suc m) (omega arith) (again b u) (next b u i (omega arith) imp)
+
+  pub values-kept : (m v : ℕ) → m + v ≡ getD sizes (w .place) 0 → (b : Bool) (u : State) → InHand n sizes w u → u .counter ≤ v → Improved n sizes (w .place) (u .bound) (u .best) b
+      → Whenever (GoodDecision n sizes w m) (tryAfter w m v b u)
+  unfolding tryAfter
+  values-kept zero v e b u i tried imp = backtrack-kept u i b imp
+  values-kept (suc m) v e b u i tried imp =
+      try-kept m (λ (b : Bool) (t : State). tryAfter w m (suc v) b t) (suc v) (λ b u i tried imp. values-kept m (suc v) (omega arith) b u i tried imp) v refl u i tried (omega arith) b imp
+      (ltb (u .cost + costWith w (u .values) (w .place) (suc v) + h w (suc v)) (u .bound))
+
+-- ---- assign and resume
+
+-- a CPA in hand, with its own value or without
+pub record Ready (n : ℕ) (sizes : List ℕ) (w : View) (u : State) : Type 0 where
+  pub arrays : SizedUnit u
+  pub threshold : (j : ℕ) → j < 16 → getD (u .threshold) j 0 ≤ 17
+  pub own : getD (u .threshold) (w .place) 0 ≤ 16
+  pub estimates : (j : ℕ) → j < 16 → getD (u .estimates) j 0 ≤ estimateLimit
+  pub bound : noneOrBound n sizes (u .bound) (u .best) ≡ true
+  pub stamp : filledTo (w .place) sizes (set (u .stamp) (w .place) 0) ≡ true
+  pub values : filledTo (w .place) sizes (set (u .values) (w .place) 0) ≡ true
+  pub bare : bareCost w u ≤ prefixLimit (w .place)
+  pub value : ownValue w u ≤ getD sizes (w .place) 0
+  pub tried : 1 ≤ ownValue w u → u .counter ≤ ownValue w u
+
+module _ (n : ℕ) (sizes : List ℕ) (w : View) (g : GoodView n sizes w) (u : State) (r : Ready n sizes w u) where
+  begun-in-hand : InHand n sizes w (begun w u)
+  begun-in-hand =
+      record {
+        arrays = record { threshold = r .arrays .threshold; best = r .arrays .best; estimates = refl; stamp = rw length-set (r .arrays .stamp); values = rw length-set (r .arrays .values) };
+        threshold = r .threshold;
+        own = r .own;
+        estimates = λ j l. omega (arith, zeros-at j l);
+        bound = r .bound;
+        stamp = r .stamp;
+        values = r .values;
+        cost = r .bare;
+      }
+
+  off-in-hand : InHand n sizes w (takeOff w u)
+  off-in-hand =
+      record {
+        arrays = record { threshold = r .arrays .threshold; best = r .arrays .best; estimates = r .arrays .estimates; stamp = rw length-set (r .arrays .stamp); values = rw length-set (r .arrays .values) };
+        threshold = r .threshold;
+        own = r .own;
+        estimates = r .estimates;
+        bound = r .bound;
+        stamp = r .stamp;
+        values = r .values;
+        cost = r .bare;
+      }
+
+  -- 01: "if the paper has no own value the counter becomes 0"
+  begun-tried : begun w u .counter ≤ ownValue w u
+  begun-tried = go (eqb (ownValue w u) 0) refl
+    where
+      go : (t : Bool) → eqb (ownValue w u) 0 ≡ t → cond t 0 (u .counter) ≤ ownValue w u
+      go true e = omega arith
+      go false e = r .tried (nonzero (ownValue w u) (eqb-false (ownValue w u) 0 e))
+        where
+          nonzero : (x : ℕ) → (x ≡ 0 → ⊥) → 1 ≤ x
+          nonzero x d = omega arith
+
+  pub assign-kept : Whenever (GoodDecision n sizes w 16) (assign w u)
+  unfolding assign
+  assign-kept =
+      let d : w .dom (w .place) - ownValue w u + ownValue w u ≡ getD sizes (w .place) 0 = omega (arith, g .dom, r .value) in
+      kept-more n sizes w (w .dom (w .place) - ownValue w u) 16 (omega (arith, g .dom, size-most n sizes w g (w .place) (g .place)))
+      (tryAfter w (w .dom (w .place) - ownValue w u) (ownValue w u) false (begun w u))
+      (values-kept n sizes w g (w .dom (w .place) - ownValue w u) (ownValue w u) d false (begun w u) begun-in-hand begun-tried (λ e. absurd (false≢true e)))
+
+  pub resume-kept : Whenever (GoodDecision n sizes w 16) (resume w u)
+  unfolding resume
+  resume-kept = go (leb (u .bound) (bareCost w u))
+    where
+      go : (t : Bool) → Whenever (GoodDecision n sizes w 16) (reachedBound w t u)
+      go true = kept-more n sizes w 0 16 (omega arith) (backtrack w false (takeOff w u)) (backtrack-kept n sizes w g (takeOff w u) off-in-hand false (λ e. absurd (false≢true e)))
+      go false = assign-kept

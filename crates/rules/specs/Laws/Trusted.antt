@@ -1,0 +1,188 @@
+-- A unit on what is known to be good: what is asked is what the deciding functions ask, it sends at most 16 packets,
+-- and on what making and a step accept it is these. By the tests, and the walk through what a unit decides. Assumes nothing.
+use Prim.Native.Nat.{ℕ, suc, pred, _-_, _≤_, _<_}
+use mathlib.Core.Path.{_≡_, refl, _∙_}
+use mathlib.Core.Bool.{Bool, true, false, _&&_, _||_}
+use mathlib.Core.List.{List}
+use native.Mathlib.Omega.{arith}
+use lib.Dec.{leb, eqb}
+use lib.ListN.{length, getD}
+use borrow.Author.Tests.{le-leb, lt-leb, leb-true, leb-false, lt-ltb, le-ltb, eq-eqb, ne-eqb, eqb-true, eqb-false}
+use Rattle.base.specs.Limits.{sendingSize}
+use Rattle.base.specs.Shape.Laws.{and-left, and-right}
+use Rattle.costs.specs.declared.Seat.{Seat}
+use Rattle.costs.specs.Instance.{View, lentView, viewFrom}
+use Rattle.message.specs.declared.Kind.{Kind}
+use Rattle.message.specs.declared.Message.{Message}
+use Rattle.message.specs.declared.Parsed.{Parsed}
+use Rattle.message.specs.declared.Read.the-variants.{Good, Refused}
+use Rattle.message.specs.Message.{isUnit, refusalOf}
+use Rattle.message.specs.Decode.{messageIn, parseFor}
+use Rattle.message.specs.Unpack.{unpackOf}
+use Rattle.message.specs.RoundTrip.{ParsedGood, parsed-good, unpack-parsed}
+use Rattle.rules.specs.declared.Unit.{Unit as State}
+use Rattle.rules.specs.declared.Sending.{Sending}
+use Rattle.rules.specs.Step.{Decision, refused, accepted, Written, after, backtrack, carried, respond}
+use Rattle.rules.specs.Send.{packets}
+use Rattle.rules.specs.State.{fresh, inRange}
+use Rattle.rules.specs.Calls.{start, stepOut}
+use Rattle.rules.specs.Trusted.{canStep, canHear, respondTo, startTo, inRangeAt, trustedOut}
+use Rattle.rules.specs.Ready.{Own, Shaped, Ready, Heard, decidedOf}
+use Rattle.rules.specs.Laws.Views.{unit-range}
+use Rattle.rules.specs.Laws.Packets.{forward-few, back-few}
+use Rattle.rules.specs.Laws.Assign.{Whenever}
+use Rattle.rules.specs.Laws.Walk.{respond-by}
+use Rattle.rules.specs.Laws.Readiness.{shaped-of, ready-of, ready-fresh, heard-of}
+use Rattle.rules.specs.Laws.Calls.{Makes, Passed, not-refused}
+
+-- a seat by its parts
+abbrev pub seatAt : ℕ → ℕ → List ℕ → Seat
+seatAt own n sizes = record { own = own; n = n; sizes = sizes }
+
+-- ---- what the tests say
+
+either : (a b : Bool) → (a || b) ≡ true → a ≡ false → b ≡ true
+either true b e f = let c : _≡_ {A = ℕ} 0 1 = cc in absurd (omega arith)
+either false b e f = e
+
+module _ (seat : Seat) (u : State) (e : canStep (seat .own) (seat .n) (seat .sizes) u ≡ true) where
+  counted : (isUnit (seat .n) (seat .own) && leb (seat .n) 16 && leb (getD (seat .sizes) (seat .own - 1) 0) 16 && leb (getD (u .threshold) (seat .own - 1) 0) 17) ≡ true
+  counted = and-left _ _ e
+
+  pub known-shaped : Shaped seat
+  known-shaped =
+      let s = and-left (isUnit (seat .n) (seat .own) && leb (seat .n) 16 && leb (getD (seat .sizes) (seat .own - 1) 0) 16) _ counted in
+      let n = and-left (isUnit (seat .n) (seat .own) && leb (seat .n) 16) _ s in
+      let o = unit-range (seat .n) (seat .own) (and-left (isUnit (seat .n) (seat .own)) _ n) in
+      let most = leb-true (seat .n) 16 (and-right (isUnit (seat .n) (seat .own)) _ n) in
+      record {
+        number = record { first = o .0; last = omega (arith, o .1, most) };
+        within = o .1;
+        units = most;
+        size = leb-true _ 16 (and-right (isUnit (seat .n) (seat .own) && leb (seat .n) 16) _ s);
+      }
+
+  pub known-ready : Ready (seat .own) u
+  known-ready = record {
+    threshold = leb-true _ 17 (and-right (isUnit (seat .n) (seat .own) && leb (seat .n) 16 && leb (getD (seat .sizes) (seat .own - 1) 0) 16) _ counted);
+    counter = λ l. leb-true _ _ (either _ _ (and-right (isUnit (seat .n) (seat .own) && leb (seat .n) 16 && leb (getD (seat .sizes) (seat .own - 1) 0) 16 && leb (getD (u .threshold) (seat .own - 1) 0) 17) _ e) (ne-eqb (getD (u .values) (seat .own - 1) 0) 0 (λ z. omega (arith, l, z))));
+  }
+
+pub known-heard : (own : ℕ) (m : Message) → canHear own m ≡ true → Heard own m
+known-heard own m e =
+    let s = and-left (isUnit 16 (m .sender) && leb (getD (m .stamp) (own - 1) 0) 17) _ e in
+    let from = unit-range 16 (m .sender) (and-left (isUnit 16 (m .sender)) _ s) in
+    record {
+      sender = record { first = from .0; last = from .1 };
+      stamp = leb-true _ 17 (and-right (isUnit 16 (m .sender)) _ s);
+      bare = λ l. eqb-true _ 0 (either _ _ (and-right (isUnit 16 (m .sender) && leb (getD (m .stamp) (own - 1) 0) 17) _ e) (lt-leb own (m .sender) l));
+    }
+
+-- ---- which way it goes
+
+module _ (seat : Seat) (costs : List ℕ) (k : Kind) (u : State) (m : Message) where
+  pub respond-5 : canStep (seat .own) (seat .n) (seat .sizes) u ≡ false → respondTo seat costs k u m ≡ refused 5
+  unfolding respondTo
+  respond-5 e = rw e
+
+  pub respond-9 : canStep (seat .own) (seat .n) (seat .sizes) u ≡ true → canHear (seat .own) m ≡ false → respondTo seat costs k u m ≡ refused 9
+  unfolding respondTo
+  respond-9 e f = rw (e, f)
+
+  pub respond-on : canStep (seat .own) (seat .n) (seat .sizes) u ≡ true → canHear (seat .own) m ≡ true → respondTo seat costs k u m ≡ respond (viewFrom seat costs) k u m
+  unfolding respondTo
+  respond-on e f = rw (e, f)
+
+  -- what is not refused could be done
+  pub responded : decidedOf u (respondTo seat costs k u m) .refusal ≡ 0 → canStep (seat .own) (seat .n) (seat .sizes) u ≡ true
+  responded z = go (canStep (seat .own) (seat .n) (seat .sizes) u) refl
+    where
+      go : (t : Bool) → canStep (seat .own) (seat .n) (seat .sizes) u ≡ t → canStep (seat .own) (seat .n) (seat .sizes) u ≡ true
+      go true e = e
+      go false e = let f : decidedOf u (respondTo seat costs k u m) .refusal ≡ 5 = rw (respond-5 e) in absurd (omega arith)
+
+module _ (seat : Seat) (costs : List ℕ) where
+  pub start-5 : canStep (seat .own) (seat .n) (seat .sizes) fresh ≡ false → startTo seat costs ≡ refused 5
+  unfolding startTo
+  start-5 e = rw e
+
+  pub start-on : canStep (seat .own) (seat .n) (seat .sizes) fresh ≡ true → startTo seat costs ≡ start (viewFrom seat costs) (pred (seat .own))
+  unfolding startTo
+  start-on e = rw e
+
+module _ (u : State) (own n : ℕ) (sizes costs bytes : List ℕ) (room : ℕ) where
+  pub trusted-13 : room < sendingSize → trustedOut u own n sizes costs bytes room ≡ refused 13
+  unfolding trustedOut
+  trusted-13 l = rw (lt-ltb room sendingSize l)
+
+  module _ (fits : sendingSize ≤ room) (p : Parsed) (read : p ≡ unpackOf bytes) where
+    pub trusted-unread : (x : ℕ) → p .answer ≡ Refused x → (y : ℕ) → y ≡ refusalOf (p .answer) → trustedOut u own n sizes costs bytes room ≡ refused y
+    unfolding trustedOut
+    trusted-unread x a y g = rw (g, le-ltb room sendingSize fits, ← read, a)
+
+    pub trusted-on : (k : Kind) → p .answer ≡ Good k → trustedOut u own n sizes costs bytes room ≡ respondTo (seatAt own n sizes) costs k u (p .message)
+    unfolding trustedOut
+    trusted-on k a = rw (le-ltb room sendingSize fits, ← read, a)
+
+-- ---- at most 16 packets
+
+module _ (n : ℕ) (w : View) (units : w .n ≡ n) (below : w .place < n) where
+  abbrev pub Few : State → Sending → List Written → Type 0
+  Few u s ws = length (packets n (w .place) s) ≤ n
+
+  pub respond-few : (k : Kind) (u : State) (m : Message) → Whenever Few (respond w k u m)
+  unfolding packets backtrack
+  respond-few k u m =
+      respond-by w (λ o. Whenever Few o) (λ u. forward-few n (w .place) (carried w u) below false)
+      (λ b u l. back-few n (w .place) (carried w u) below b (λ e. eqb-true (suc (w .place)) (w .n) (l e) ∙ units)) more (λ r l. tt) (λ u. omega arith) (λ u m. omega arith) k u m
+    where
+      more : (r : Written) (o : Decision) → Whenever Few o → Whenever Few (after r o)
+      more r (refused x) f = tt
+      more r (accepted u s ws) f = f
+
+-- ---- on what making and a step accept
+
+pub in-range-at : (seat : Seat) (costs : List ℕ) (u : State) → Own (seat .own) → inRangeAt seat costs u ≡ inRange (seat .sizes) (viewFrom seat costs) u
+unfolding inRangeAt
+in-range-at seat costs u o = rw (le-leb 1 (seat .own) (o .first), le-leb (seat .own) 16 (o .last))
+
+fits-counter : (value counter : ℕ) → (0 < value → counter ≤ value) → (eqb value 0 || leb counter value) ≡ true
+fits-counter value counter f = go (eqb value 0) refl
+  where
+    go : (t : Bool) → eqb value 0 ≡ t → (t || leb counter value) ≡ true
+    go true e = refl
+    go false e = le-leb _ _ (f (nonzero (eqb-false _ 0 e)))
+      where
+        nonzero : (value ≡ 0 → ⊥) → 0 < value
+        nonzero h = omega arith
+
+can-step : (seat : Seat) (u : State) → Shaped seat → isUnit (seat .n) (seat .own) ≡ true → Ready (seat .own) u → canStep (seat .own) (seat .n) (seat .sizes) u ≡ true
+can-step seat u s e r = rw (e, le-leb (seat .n) 16 (s .units), le-leb _ 16 (s .size), le-leb _ 17 (r .threshold)) (fits-counter (getD (u .values) (seat .own - 1) 0) (u .counter) (r .counter))
+
+can-hear : (own : ℕ) (m : Message) → Heard own m → canHear own m ≡ true
+can-hear own m h = rw (le-leb 1 (m .sender) (h .sender .first), le-leb (m .sender) 16 (h .sender .last), le-leb _ 17 (h .stamp)) (go (leb own (m .sender)) refl)
+  where
+    go : (t : Bool) → leb own (m .sender) ≡ t → (t || eqb (getD (m .values) (own - 1) 0) 0) ≡ true
+    go true e = refl
+    go false e = eq-eqb _ 0 (h .bare (leb-false own (m .sender) e))
+
+pub starts : (own n : ℕ) (sizes costs : List ℕ) (room : ℕ) → Makes own n sizes costs room → n ≤ length sizes → startTo (seatAt own n sizes) costs ≡ start (lentView own n sizes costs) (pred own)
+starts own n sizes costs room m long =
+    let seat : Seat = seatAt own n sizes in
+    let s = shaped-of seat (m .shape) long (m .unit) in
+    start-on seat costs (can-step seat fresh s (m .unit) (ready-fresh own (s .number)))
+
+module _ (u : State) (own n : ℕ) (sizes costs : List ℕ) (room : ℕ) (q : Passed u own n sizes costs room) (long : n ≤ length sizes) (bytes : List ℕ) (k : Kind) (good : parseFor n sizes own bytes .answer ≡ Good k) where
+  known : ParsedGood n sizes own bytes k
+  known = parsed-good n sizes own bytes k good
+
+  pub responds : respondTo (seatAt own n sizes) costs k u (messageIn bytes) ≡ respond (lentView own n sizes costs) k u (messageIn bytes)
+  responds =
+      let seat : Seat = seatAt own n sizes in
+      let s = shaped-of seat (q .shape) long (q .unit) in
+      let m = heard-of own n sizes k (messageIn bytes) (q .shape) long (known .address) (known .receiver) (known .formed) in
+      respond-on seat costs k u (messageIn bytes) (can-step seat u s (q .unit) (ready-of seat costs u (s .number) (q .state))) (can-hear own (messageIn bytes) m)
+
+  pub trusted-steps : trustedOut u own n sizes costs bytes room ≡ stepOut u own n sizes costs bytes room
+  unfolding trustedOut stepOut
+  trusted-steps = rw (unpack-parsed n sizes own bytes k good, known .whole, le-ltb room sendingSize (q .fits), not-refused own n sizes costs room u q) responds

@@ -1,0 +1,39 @@
+-- What the deciding functions ask of their arguments: ranges only, so that no sum wraps and no index leaves its array; and what they give.
+-- Places count from 0: unit `own` is at place own - 1. Assumes nothing.
+use Prim.Native.Nat.{ℕ, _-_, _≤_, _<_}
+use mathlib.Core.Path.{_≡_}
+use lib.ListN.{length, getD}
+use Rattle.costs.specs.declared.Seat.{Seat}
+use Rattle.message.specs.declared.Message.{Message}
+use Rattle.rules.specs.declared.Unit.{Unit}
+use Rattle.rules.specs.declared.Decided.{Decided}
+use Rattle.rules.specs.Step.{Decision, refused, accepted}
+use Rattle.rules.specs.Tests.{silent}
+
+-- a unit's number
+pub record Own (own : ℕ) : Type 0 where
+  pub first : 1 ≤ own
+  pub last : own ≤ 16
+
+-- one of at most 16 units, with at most 16 values
+pub record Shaped (seat : Seat) : Type 0 where
+  pub number : Own (seat .own)
+  pub within : seat .own ≤ seat .n
+  pub units : seat .n ≤ 16
+  pub size : getD (seat .sizes) (seat .own - 1) 0 ≤ 16
+
+-- a state whose threshold and counter may go up by 1: the counter is used only with a cpa out
+pub record Ready (own : ℕ) (u : Unit) : Type 0 where
+  pub threshold : getD (u .threshold) (own - 1) 0 ≤ 17
+  pub counter : 0 < getD (u .values) (own - 1) 0 → u .counter ≤ getD (u .values) (own - 1) 0
+
+-- a message to unit `own`: from a unit; one from a lower unit has no value of this one
+pub record Heard (own : ℕ) (m : Message) : Type 0 where
+  pub sender : Own (m .sender)
+  pub stamp : getD (m .stamp) (own - 1) 0 ≤ 17
+  pub bare : m .sender < own → getD (m .values) (own - 1) 0 ≡ 0
+
+-- a decision as the code has it; a refusal keeps the state as it was
+abbrev pub decidedOf : Unit → Decision → Decided
+decidedOf was (refused r) = record { refusal = r; unit = was; sending = silent; records = 0 }
+decidedOf was (accepted u s ws) = record { refusal = 0; unit = u; sending = s; records = length ws }
