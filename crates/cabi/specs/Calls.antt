@@ -5,7 +5,7 @@ use Rattle.message.specs.{declared.Message.Message, declared.Parsed.Parsed as R
 use Rattle.message.specs.declared.Read.the-variants.{Good, Refused}
 use Rattle.message.specs.Message.{kindCode, refusalOf, addressGood}
 use Rattle.rules.specs.{declared.Report.Report, Calls.outcomeOf, Calls.bytesOf, Calls.stepOut}
-use Rattle.network.specs.Calls.{deliverOf}
+use Rattle.runs.specs.Calls.{deliverOf}
 use Rattle.search.specs.declared.Found.{Found as Searched}
 use Rattle.cabi.specs.{declared.Found.Found, declared.LentAnswer.LentAnswer, declared.LentNetwork.LentNetwork, declared.LentOutcome.LentOutcome, declared.LentUnit.LentUnit, declared.Parsed.Parsed}
 use Rattle.cabi.specs.Lent.{unitFrom, outcomeBack, networkFrom, answerBack}

@@ -5,7 +5,7 @@
 -- Lent/Laws shows that such a state is out of range, and that what a call leaves alone comes back as lent. Assumes nothing.
 use Rattle.base.specs.Library.{ℕ, zero, suc, Bool, cond, List, [], _∷_, _++_, leb, eqb, getD, replicate}
 use Rattle.rules.specs.{declared.Unit.Unit, declared.Outcome.Outcome, State.unit, State.emptyUnit}
-use Rattle.network.specs.{declared.Network.Network, declared.Answer.Answer}
+use Rattle.runs.specs.{declared.Network.Network, declared.Answer.Answer}
 use Rattle.cabi.specs.{declared.LentUnit.LentUnit, declared.LentOutcome.LentOutcome, declared.LentNetwork.LentNetwork, declared.LentAnswer.LentAnswer}
 pub mod Laws
 

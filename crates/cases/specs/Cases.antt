@@ -26,7 +26,7 @@ use Rattle.rules.specs.declared.Unit.{Unit as State}
 use Rattle.rules.specs.State.{compareOn, sameOn}
 use Rattle.rules.specs.Step.{backtrack, tryAfter, assign, resume, onCpa, onRequest, onEstimate, onSolution, onStop, respond}
 use Rattle.rules.specs.Send.{each, packets}
-use Rattle.network.specs.Run.{History, unitAt, begin, handOver, runFrom, run}
+use Rattle.runs.specs.Run.{History, unitAt, begin, handOver, runFrom, run}
 use Rattle.cases.specs.Sheds.{streamWith, streamT, pairAt, single}
 
 -- what a row compares

@@ -1,8 +1,8 @@
 // A count in two words.
 
-use crate::Count;
+use runs::Count;
 ghost use mathlib.Core.Path.{_≡_};
-ghost use Rattle.network.specs.Count.{plus};
+ghost use Rattle.runs.specs.Count.{plus};
 
 // m more, modulo 2^128.
 pub(crate) fn plus(c: Count, m: u64) -> Count

@@ -1,12 +1,12 @@
 // A count in decimal digits.
 
-use crate::Count;
-use crate::Text;
+use runs::Count;
+use runs::Text;
 ghost use mathlib.Core.Path.{_≡_};
 ghost use Prim.Native.Nat.{_+_, _*_, _≤_, _<_};
 ghost use lib.Dec.{eqb};
-ghost use Rattle.network.specs.Count.{valueOf};
-ghost use Rattle.network.specs.Digits.{digitsOf};
+ghost use Rattle.runs.specs.Count.{valueOf};
+ghost use Rattle.runs.specs.Digits.{digitsOf};
 
 // A count divided by ten.
 struct Divided {

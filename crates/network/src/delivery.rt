@@ -1,7 +1,7 @@
 // A delivery: the checks, the step of the unit that the message is for, and what it leaves in the network and the pool.
 
-use crate::Answer;
-use crate::Network;
+use runs::Answer;
+use runs::Network;
 use crate::counting::plus;
 use crate::pool::close;
 use crate::pool::copy_in;
@@ -20,8 +20,8 @@ ghost use Rattle.costs.specs.Instance.{viewOf, instanceOf};
 ghost use Rattle.costs.specs.Bounds.{costWith};
 ghost use Rattle.rules.specs.State.{paidInRange};
 ghost use Rattle.rules.specs.Laws.Range.{SizedUnit};
-ghost use Rattle.network.specs.Calls.{deliverRefusal, receiverOf, stepped, deliverBy, deliverOf};
-ghost use Rattle.network.specs.Code.{unitInRange, Open, Stepping, Stepped, Storing, storedAnswer, storedPool};
+ghost use Rattle.runs.specs.Calls.{deliverRefusal, receiverOf, stepped, deliverBy, deliverOf};
+ghost use Rattle.runs.specs.Code.{unitInRange, Open, Stepping, Stepped, Storing, storedAnswer, storedPool};
 
 // The cells of the pool, as a number of places.
 const CELLS: usize = base::POOL_CELLS as usize;

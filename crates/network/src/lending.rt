@@ -3,7 +3,7 @@
 ghost use Prim.Native.Nat.{_≤_};
 ghost use lib.ListN.{length};
 ghost use Rattle.table.specs.Stream.{Accepted};
-ghost use Rattle.network.specs.Lending.{lentSize, Lent};
+ghost use Rattle.runs.specs.Lending.{lentSize, Lent};
 
 // Room for the costs of 16 units.
 pub(crate) const LENT_SIZE: usize = base::PLACES * base::COSTS_SIZE;

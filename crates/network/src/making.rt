@@ -1,9 +1,9 @@
 // Making a network of a stream: unit 1 assigns, the others wait.
 
-use crate::Answer;
-use crate::Core;
-use crate::Count;
-use crate::Network;
+use runs::Answer;
+use runs::Core;
+use runs::Count;
+use runs::Network;
 use crate::counting::plus;
 use unit::Outcome;
 ghost use mathlib.Core.Path.{_≡_};
@@ -16,9 +16,9 @@ ghost use Rattle.costs.specs.Instance.{viewOf, instanceOf};
 ghost use Rattle.rules.specs.State.{noUnit, fresh};
 ghost use Rattle.rules.specs.Step.{assign};
 ghost use Rattle.rules.specs.Calls.{outcomeOf, bytesOf};
-ghost use Rattle.network.specs.Count.{zeroCount};
-ghost use Rattle.network.specs.Calls.{noNetwork, makeRefusal, makeOf};
-ghost use Rattle.network.specs.Code.{begunAnswer};
+ghost use Rattle.runs.specs.Count.{zeroCount};
+ghost use Rattle.runs.specs.Calls.{noNetwork, makeRefusal, makeOf};
+ghost use Rattle.runs.specs.Code.{begunAnswer};
 
 // A network of a stream's table, its messages at the front of the pool. Refusals 5, 6, 7, 13 in order.
 pub fn make(stream: &[u8], pool: &mut [u8]) -> Answer

@@ -6,7 +6,7 @@ ghost use Prim.Native.Nat.{_+_, _*_, _-_, _≤_};
 ghost use lib.ListN.{length};
 ghost use lib.Seq.{paste};
 ghost use Rattle.base.specs.Limits.{messageSize, poolCells, poolSize, sendingSize};
-ghost use Rattle.network.specs.Pool.Laws.{closeGap};
+ghost use Rattle.runs.specs.Pool.Laws.{closeGap};
 
 // The bytes from `at` + 64 to `end` move down by 64; those from `end` - 64 on stay as they were.
 pub(crate) fn close(pool: &mut [u8], at: usize, end: usize)

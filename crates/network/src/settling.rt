@@ -1,7 +1,7 @@
 // Running a network to its end: the table is checked once, when the network is made.
 
-use crate::Answer;
-use crate::Network;
+use runs::Answer;
+use runs::Network;
 use crate::counting::plus;
 use crate::delivery::receiver;
 use crate::lending::LENT_SIZE;
@@ -14,9 +14,9 @@ ghost use mathlib.Core.Path.{_≡_};
 ghost use Prim.Native.Nat.{_≤_};
 ghost use lib.ListN.{length};
 ghost use Rattle.base.specs.Limits.{sendingSize};
-ghost use Rattle.network.specs.Settle.{settleOf};
-ghost use Rattle.network.specs.Settle.Laws.{Begun, Ended};
-ghost use Rattle.network.specs.Trusted.{Oldest, Handed};
+ghost use Rattle.runs.specs.Settle.{settleOf};
+ghost use Rattle.runs.specs.Settle.Laws.{Begun, Ended};
+ghost use Rattle.runs.specs.Trusted.{Oldest, Handed};
 
 // Makes a network of a stream and delivers cell 0 until unit 1 stops; none of these deliveries is refused. Refusals: making's.
 pub fn settle(stream: &[u8], pool: &mut [u8]) -> Answer

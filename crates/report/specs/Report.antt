@@ -4,7 +4,7 @@ use Rattle.base.specs.Library.{ℕ, Bool, true, false, List, replicate}
 use Rattle.base.specs.{Limits.poolSize, Limits.streamSize, Refusal.orElse}
 use Rattle.table.specs.File.{streamOf, readRefusal}
 use Rattle.search.specs.Search.{searchRefusal}
-use Rattle.network.specs.Settle.{settleOf}
+use Rattle.runs.specs.Settle.{settleOf}
 pub mod Laws
 
 -- done is the number that a stream gives

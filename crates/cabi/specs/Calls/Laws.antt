@@ -12,9 +12,9 @@ use Rattle.message.specs.Decode.{writeRefusal, packetInto}
 use Rattle.rules.specs.declared.Outcome.{Outcome}
 use Rattle.rules.specs.declared.Unit.{Unit}
 use Rattle.rules.specs.Calls.{outcomeOf, bytesOf, stepOut}
-use Rattle.network.specs.declared.Network.{Network}
-use Rattle.network.specs.declared.Answer.{Answer}
-use Rattle.network.specs.Calls.{deliverOf}
+use Rattle.runs.specs.declared.Network.{Network}
+use Rattle.runs.specs.declared.Answer.{Answer}
+use Rattle.runs.specs.Calls.{deliverOf}
 use Rattle.cabi.specs.declared.LentAnswer.{LentAnswer}
 use Rattle.cabi.specs.declared.LentNetwork.{LentNetwork}
 use Rattle.cabi.specs.declared.LentOutcome.{LentOutcome}

@@ -17,8 +17,8 @@ use Rattle.costs.specs.Gather.{sizesIn}
 use Rattle.base.specs.Every.Laws.{every-not}
 use Rattle.rules.specs.declared.Unit.{Unit}
 use Rattle.rules.specs.State.{emptyUnit, allAtMost, paidInRange, inRange}
-use Rattle.network.specs.Run.{unitAt}
-use Rattle.network.specs.Calls.{networkInRange}
+use Rattle.runs.specs.Run.{unitAt}
+use Rattle.runs.specs.Calls.{networkInRange}
 use Rattle.cabi.specs.declared.LentUnit.{LentUnit}
 use Rattle.cabi.specs.declared.LentNetwork.{LentNetwork}
 use Rattle.cabi.specs.Lent.{flagGood, unitFrom, unitBack, emptyLent, upTo, unitsFrom, unitsBack, networkFrom}

@@ -15,8 +15,8 @@ use Rattle.table.specs.FileLaws.{read-most}
 use Rattle.search.specs.declared.Found.{Found}
 use Rattle.search.specs.Search.{searchRefusal, searchOf}
 use Rattle.search.specs.Laws.{search-refusal}
-use Rattle.network.specs.declared.Answer.{Answer}
-use Rattle.network.specs.Settle.{settleOf}
+use Rattle.runs.specs.declared.Answer.{Answer}
+use Rattle.runs.specs.Settle.{settleOf}
 use Rattle.report.specs.Report.{fileRefusal, settleRefusal}
 
 module _ (f out : List ℕ) (r : Length) (e : r ≡ readOf f (length out)) (room : length out ≡ streamSize) where

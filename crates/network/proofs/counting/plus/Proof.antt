@@ -3,8 +3,8 @@
 use Prim.Native.Nat.{_<_, _^_, _+_, _/_, _%_}
 use mathlib.Core.Path.{_≡_}
 use native.Mathlib.Omega.{arith}
-use Rattle.network.specs.Count.{plus}
-use Rattle.network.specs.Count.Laws.{carry-one}
+use Rattle.runs.specs.Count.{plus}
+use Rattle.runs.specs.Count.Laws.{carry-one}
 use borrow.Author.Needs.{needs}
 use Rattle.network.proofs.counting.plus.Statement.{statement}
 use Rattle.network.proofs.counting.plus.Tie as tie

@@ -8,9 +8,9 @@ use native.Mathlib.Omega.{arith}
 use borrow.Author.Needs.{needs}
 use lib.ListN.{length, take, drop, replicate, set, length-set}
 use lib.Dec.{eqb}
-use Rattle.network.specs.Count.{valueOf}
-use Rattle.network.specs.Digits.{decimal}
-use Rattle.network.specs.Digits.Laws.{digit-more, digit-last, zeros-before, digits-done, digit-byte, no-digits-left}
+use Rattle.runs.specs.Count.{valueOf}
+use Rattle.runs.specs.Digits.{decimal}
+use Rattle.runs.specs.Digits.Laws.{digit-more, digit-last, zeros-before, digits-done, digit-byte, no-digits-left}
 use Rattle.network.proofs.decimal.digits.Statement.{statement}
 use Rattle.network.proofs.decimal.digits.Tie as tie
 

@@ -1,6 +1,6 @@
 -- `network::decimal::is_zero` meets its contract: a number is 0 where both its words are. Assumes nothing.
 use mathlib.Core.Path.{sym}
-use Rattle.network.specs.Count.Laws.{value-some, value-low}
+use Rattle.runs.specs.Count.Laws.{value-some, value-low}
 use Rattle.network.proofs.decimal.is_zero.Statement.{statement}
 use Rattle.network.proofs.decimal.is_zero.Tie as tie
 

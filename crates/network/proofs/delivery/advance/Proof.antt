@@ -1,5 +1,5 @@
 -- `network::delivery::advance` meets its contract: one unit set, both counts up. Assumes nothing.
-use Rattle.network.specs.Code.{pred-sub}
+use Rattle.runs.specs.Code.{pred-sub}
 use borrow.Author.Needs.{needs}
 use Rattle.network.proofs.delivery.advance.Statement.{statement}
 use Rattle.network.proofs.delivery.advance.Tie as tie

@@ -1,7 +1,7 @@
 -- `network::delivery::deliver` meets its contract: a refusal, or the message handed over. Assumes nothing.
 use mathlib.Core.Path.{refl, sym, ap, _∙_}
-use Rattle.network.specs.Calls.{Result}
-use Rattle.network.specs.Code.{opened, deliver-stops, deliver-goes}
+use Rattle.runs.specs.Calls.{Result}
+use Rattle.runs.specs.Code.{opened, deliver-stops, deliver-goes}
 use borrow.Author.Needs.{needs}
 use Rattle.network.proofs.delivery.deliver.Statement.{statement}
 use Rattle.network.proofs.delivery.deliver.Tie as tie

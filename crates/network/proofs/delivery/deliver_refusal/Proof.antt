@@ -3,7 +3,7 @@ use mathlib.Core.Path.{sym, _∙_}
 use native.Mathlib.Omega.{arith}
 use borrow.Author.Tests.{not-true, not-false}
 use Rattle.table.specs.Stream.{Accepted}
-use Rattle.network.specs.Code.{check-room, check-table, check-states, check-count, check-stopped, check-cell, check-none}
+use Rattle.runs.specs.Code.{check-room, check-table, check-states, check-count, check-stopped, check-cell, check-none}
 use borrow.Author.Needs.{needs}
 use Rattle.network.proofs.delivery.deliver_refusal.Statement.{statement}
 use Rattle.network.proofs.delivery.deliver_refusal.Tie as tie

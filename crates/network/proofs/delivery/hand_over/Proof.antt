@@ -5,7 +5,7 @@ use native.Mathlib.Omega.{arith}
 use borrow.Author.Needs.{needs}
 use lib.ListN.{getD, replicate}
 use Rattle.rules.specs.State.{emptyUnit}
-use Rattle.network.specs.Code.{own-first, own-most, stepping, hand-sent, hand-refuses, hand-stores}
+use Rattle.runs.specs.Code.{own-first, own-most, stepping, hand-sent, hand-refuses, hand-stores}
 use Rattle.network.proofs.delivery.hand_over.Statement.{statement}
 use Rattle.network.proofs.delivery.hand_over.Tie as tie
 

@@ -7,7 +7,7 @@ use mathlib.Core.List.{List}
 use lib.Dec.{leb}
 use lib.Seq.{paste}
 use borrow.Author.Tests.{le-leb, lt-leb}
-use Rattle.network.specs.declared.Network.{Network}
+use Rattle.runs.specs.declared.Network.{Network}
 use borrow.Author.Needs.{needs}
 use Rattle.network.proofs.delivery.store.Statement.{statement}
 use Rattle.network.proofs.delivery.store.Tie as tie

@@ -11,7 +11,7 @@ use Rattle.costs.specs.Gather.{sizesIn}
 use Rattle.base.specs.Every.{every}
 use Rattle.base.specs.Every.Laws.{every-more, every-not}
 use Rattle.rules.specs.Units.{unitAt}
-use Rattle.network.specs.Code.{unitInRange, range-of-paid}
+use Rattle.runs.specs.Code.{unitInRange, range-of-paid}
 use Rattle.network.proofs.delivery.units_in_range.Statement.{statement}
 use Rattle.network.proofs.delivery.units_in_range.Tie as tie
 

@@ -8,8 +8,8 @@ use borrow.Author.Needs.{needs}
 use Rattle.table.specs.Stream.{unitsOf, Accepted}
 use Rattle.table.specs.StreamLaws.{accepted-units}
 use Rattle.costs.specs.Gathered.{gathered}
-use Rattle.network.specs.Code.{lent-count, lent-length, lent-front}
-use Rattle.network.specs.Lending.{lentTo, Lending, lent-most, lending-none, turn-at, turn-lent}
+use Rattle.runs.specs.Code.{lent-count, lent-length, lent-front}
+use Rattle.runs.specs.Lending.{lentTo, Lending, lent-most, lending-none, turn-at, turn-lent}
 use Rattle.network.proofs.lending.lend.Statement.{statement}
 use Rattle.network.proofs.lending.lend.Tie as tie
 

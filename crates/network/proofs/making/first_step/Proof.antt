@@ -6,7 +6,7 @@ use native.Mathlib.Omega.{arith}
 use lib.ListN.{length, take, drop, replicate, length-replicate}
 use Rattle.table.specs.StreamLaws.{accepted-units}
 use Rattle.costs.specs.Gathered.{gathered}
-use Rattle.network.specs.Code.{lent-count, lent-front, first-step}
+use Rattle.runs.specs.Code.{lent-count, lent-front, first-step}
 use borrow.Author.Needs.{needs}
 use Rattle.network.proofs.making.first_step.Statement.{statement}
 use Rattle.network.proofs.making.first_step.Tie as tie

@@ -1,6 +1,6 @@
 -- `network::making::make` meets its contract: a refusal with all zero, or unit 1's making stored. Assumes nothing.
 use mathlib.Core.Path.{refl, sym, _∙_}
-use Rattle.network.specs.Code.{makeable, make-refuses, make-begins}
+use Rattle.runs.specs.Code.{makeable, make-refuses, make-begins}
 use borrow.Author.Needs.{needs}
 use Rattle.network.proofs.making.make.Statement.{statement}
 use Rattle.network.proofs.making.make.Tie as tie

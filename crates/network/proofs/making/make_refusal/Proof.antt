@@ -1,7 +1,7 @@
 -- `network::making::make_refusal` meets its contract: each way out decides the tests before it. Assumes nothing.
 use mathlib.Core.Path.{sym, _∙_}
 use native.Mathlib.Omega.{arith}
-use Rattle.network.specs.Code.{make-table, make-room, make-none}
+use Rattle.runs.specs.Code.{make-table, make-room, make-none}
 use borrow.Author.Needs.{needs}
 use Rattle.network.proofs.making.make_refusal.Statement.{statement}
 use Rattle.network.proofs.making.make_refusal.Tie as tie

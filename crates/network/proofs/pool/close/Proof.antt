@@ -5,7 +5,7 @@ use native.Mathlib.Omega.{arith}
 use borrow.Author.Needs.{needs}
 use lib.ListN.{length, drop, length-set}
 use lib.Seq.{paste, paste-zero}
-use Rattle.network.specs.Pool.Laws.{gap-more}
+use Rattle.runs.specs.Pool.Laws.{gap-more}
 use Rattle.network.proofs.pool.close.Statement.{statement}
 use Rattle.network.proofs.pool.close.Tie as tie
 

@@ -4,7 +4,7 @@ use Prim.Native.Nat.{_≤_}
 use native.Mathlib.Omega.{arith}
 use borrow.Author.Needs.{needs}
 use Rattle.rules.specs.Laws.Range.{SizedUnit}
-use Rattle.network.specs.Trusted.{checks, oldest-open, oldest-sent, oldest-room, oldest-handed}
+use Rattle.runs.specs.Trusted.{checks, oldest-open, oldest-sent, oldest-room, oldest-handed}
 use Rattle.network.proofs.settling.hand_oldest.Statement.{statement}
 use Rattle.network.proofs.settling.hand_oldest.Tie as tie
 

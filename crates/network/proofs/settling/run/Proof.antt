@@ -14,14 +14,14 @@ use Rattle.table.specs.StreamLaws.{accepted-units}
 use Rattle.costs.specs.Instance.{instanceOf}
 use Rattle.costs.specs.Gathered.{gathered}
 use Rattle.rules.specs.Units.{unitAt}
-use Rattle.network.specs.declared.Network.{Network}
-use Rattle.network.specs.Count.{valueOf}
-use Rattle.network.specs.Calls.{deliverOf}
-use Rattle.network.specs.Demand3.{most, over}
-use Rattle.network.specs.Code.{Open, pred-sub, own-first, own-last}
-use Rattle.network.specs.Lending.{part-order, part-end, part-costs}
-use Rattle.network.specs.Trusted.{checks, Oldest, Handed}
-use Rattle.network.specs.Settle.Laws.{After, made-table, reached-start, reached-accepted, reached-next, measure-falls}
+use Rattle.runs.specs.declared.Network.{Network}
+use Rattle.runs.specs.Count.{valueOf}
+use Rattle.runs.specs.Calls.{deliverOf}
+use Rattle.runs.specs.Demand3.{most, over}
+use Rattle.runs.specs.Code.{Open, pred-sub, own-first, own-last}
+use Rattle.runs.specs.Lending.{part-order, part-end, part-costs}
+use Rattle.runs.specs.Trusted.{checks, Oldest, Handed}
+use Rattle.runs.specs.Settle.Laws.{After, made-table, reached-start, reached-accepted, reached-next, measure-falls}
 use Rattle.network.proofs.settling.run.Statement.{statement}
 use Rattle.network.proofs.settling.run.Tie as tie
 

@@ -1,7 +1,7 @@
 -- `network::settle` meets its contract: making's refusal, or the run from what it made to its end.
 -- Assumes nothing.
 use borrow.Author.Needs.{needs}
-use Rattle.network.specs.Settle.Laws.{settle-unmade, begun-by, settle-stopped}
+use Rattle.runs.specs.Settle.Laws.{settle-unmade, begun-by, settle-stopped}
 use Rattle.network.proofs.settling.settle.Statement.{statement}
 use Rattle.network.proofs.settling.settle.Tie as tie
 

@@ -10,7 +10,7 @@ use Rattle.base.specs.Limits.{messageSize}
 use Rattle.base.specs.Put.Laws.{paste-more}
 use Rattle.message.specs.Message.{Packet}
 use Rattle.rules.specs.Send.{encodeAll, laid}
-use Rattle.network.specs.Pool.{poolAfter}
+use Rattle.runs.specs.Pool.{poolAfter}
 
 -- the cells behind one, up to those in use
 abbrev pub laterCells : List ℕ → ℕ → ℕ → List ℕ

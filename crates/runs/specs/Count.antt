@@ -1,6 +1,6 @@
 -- A count in two 64-bit words, 01: "each in two 64-bit words, as 16 units can pass one word, modulo 2^128". Assumes nothing.
 use Rattle.base.specs.Library.{ℕ, _+_, _*_, _/_, _%_, _^_}
-use Rattle.network.specs.declared.Count.{Count}
+use Rattle.runs.specs.declared.Count.{Count}
 pub mod Laws
 
 abbrev pub zeroCount : Count

@@ -2,7 +2,7 @@
 -- and once unit 1 has stopped a delivery changes nothing. Assumes nothing.
 use Rattle.base.specs.Library.{ℕ, zero, suc, List, replicate}
 use Rattle.costs.specs.Instance.{instanceOf}
-use Rattle.network.specs.{Calls.Result, Calls.makeOf, Demand3.Shed, Demand3.runBytes, Demand3.most}
+use Rattle.runs.specs.{Calls.Result, Calls.makeOf, Demand3.Shed, Demand3.runBytes, Demand3.most}
 pub mod Laws
 
 -- cell 0, k times

@@ -47,13 +47,13 @@ use Rattle.rules.specs.Laws.Assign.{Whenever, GoodDecision}
 use Rattle.rules.specs.Laws.Refusals.{Numbered, Accepts, assign-accepts, parse-numbered, read-numbered}
 use Rattle.rules.specs.Laws.Calls as UL
 use Rattle.rules.specs.Laws.Calls.{Passed}
-use Rattle.network.specs.declared.Network.{Network}
-use Rattle.network.specs.declared.Answer.{Answer}
-use Rattle.network.specs.Count.{zeroCount, plus}
-use Rattle.network.specs.Pool.{cellOf, poolAfter}
-use Rattle.network.specs.Pool.Laws.{closeGap, sent-front, pool-stored}
-use Rattle.network.specs.Calls.{Result, noNetwork, made, makeRefusal, makeOf, networkInRange, networkRefusal, deliverRefusal, receiverOf, stepFrom8, stepped, refusedDelivery, onOut, deliverBy, deliverOf}
-use Rattle.network.specs.Pool.Stored.{encode-all-length}
+use Rattle.runs.specs.declared.Network.{Network}
+use Rattle.runs.specs.declared.Answer.{Answer}
+use Rattle.runs.specs.Count.{zeroCount, plus}
+use Rattle.runs.specs.Pool.{cellOf, poolAfter}
+use Rattle.runs.specs.Pool.Laws.{closeGap, sent-front, pool-stored}
+use Rattle.runs.specs.Calls.{Result, noNetwork, made, makeRefusal, makeOf, networkInRange, networkRefusal, deliverRefusal, receiverOf, stepFrom8, stepped, refusedDelivery, onOut, deliverBy, deliverOf}
+use Rattle.runs.specs.Pool.Stored.{encode-all-length}
 
 -- ---- the checks
 

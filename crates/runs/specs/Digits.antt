@@ -5,7 +5,7 @@ use mathlib.Core.Bool.{cond}
 use mathlib.Core.List.{List, [], _∷_, _++_}
 use lib.Dec.{eqb}
 use lib.ListN.{length, replicate}
-use Rattle.network.specs.declared.Text.{Text}
+use Rattle.runs.specs.declared.Text.{Text}
 pub mod Laws
 
 -- the digits of x in ASCII, most significant first, at most m of them: those of x / 10 unless that is 0, then the last

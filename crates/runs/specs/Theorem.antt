@@ -28,16 +28,16 @@ use Rattle.protocol.specs.Theorem as T
 use Rattle.protocol.specs.Oldest.Run as O
 use Rattle.protocol.specs.Simulation.Units.{read-length}
 use Rattle.protocol.specs.Simulation.Report.{Reports, reports}
-use Rattle.network.specs.Count.{valueOf}
-use Rattle.network.specs.Pool.{cellOf}
-use Rattle.network.specs.Run as R
-use Rattle.network.specs.Run.{History, DeliveryOf, stopped, onward, handOver, runFrom, run}
-use Rattle.network.specs.Calls.{deliverOf}
-use Rattle.network.specs.Demand3.{Shed, shedOf, shedMade, shedAfter, deliverAll, runBytes, refusalAt, acceptedIn, handedIn, Made, over, reportOf, most, Honest, Served, Demand3}
-use Rattle.network.specs.Proof.Core.{packetBytes, laws}
-use Rattle.network.specs.Proof.Invariant.{Invariant}
-use Rattle.network.specs.Proof.Making.{none-handed, accepted-table, make-invariant}
-use Rattle.network.specs.Proof.Delivery.{numberOf, HonestDelivery, Delivers, after-stop, delivers}
+use Rattle.runs.specs.Count.{valueOf}
+use Rattle.runs.specs.Pool.{cellOf}
+use Rattle.runs.specs.Run as R
+use Rattle.runs.specs.Run.{History, DeliveryOf, stopped, onward, handOver, runFrom, run}
+use Rattle.runs.specs.Calls.{deliverOf}
+use Rattle.runs.specs.Demand3.{Shed, shedOf, shedMade, shedAfter, deliverAll, runBytes, refusalAt, acceptedIn, handedIn, Made, over, reportOf, most, Honest, Served, Demand3}
+use Rattle.runs.specs.Proof.Core.{packetBytes, laws}
+use Rattle.runs.specs.Proof.Invariant.{Invariant}
+use Rattle.runs.specs.Proof.Making.{none-handed, accepted-table, make-invariant}
+use Rattle.runs.specs.Proof.Delivery.{numberOf, HonestDelivery, Delivers, after-stop, delivers}
 
 -- ---- a list of deliveries, from any point of a run
 

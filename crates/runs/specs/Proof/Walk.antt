@@ -13,7 +13,7 @@ use Rattle.rules.specs.declared.Sending.{Sending}
 use Rattle.rules.specs.Step as U
 use Rattle.rules.specs.Step.{Decision, Written}
 use Rattle.rules.specs.Send.{packets}
-use Rattle.network.specs.Run.{Pool, HistoryOf, DeliveryOf, refusedBy, delivered, placeOf, stepOn, stopped, after, ifFits, onOut, takeCell, deliverIn}
+use Rattle.runs.specs.Run.{Pool, HistoryOf, DeliveryOf, refusedBy, delivered, placeOf, stepOn, stopped, after, ifFits, onOut, takeCell, deliverIn}
 
 module _ {W : Type 0} (I : Instance) (H : HistoryOf W) (Q : DeliveryOf W → Type 0) where
   -- the step is accepted: what it sends doesn't fit, or w waits then

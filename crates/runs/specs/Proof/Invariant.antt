@@ -29,10 +29,10 @@ use Rattle.protocol.specs.Theorem.{Kept, kept-demand3}
 use Rattle.protocol.specs.Simulation.Relations.{ReadAll}
 use Rattle.protocol.specs.Simulation.Units as X
 use Rattle.protocol.specs.Simulation.Units.{read-cut, Simulated, step-simulated}
-use Rattle.network.specs.Run.{History, stopped}
-use Rattle.network.specs.Demand3.{Shed, times}
-use Rattle.network.specs.Pool.Stored.{AllSized, Stored}
-use Rattle.network.specs.Proof.Core.{stream-free, CoreFollows, laws}
+use Rattle.runs.specs.Run.{History, stopped}
+use Rattle.runs.specs.Demand3.{Shed, times}
+use Rattle.runs.specs.Pool.Stored.{AllSized, Stored}
+use Rattle.runs.specs.Proof.Core.{stream-free, CoreFollows, laws}
 
 module _ (s : List ℕ) (ok : Accepted s) where
   -- ---- what holds at each point of a run

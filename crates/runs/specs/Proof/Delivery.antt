@@ -40,17 +40,17 @@ use Rattle.protocol.specs.Theorem.{Kept, deliver-kept}
 use Rattle.protocol.specs.Simulation.Relations.{ReadAll, read-append}
 use Rattle.protocol.specs.Simulation.Units as X
 use Rattle.protocol.specs.Simulation.Units.{read-length, Simulated, StepsTo}
-use Rattle.network.specs.Pool.{cellOf, poolAfter}
-use Rattle.network.specs.Pool.Stored.{AllSized, StandsAt, stands-at, none-at, no-room, some-room, cell-in-use, cell-bytes, used-after, put-stored}
-use Rattle.network.specs.Run as R
-use Rattle.network.specs.Run.{History, DeliveryOf, cells, stopped, onward, handOver}
-use Rattle.network.specs.Calls as C
-use Rattle.network.specs.Calls.{Result, deliverRefusal, receiverOf, stepFrom8, refusedDelivery, deliverBy, deliverOf}
-use Rattle.network.specs.Demand3.{Shed, shedOf, times, Honest}
-use Rattle.network.specs.Proof.Core.{packetBytes, laws, views, receiver-is, step-is, core-steps}
-use Rattle.network.specs.Code.{unitInRange, check-stopped, check-cell, check-none, deliver-goes}
-use Rattle.network.specs.Proof.Walk.{hand-cases, deliver-cases}
-use Rattle.network.specs.Proof.Invariant.{Invariant, sized, accepted-below, same-stop, cut, step-accepted}
+use Rattle.runs.specs.Pool.{cellOf, poolAfter}
+use Rattle.runs.specs.Pool.Stored.{AllSized, StandsAt, stands-at, none-at, no-room, some-room, cell-in-use, cell-bytes, used-after, put-stored}
+use Rattle.runs.specs.Run as R
+use Rattle.runs.specs.Run.{History, DeliveryOf, cells, stopped, onward, handOver}
+use Rattle.runs.specs.Calls as C
+use Rattle.runs.specs.Calls.{Result, deliverRefusal, receiverOf, stepFrom8, refusedDelivery, deliverBy, deliverOf}
+use Rattle.runs.specs.Demand3.{Shed, shedOf, times, Honest}
+use Rattle.runs.specs.Proof.Core.{packetBytes, laws, views, receiver-is, step-is, core-steps}
+use Rattle.runs.specs.Code.{unitInRange, check-stopped, check-cell, check-none, deliver-goes}
+use Rattle.runs.specs.Proof.Walk.{hand-cases, deliver-cases}
+use Rattle.runs.specs.Proof.Invariant.{Invariant, sized, accepted-below, same-stop, cut, step-accepted}
 
 -- the number of a refusal, 0 where the delivery was accepted
 abbrev pub numberOf : DeliveryOf (List Packet) → ℕ

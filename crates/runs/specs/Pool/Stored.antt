@@ -19,9 +19,9 @@ use Rattle.message.specs.Written.{encode}
 use Rattle.message.specs.EncodeLaws.{length-encode}
 use Rattle.rules.specs.Send.{encodeAll, laid}
 use Rattle.rules.specs.Laying.{encode-append}
-use Rattle.network.specs.Pool.{cellOf, poolAfter}
-use Rattle.network.specs.Pool.Laws.{laterCells}
-use Rattle.network.specs.Run.{cells}
+use Rattle.runs.specs.Pool.{cellOf, poolAfter}
+use Rattle.runs.specs.Pool.Laws.{laterCells}
+use Rattle.runs.specs.Run.{cells}
 
 -- ---- packets one after the other
 

@@ -10,8 +10,8 @@ use lib.Dec.{eqb}
 use lib.ListN.{length, take, drop, set, replicate, length-drop, length-set, take-append-drop}
 use lib.Seq.{drop-cons, getD-set-same, drop-set-lt, take-set-le, take-take}
 use borrow.Author.Tests.{eqb-true, leb-true}
-use Rattle.network.specs.Count.{valueOf}
-use Rattle.network.specs.Digits.{decimal, digitsOf}
+use Rattle.runs.specs.Count.{valueOf}
+use Rattle.runs.specs.Digits.{decimal, digitsOf}
 
 -- ---- read back
 

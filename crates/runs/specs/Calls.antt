@@ -7,7 +7,7 @@ use Rattle.costs.specs.{Instance.viewOf, Instance.instanceOf, Gather.sizesIn}
 use Rattle.message.specs.{Message.isUnit, Decode.parseFor}
 use Rattle.rules.specs.{declared.Unit.Unit, State.noUnit, State.fresh, State.inRange, Send.packets, Send.laid, Calls.unlessRefused, Calls.onRead, Units.unitAt}
 use Rattle.rules.specs.Step.{Decision, refused, accepted, assign}
-use Rattle.network.specs.{declared.Network.Network, declared.Answer.Answer, Count.zeroCount, Count.plus, Pool.cellOf, Pool.poolAfter}
+use Rattle.runs.specs.{declared.Network.Network, declared.Answer.Answer, Count.zeroCount, Count.plus, Pool.cellOf, Pool.poolAfter}
 
 -- what a call gives: the answer, and the bytes of the lent pool
 pub record Result : Type 0 where

@@ -8,8 +8,8 @@ use mathlib.Core.Bool.{false}
 use lib.Arith.{mod-mul}
 use lib.Dec.{eqb}
 use borrow.Author.Tests.{ne-eqb}
-use Rattle.network.specs.declared.Count.{Count}
-use Rattle.network.specs.Count.{valueOf, plus}
+use Rattle.runs.specs.declared.Count.{Count}
+use Rattle.runs.specs.Count.{valueOf, plus}
 
 -- the carry of a low word that went round
 pub carry-one : (l m r : ℕ) → l < 2 ^ 64 → m < 2 ^ 64 → r ≡ (l + m) % 2 ^ 64 → r < m → (l + m) / 2 ^ 64 ≡ 1

@@ -9,14 +9,14 @@ use native.Mathlib.Omega.{arith}
 use native.Mathlib.Nat.{add-zero, add-suc}
 use Rattle.table.specs.Stream.{Accepted}
 use Rattle.costs.specs.Instance.{instanceOf}
-use Rattle.network.specs.declared.Network.{Network}
-use Rattle.network.specs.declared.Answer.{Answer}
-use Rattle.network.specs.Count.{valueOf}
-use Rattle.network.specs.Calls.{Result, makeOf, deliverOf}
-use Rattle.network.specs.Demand3.{Shed, shedOf, shedMade, shedAfter, deliverAll, runBytes, refusalAt, acceptedIn, Made, most, over}
-use Rattle.network.specs.Proof.Making.{accepted-table}
-use Rattle.network.specs.Theorem.{served, one-counted, oldest-accepted, oldest-ends, stopped-stays}
-use Rattle.network.specs.Settle.{cellZero, settled, unlessUnmade, settleOf}
+use Rattle.runs.specs.declared.Network.{Network}
+use Rattle.runs.specs.declared.Answer.{Answer}
+use Rattle.runs.specs.Count.{valueOf}
+use Rattle.runs.specs.Calls.{Result, makeOf, deliverOf}
+use Rattle.runs.specs.Demand3.{Shed, shedOf, shedMade, shedAfter, deliverAll, runBytes, refusalAt, acceptedIn, Made, most, over}
+use Rattle.runs.specs.Proof.Making.{accepted-table}
+use Rattle.runs.specs.Theorem.{served, one-counted, oldest-accepted, oldest-ends, stopped-stays}
+use Rattle.runs.specs.Settle.{cellZero, settled, unlessUnmade, settleOf}
 
 -- ---- after some deliveries of cell 0, all accepted, from the shed S₀ on
 

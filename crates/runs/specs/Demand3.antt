@@ -11,7 +11,7 @@ use Rattle.base.specs.Limits.{messageSize}
 use Rattle.costs.specs.{Instance.Instance, Instance.instanceOf, Bounds.Assignment, Bounds.total, Bounds.N}
 use Rattle.message.specs.{Message.Packet, Written.encode}
 use Rattle.rules.specs.{Send.encodeAll, Units.unitAt, Units.Distinct}
-use Rattle.network.specs.{declared.Network.Network, Count.valueOf, Pool.cellOf, Run.History, Run.run, Run.written, Calls.Result, Calls.makeOf, Calls.deliverOf}
+use Rattle.runs.specs.{declared.Network.Network, Count.valueOf, Pool.cellOf, Run.History, Run.run, Run.written, Calls.Result, Calls.makeOf, Calls.deliverOf}
 
 -- ---- the run on bytes
 

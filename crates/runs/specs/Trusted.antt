@@ -29,12 +29,12 @@ use Rattle.rules.specs.Trusted.{trustedOut}
 use Rattle.rules.specs.Laws.Range.{SizedUnit}
 use Rattle.rules.specs.Laws.Refusals.{NumberedRead, parse-numbered}
 use Rattle.rules.specs.Laws.Trusted.{trusted-steps}
-use Rattle.network.specs.declared.Network.{Network}
-use Rattle.network.specs.declared.Answer.{Answer}
-use Rattle.network.specs.Pool.{cellOf}
-use Rattle.network.specs.Pool.Laws.{closeGap}
-use Rattle.network.specs.Calls.{Result, deliverRefusal, receiverOf, stepFrom8, stepped, onOut, deliverBy, deliverOf}
-use Rattle.network.specs.Code.{Open, opened, deliver-goes, Stepping, Stepped, passes, step-told, stepping, hand-sent, hand-refuses, hand-stores, storedAnswer, storedPool, pred-sub}
+use Rattle.runs.specs.declared.Network.{Network}
+use Rattle.runs.specs.declared.Answer.{Answer}
+use Rattle.runs.specs.Pool.{cellOf}
+use Rattle.runs.specs.Pool.Laws.{closeGap}
+use Rattle.runs.specs.Calls.{Result, deliverRefusal, receiverOf, stepFrom8, stepped, onOut, deliverBy, deliverOf}
+use Rattle.runs.specs.Code.{Open, opened, deliver-goes, Stepping, Stepped, passes, step-told, stepping, hand-sent, hand-refuses, hand-stores, storedAnswer, storedPool, pred-sub}
 
 -- the step that trusts, lent what the stream says
 trusted-told : (s : List ℕ) (own : ℕ) (u : UnitState) (us : List UnitState) → unitAt us (pred own) ≡ u → Stepping s own u → (n : ℕ) (sizes costs bytes before after : List ℕ) (r : Outcome) → n ≡ unitsOf s

@@ -41,11 +41,11 @@ use Rattle.protocol.specs.Count.Width.{records-fit}
 use Rattle.protocol.specs.Simulation.Relations.{Reads}
 use Rattle.protocol.specs.Simulation.Step.{FreeWhenUnassigned}
 use Rattle.protocol.specs.Simulation.Units.{read-to, Matches, StepsTo}
-use Rattle.network.specs.declared.Core.{Core}
-use Rattle.network.specs.Count.{zeroCount, valueOf, plus}
-use Rattle.network.specs.Count.Laws.{plus-exact}
-use Rattle.network.specs.Run.{Pool, HistoryOf, after, begunWith}
-use Rattle.network.specs.Calls.{receiverOf, stepFrom8}
+use Rattle.runs.specs.declared.Core.{Core}
+use Rattle.runs.specs.Count.{zeroCount, valueOf, plus}
+use Rattle.runs.specs.Count.Laws.{plus-exact}
+use Rattle.runs.specs.Run.{Pool, HistoryOf, after, begunWith}
+use Rattle.runs.specs.Calls.{receiverOf, stepFrom8}
 
 -- the bytes of a packet
 abbrev pub packetBytes : Packet → List ℕ
