@@ -1,14 +1,14 @@
 // Assigning: 01, "Assign".
 
-use rules::Decided;
-use rules::Plan;
-use rules::Sending;
-use rules::Unit;
 use crate::backtrack::backtrack;
 use crate::backtrack::carry;
 use crate::backtrack::take_off;
 use crate::state::with_best;
 use costs::Seat;
+use rules::Decided;
+use rules::Plan;
+use rules::Sending;
+use rules::Unit;
 ghost use mathlib.Core.Path.{_≡_};
 ghost use mathlib.Core.Bool.{false, cond};
 ghost use Prim.Native.Nat.{suc, _+_, _-_, _≤_, _<_};

@@ -1,13 +1,13 @@
 // Backtracking: 01, "Back up"; the own value off, and the fields that a cpa's messages carry.
 
-use rules::Decided;
-use rules::Plan;
-use rules::Sending;
-use rules::Unit;
 use crate::state::own_cost;
 use crate::state::with_stopped;
 use costs::Seat;
 use message::Message;
+use rules::Decided;
+use rules::Plan;
+use rules::Sending;
+use rules::Unit;
 ghost use mathlib.Core.Path.{_≡_};
 ghost use Prim.Native.Nat.{suc, _-_, _≤_};
 ghost use lib.ListN.{getD};

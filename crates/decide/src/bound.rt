@@ -1,12 +1,12 @@
 // Solutions and stops: 01, "News", "Stop"; and what is decided where nothing is sent.
 
+use crate::state::with_best;
+use crate::state::with_stopped;
+use message::Message;
 use rules::Decided;
 use rules::Plan;
 use rules::Sending;
 use rules::Unit;
-use crate::state::with_best;
-use crate::state::with_stopped;
-use message::Message;
 ghost use mathlib.Core.Path.{_≡_};
 ghost use Rattle.costs.specs.Instance.{View};
 ghost use Rattle.rules.specs.Step.{quiet, refused, takeBound, onSolution, onStop};

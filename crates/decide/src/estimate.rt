@@ -1,10 +1,5 @@
 // Requests and the estimates that answer them: 01, "Copy", "Estimate".
 
-use rules::Decided;
-use rules::Ordering;
-use rules::Plan;
-use rules::Sending;
-use rules::Unit;
 use crate::assign::assign;
 use crate::bound::quiet;
 use crate::bound::refuse;
@@ -13,6 +8,11 @@ use crate::receive::is_stamp_out;
 use crate::state::compare;
 use costs::Seat;
 use message::Message;
+use rules::Decided;
+use rules::Ordering;
+use rules::Plan;
+use rules::Sending;
+use rules::Unit;
 ghost use mathlib.Core.Path.{_≡_};
 ghost use mathlib.Core.List.{[]};
 ghost use Prim.Native.Nat.{suc, _*_, _≤_};

@@ -1,8 +1,5 @@
 // A cpa comes in: 01, "Paper".
 
-use rules::Decided;
-use rules::Ordering;
-use rules::Unit;
 use crate::assign::assign;
 use crate::backtrack::backtrack;
 use crate::backtrack::bare_cost;
@@ -17,6 +14,9 @@ use crate::state::with_cpa;
 use crate::state::with_threshold;
 use costs::Seat;
 use message::Message;
+use rules::Decided;
+use rules::Ordering;
+use rules::Unit;
 ghost use mathlib.Core.Path.{_≡_};
 ghost use mathlib.Core.Bool.{_&&_};
 ghost use Prim.Native.Nat.{suc, _<_};

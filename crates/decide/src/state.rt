@@ -1,8 +1,8 @@
 // A unit's state: whether it is in range, the order of stamps, and its parts set one at a time.
 
+use costs::Seat;
 use rules::Ordering;
 use rules::Unit;
-use costs::Seat;
 ghost use mathlib.Core.Path.{_≡_};
 ghost use mathlib.Core.Bool.{_&&_};
 ghost use Prim.Native.Nat.{_≤_};

@@ -1,11 +1,11 @@
 // A delivery: the checks, the step of the unit that the message is for, and what it leaves in the network and the pool.
 
-use runs::Answer;
-use runs::Network;
 use crate::counting::plus;
 use crate::pool::close;
 use crate::pool::copy_in;
 use base::MESSAGE_SIZE;
+use runs::Answer;
+use runs::Network;
 use unit::Outcome;
 use unit::Unit;
 ghost use mathlib.Core.Path.{_≡_};

@@ -1,10 +1,10 @@
 // Making a network of a stream: unit 1 assigns, the others wait.
 
+use crate::counting::plus;
 use runs::Answer;
 use runs::Core;
 use runs::Count;
 use runs::Network;
-use crate::counting::plus;
 use unit::Outcome;
 ghost use mathlib.Core.Path.{_≡_};
 ghost use mathlib.Core.List.{List};

@@ -1,13 +1,13 @@
 // Running a network to its end: the table is checked once, when the network is made.
 
-use runs::Answer;
-use runs::Network;
 use crate::counting::plus;
 use crate::delivery::receiver;
 use crate::lending::LENT_SIZE;
 use crate::lending::lend;
 use crate::make;
 use crate::pool::take_oldest;
+use runs::Answer;
+use runs::Network;
 use unit::Outcome;
 use unit::Unit;
 ghost use mathlib.Core.Path.{_≡_};

@@ -1,10 +1,10 @@
 // What a unit sends, laid into the lent buffer: one message after the other, 64 bytes each.
 
-use rules::Plan;
-use rules::Sending;
 use costs::Seat;
 use message::Kind;
 use message::Message;
+use rules::Plan;
+use rules::Sending;
 ghost use mathlib.Core.Path.{_≡_};
 ghost use mathlib.Core.Bool.{Bool};
 ghost use Prim.Native.Nat.{_+_, _*_, _-_, _≤_};
