@@ -6,13 +6,9 @@ use Rattle.message.specs.declared.Read.the-variants.{Good, Refused}
 use Rattle.message.specs.Message.{kindCode, refusalOf, addressGood}
 use Rattle.rules.specs.{declared.Report.Report, Calls.outcomeOf, Calls.bytesOf, Calls.stepOut}
 use Rattle.runs.specs.Calls.{deliverOf}
-use Rattle.search.specs.declared.Found.{Found as Searched}
-use Rattle.cabi.specs.{declared.Found.Found, declared.LentAnswer.LentAnswer, declared.LentNetwork.LentNetwork, declared.LentOutcome.LentOutcome, declared.LentUnit.LentUnit, declared.Parsed.Parsed}
+use Rattle.cabi.specs.{declared.LentAnswer.LentAnswer, declared.LentNetwork.LentNetwork, declared.LentOutcome.LentOutcome, declared.LentUnit.LentUnit, declared.Parsed.Parsed}
 use Rattle.cabi.specs.Lent.{unitFrom, outcomeBack, networkFrom, answerBack}
 pub mod Laws
-
-abbrev pub ofFound : Searched → Found
-ofFound r = record { refusal = r .refusal; total = r .total; values = r .values }
 
 -- 01's number of the kind that was read, 0 beside a refusal
 abbrev pub codeOf : Read → ℕ

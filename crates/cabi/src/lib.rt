@@ -8,6 +8,7 @@ use message::Message;
 use message::Read;
 use network::Answer;
 use network::Count;
+use search::Found;
 use unit::Outcome;
 use unit::Report;
 ghost use mathlib.Core.Path.{_≡_};
@@ -27,7 +28,7 @@ ghost use Rattle.runs.specs.Calls.{makeOf};
 ghost use Rattle.runs.specs.Settle.{settleOf};
 ghost use Rattle.search.specs.Search.{searchOf};
 ghost use Rattle.cabi.specs.Lent.{unitFrom};
-ghost use Rattle.cabi.specs.Calls.{codeOf, parsedOf, writeAs, writtenAs, unknownKind, ofFound, stepOf, steppedBytes, reportBy, deliveredTo, deliveredPool};
+ghost use Rattle.cabi.specs.Calls.{codeOf, parsedOf, writeAs, writtenAs, unknownKind, stepOf, steppedBytes, reportBy, deliveredTo, deliveredPool};
 
 // A domain size for each of 16 units, zero past n.
 #[repr(C)]
@@ -85,14 +86,6 @@ pub struct LentNetwork {
 pub struct LentAnswer {
     pub refusal: u8,
     pub network: LentNetwork,
-}
-
-// A refusal with all else zero, or 0 with the least total and its first assignment.
-#[repr(C)]
-pub struct Found {
-    pub refusal: u8,
-    pub total: u32,
-    pub values: [u8; 16],
 }
 
 // ---- blocks and tables
@@ -283,15 +276,9 @@ pub extern "C" fn riksamoe_network_settle(stream: &[u8], pool: &mut [u8]) -> Ans
 
 #[no_mangle]
 pub extern "C" fn riksamoe_search(stream: &[u8]) -> Found
-    ensures { λ r. ⌜ r ≡ ofFound (searchOf (now (stream .entry))) ⌝ }
+    ensures { λ r. ⌜ r ≡ searchOf (now (stream .entry)) ⌝ }
 {
-    let r = search::exhaustive(stream);
-    let values = r.values;
-    Found {
-        refusal: r.refusal,
-        total: r.total,
-        values,
-    }
+    search::exhaustive(stream)
 }
 
 // ---- kinds by their numbers

@@ -1,6 +1,6 @@
 -- The view of a unit from what is lent with it: its place, the number of units, its own domain size and value.
 -- By computing. Assumes nothing.
-use Prim.Native.Nat.{ℕ, zero, suc, pred, _-_, _≤_}
+use Prim.Native.Nat.{ℕ, zero, suc, _-_, _≤_}
 use native.Mathlib.Omega.{arith}
 use mathlib.Core.Path.{_≡_, refl, sym, ap, _∙_}
 use mathlib.Core.Bool.{and-false}

@@ -13,7 +13,7 @@ use Rattle.rules.specs.declared.Unit.{Unit}
 use Rattle.rules.specs.declared.Decided.{Decided}
 use Rattle.rules.specs.declared.Plan.the-variants.{Forward}
 use Rattle.rules.specs.State.{withBest}
-use Rattle.rules.specs.Step.{Decision, refused, accepted, Written, after, carried, takeOff, write, recordOf, backtrack, tryAfter}
+use Rattle.rules.specs.Step.{Decision, refused, accepted, Written, recorded, carried, takeOff, write, recordOf, backtrack, tryAfter}
 use Rattle.rules.specs.Tests.{silent, costAt}
 use Rattle.rules.specs.Ready.{decidedOf}
 
@@ -26,7 +26,7 @@ pub counted-none : (was : Unit) (o : Decision) → decidedOf was o ≡ counted 0
 counted-none was (refused r) = refl
 counted-none was (accepted u s ws) = let e : 0 + length ws ≡ length ws = omega arith in rw e
 
-counted-more : (k : ℕ) (was : Unit) (r : Written) (o : Decision) → counted k was (after r o) ≡ counted (k + 1) was o
+counted-more : (k : ℕ) (was : Unit) (r : Written) (o : Decision) → counted k was (recorded r o) ≡ counted (k + 1) was o
 counted-more k was r (refused x) = refl
 counted-more k was r (accepted u s ws) = let e : k + suc (length ws) ≡ k + 1 + length ws = omega arith in rw e
 

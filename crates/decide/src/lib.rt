@@ -22,11 +22,9 @@ use rules::Unit;
 pub use state::in_range;
 pub use state::in_range_paid;
 ghost use mathlib.Core.Path.{_≡_};
-ghost use Prim.Native.Nat.{pred};
 ghost use Rattle.costs.specs.Instance.{viewFrom};
 ghost use Rattle.rules.specs.State.{fresh, noUnit};
 ghost use Rattle.rules.specs.Step.{respond};
-ghost use Rattle.rules.specs.Calls.{start};
 ghost use Rattle.rules.specs.Trusted.{canStep, canHear, respondTo, startTo};
 ghost use Rattle.rules.specs.Ready.{Own, Shaped, Ready, Heard, decidedOf};
 

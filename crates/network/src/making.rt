@@ -17,7 +17,7 @@ ghost use Rattle.rules.specs.State.{noUnit, fresh};
 ghost use Rattle.rules.specs.Step.{assign};
 ghost use Rattle.rules.specs.Calls.{outcomeOf, bytesOf};
 ghost use Rattle.runs.specs.Count.{zeroCount};
-ghost use Rattle.runs.specs.Calls.{noNetwork, makeRefusal, makeOf};
+ghost use Rattle.runs.specs.Calls.{noNetwork, makingRefusal, makeOf};
 ghost use Rattle.runs.specs.Code.{begunAnswer};
 
 // A network of a stream's table, its messages at the front of the pool. Refusals 5, 6, 7, 13 in order.
@@ -34,7 +34,7 @@ pub fn make(stream: &[u8], pool: &mut [u8]) -> Answer
 
 // The first refusal of making that applies, or 0.
 fn make_refusal(stream: &[u8], room: usize) -> u8
-    ensures { λ r. ⌜ ((pool : List ℕ) → length pool ≡ room → r ≡ makeRefusal (now (stream .entry)) pool) ⌝ }
+    ensures { λ r. ⌜ ((pool : List ℕ) → length pool ≡ room → r ≡ makingRefusal (now (stream .entry)) pool) ⌝ }
 {
     let refusal = table::stream_refusal(stream);
     if refusal != 0 {

@@ -1,9 +1,8 @@
 -- The number that a program prints of a file: that of reading it, then that of what is done with its stream. What else is printed no contract can say.
 -- Assumes nothing.
-use Rattle.base.specs.Library.{ℕ, Bool, true, false, List, replicate}
+use Rattle.base.specs.Library.{ℕ, List, replicate}
 use Rattle.base.specs.{Limits.poolSize, Limits.streamSize, Refusal.orElse}
 use Rattle.table.specs.File.{streamOf, readRefusal}
-use Rattle.search.specs.Search.{searchRefusal}
 use Rattle.runs.specs.Settle.{settleOf}
 pub mod Laws
 
@@ -14,8 +13,3 @@ fileRefusal done f = orElse (readRefusal f streamSize) (done (streamOf f))
 -- the number of a run to its end, in a pool of zeros
 unfoldable pub settleRefusal : List ℕ → ℕ
 settleRefusal s = settleOf s (replicate poolSize 0) .answer .refusal
-
--- that of the run, or that of the search
-abbrev pub refusalBy : Bool → List ℕ → ℕ
-refusalBy true s = settleRefusal s
-refusalBy false s = searchRefusal s

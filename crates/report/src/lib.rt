@@ -5,7 +5,8 @@ use network::Network;
 ghost use mathlib.Core.Path.{_≡_};
 ghost use Rattle.search.specs.Search.{searchRefusal};
 ghost use Rattle.runs.specs.Run.{unitAt};
-ghost use Rattle.report.specs.Report.{fileRefusal, settleRefusal, refusalBy};
+ghost use Rattle.report.specs.Report.{fileRefusal, settleRefusal};
+ghost use Rattle.report.specs.Report.Laws.{refusalBy};
 
 // Prints the least total of a file's table, then each unit's value in the first assignment that has it, or `refused` and the number,
 // which it gives too.

@@ -28,9 +28,9 @@ pub data Decision : Type 0 where
   accepted : Unit → Sending → List Written → Decision
 
 -- a record written before what follows
-abbrev pub after : Written → Decision → Decision
-after r (refused x) = refused x
-after r (accepted u s ws) = accepted u s (r ∷ ws)
+abbrev pub recorded : Written → Decision → Decision
+recorded r (refused x) = refused x
+recorded r (accepted u s ws) = accepted u s (r ∷ ws)
 
 -- ---- small pieces
 
@@ -80,7 +80,7 @@ recordOf w u = record { unit = suc (w .place); stamp = take (suc (w .place)) (u 
 
 -- 01: "Unit n takes its cost as bound and the lotting as best, and assigns again. Others send the paper to the next unit and a copy to every later unit."
 abbrev pub afterWrite : View → Bool → Unit → (Bool → Unit → Decision) → Decision
-afterWrite w true u again = after (recordOf w u) (again true (takeOff w (withBest (u .cost) (u .values) u)))
+afterWrite w true u again = recorded (recordOf w u) (again true (takeOff w (withBest (u .cost) (u .values) u)))
 afterWrite w false u again = accepted u (record { plan = Forward; improved = false; message = carried w u }) (recordOf w u ∷ [])
 
 -- 01: "Try the values after the current one, ascending. The first with cost + h(v) below the bound is written": m values after v are left,

@@ -33,12 +33,12 @@ made n pool (accepted u s ws) =
     }
 
 -- 01: "5, 6, 7, 13"
-unfoldable pub makeRefusal : List ℕ → List ℕ → ℕ
-makeRefusal stream pool = orElse (streamRefusal stream) (cond (ltb (length pool) poolSize) 13 0)
+unfoldable pub makingRefusal : List ℕ → List ℕ → ℕ
+makingRefusal stream pool = orElse (streamRefusal stream) (cond (ltb (length pool) poolSize) 13 0)
 
 -- 01: "Making unit 1 assigns", "making the shed counts unit 1's records"
 unfoldable pub makeOf : List ℕ → List ℕ → Result
-makeOf stream pool = made (unitsOf stream) pool (unlessRefused (makeRefusal stream pool) (assign (viewOf (instanceOf stream) 0) fresh))
+makeOf stream pool = made (unitsOf stream) pool (unlessRefused (makingRefusal stream pool) (assign (viewOf (instanceOf stream) 0) fresh))
 
 -- ---- a delivery
 

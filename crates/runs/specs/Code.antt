@@ -52,7 +52,7 @@ use Rattle.runs.specs.declared.Answer.{Answer}
 use Rattle.runs.specs.Count.{zeroCount, plus}
 use Rattle.runs.specs.Pool.{cellOf, poolAfter}
 use Rattle.runs.specs.Pool.Laws.{closeGap, sent-front, pool-stored}
-use Rattle.runs.specs.Calls.{Result, noNetwork, made, makeRefusal, makeOf, networkInRange, networkRefusal, deliverRefusal, receiverOf, stepFrom8, stepped, refusedDelivery, onOut, deliverBy, deliverOf}
+use Rattle.runs.specs.Calls.{Result, noNetwork, made, makingRefusal, makeOf, networkInRange, networkRefusal, deliverRefusal, receiverOf, stepFrom8, stepped, refusedDelivery, onOut, deliverBy, deliverOf}
 use Rattle.runs.specs.Pool.Stored.{encode-all-length}
 
 -- ---- the checks
@@ -344,23 +344,23 @@ module _ (net : Network) (s pool : List ℕ) (cell : ℕ) (checks : Open net s p
 -- ---- making
 
 module _ (s pool : List ℕ) where
-  pub make-table : (r : ℕ) → r ≡ streamRefusal s → (r ≡ 0 → ⊥) → r ≡ makeRefusal s pool
-  unfolding makeRefusal
+  pub make-table : (r : ℕ) → r ≡ streamRefusal s → (r ≡ 0 → ⊥) → r ≡ makingRefusal s pool
+  unfolding makingRefusal
   make-table r e z = rw (← e, or-first r _ z)
 
-  pub make-room : streamRefusal s ≡ 0 → length pool < poolSize → 13 ≡ makeRefusal s pool
-  unfolding makeRefusal
+  pub make-room : streamRefusal s ≡ 0 → length pool < poolSize → 13 ≡ makingRefusal s pool
+  unfolding makingRefusal
   make-room e l = rw (e, lt-ltb (length pool) poolSize l)
 
-  pub make-none : streamRefusal s ≡ 0 → poolSize ≤ length pool → 0 ≡ makeRefusal s pool
-  unfolding makeRefusal
+  pub make-none : streamRefusal s ≡ 0 → poolSize ≤ length pool → 0 ≡ makingRefusal s pool
+  unfolding makingRefusal
   make-none e l = rw (e, le-ltb (length pool) poolSize l)
 
-  pub makeable : makeRefusal s pool ≡ 0 → Accepted s × (poolSize ≤ length pool)
-  unfolding makeRefusal Accepted
+  pub makeable : makingRefusal s pool ≡ 0 → Accepted s × (poolSize ≤ length pool)
+  unfolding makingRefusal Accepted
   makeable z = (or-left (streamRefusal s) _ z, ltb-false (length pool) poolSize (if-so _ 12 (or-right (streamRefusal s) _ z)))
 
-  pub make-refuses : (r : ℕ) → r ≡ makeRefusal s pool → (r ≡ 0 → ⊥) → (record { refusal = r; network = noNetwork } ≡ makeOf s pool .answer) × (pool ≡ makeOf s pool .pool)
+  pub make-refuses : (r : ℕ) → r ≡ makingRefusal s pool → (r ≡ 0 → ⊥) → (record { refusal = r; network = noNetwork } ≡ makeOf s pool .answer) × (pool ≡ makeOf s pool .pool)
   unfolding makeOf
   make-refuses zero e z = absurd (z refl)
   make-refuses (suc r) e z = rw (← e) (refl, refl)
@@ -382,7 +382,7 @@ begunAnswer r = record {
 
 module _ (s pool : List ℕ) (r : Outcome) (out : List ℕ) (told : r ≡ outcomeOf (unitsOf s) 0 noUnit (assign (viewOf (instanceOf s) 0) fresh))
     (sent : out ≡ bytesOf (unitsOf s) 0 pool (assign (viewOf (instanceOf s) 0) fresh)) where
-  pub make-begins : makeRefusal s pool ≡ 0 → (begunAnswer r ≡ makeOf s pool .answer) × (out ≡ makeOf s pool .pool)
+  pub make-begins : makingRefusal s pool ≡ 0 → (begunAnswer r ≡ makeOf s pool .answer) × (out ≡ makeOf s pool .pool)
   unfolding makeOf
   make-begins z = rw z (go (assign (viewOf (instanceOf s) 0) fresh) (assign-accepts (viewOf (instanceOf s) 0) fresh) told sent)
     where

@@ -1,7 +1,7 @@
 -- A network of units over messages: making, a delivery, and a run, fed only the table and the list of cells. No byte is met here.
 -- 01, 'Runs, for demand 3': "A run is a list of deliveries to a shed as making left it." Assumes nothing.
 --     Pool                           what a pool is: the message at a cell, what is left without it, and with others put in
---     HistoryOf, onOut, deliverIn    what has happened so far; a packet handed to its unit; a delivery, over any pool
+--     HistoryOf, byDecision, deliverIn    what has happened so far; a packet handed to its unit; a delivery, over any pool
 --     cells                          01's pool: the messages that wait, one after the other
 --     begin, handOver, run           making, one delivery, and a list of them, over 01's pool
 --     written                        the records that a run writes
@@ -41,17 +41,17 @@ module _ {W : Type 0} where
   stopped H = unitAt (H .units) 0 .stopped
 
   -- the packet p was handed over: its unit is u now, it sent ps and wrote ws, and w waits
-  abbrev pub after : HistoryOf W → Packet → Unit → List Packet → List Written → W → HistoryOf W
-  after H p u ps ws w = record { units = set (H .units) (placeOf p) u; waiting = w; written = H .written ++ ws; sent = H .sent ++ ps; handed = H .handed ++ (p ∷ []) }
+  abbrev pub historyAfter : HistoryOf W → Packet → Unit → List Packet → List Written → W → HistoryOf W
+  historyAfter H p u ps ws w = record { units = set (H .units) (placeOf p) u; waiting = w; written = H .written ++ ws; sent = H .sent ++ ps; handed = H .handed ++ (p ∷ []) }
 
   -- 01, refusal 14: "outgoing messages don't fit the pool after the taken one left"
   abbrev pub ifFits : HistoryOf W → Packet → Unit → List Packet → List Written → Option W → DeliveryOf W
   ifFits H p u ps ws none = refusedBy 14
-  ifFits H p u ps ws (some w) = delivered (after H p u ps ws w)
+  ifFits H p u ps ws (some w) = delivered (historyAfter H p u ps ws w)
 
-  abbrev pub onOut : Instance → HistoryOf W → Packet → (List Packet → Option W) → Decision → DeliveryOf W
-  onOut I H p put (refused r) = refusedBy r
-  onOut I H p put (accepted u s ws) = ifFits H p u (packets (I .n) (placeOf p) s) ws (put (packets (I .n) (placeOf p) s))
+  abbrev pub byDecision : Instance → HistoryOf W → Packet → (List Packet → Option W) → Decision → DeliveryOf W
+  byDecision I H p put (refused r) = refusedBy r
+  byDecision I H p put (accepted u s ws) = ifFits H p u (packets (I .n) (placeOf p) s) ws (put (packets (I .n) (placeOf p) s))
 
   -- 01: "A refused delivery stays in the list and changes nothing"
   abbrev pub onward : HistoryOf W → DeliveryOf W → HistoryOf W
@@ -70,7 +70,7 @@ module _ {W : Type 0} (L : Pool W) where
   -- 01, refusal 15: "no message at that cell"
   abbrev pub takeCell : Instance → HistoryOf W → ℕ → Option Packet → DeliveryOf W
   takeCell I H cell none = refusedBy 15
-  takeCell I H cell (some p) = onOut I H p (L .put (L .without (H .waiting) cell)) (stepOn I (H .units) p)
+  takeCell I H cell (some p) = byDecision I H p (L .put (L .without (H .waiting) cell)) (stepOn I (H .units) p)
 
   -- 01, refusal 12: "(in the shed: unit 1) has stopped"
   abbrev pub deliverIn : Instance → HistoryOf W → ℕ → DeliveryOf W

@@ -13,6 +13,7 @@ ghost use Rattle.search.specs.Best.{keep, bestFrom};
 ghost use Rattle.search.specs.Steps.{Filled, Filling, Adding, Extending};
 
 // What the search gives: the refusal, or 0 with the least total and its first assignment, places past n zero.
+#[repr(C)]
 pub struct Found {
     pub refusal: u8,
     pub total: u32,

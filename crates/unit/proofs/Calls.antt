@@ -25,7 +25,7 @@ use Rattle.rules.specs.declared.Unit.{Unit}
 use Rattle.rules.specs.declared.Decided.{Decided}
 use Rattle.rules.specs.declared.Outcome.{Outcome}
 use Rattle.rules.specs.State.{fresh, inRange}
-use Rattle.rules.specs.Step.{Decision, refused, accepted, quiet, assign, respond}
+use Rattle.rules.specs.Step.{Decision, refused, accepted, respond}
 use Rattle.rules.specs.Send.{packets, laid}
 use Rattle.rules.specs.Laying.{Room, laid-none}
 use Rattle.rules.specs.Calls.{outcomeOf, bytesOf, seatRefusal, makeRefusal, rangeRefusal, start, unlessRefused, makeOut, stepRefusal, stepOut}

@@ -1,14 +1,12 @@
 -- `start` meets its contract: 5 where the unit can't step; unit 1 assigns, another is quiet.
 -- Assumes nothing.
-use mathlib.Core.Path.{_≡_, sym, ap, _∙_}
+use mathlib.Core.Path.{_≡_, sym, _∙_}
 use mathlib.Core.Bool.{true, false}
 use borrow.Author.Needs.{needs}
 use borrow.Author.Tests.{not-true, not-false}
 use Rattle.costs.specs.Instance.{viewFrom}
 use Rattle.rules.specs.State.{fresh}
-use Rattle.rules.specs.Step.{Decision}
 use Rattle.rules.specs.Trusted.{canStep}
-use Rattle.rules.specs.Ready.{decidedOf}
 use Rattle.rules.specs.Laws.Trusted.{known-shaped, known-ready, start-5, start-on}
 use Rattle.decide.proofs.Rules.{start-first, start-later}
 use Rattle.decide.proofs.start.Statement.{statement}

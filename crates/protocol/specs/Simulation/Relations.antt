@@ -16,7 +16,7 @@ use Rattle.message.specs.declared.Kind.the-variants.{Cpa, Request, Estimate, So
 use Rattle.message.specs.Message.{Packet}
 use Rattle.rules.specs.declared.Unit.{Unit as UnitState}
 use Rattle.rules.specs.State.{zeros}
-use Rattle.rules.specs.Step.{Decision, refused, accepted, Written, after, bareCost}
+use Rattle.rules.specs.Step.{Decision, refused, accepted, Written, recorded, bareCost}
 use Rattle.rules.specs.Send.{packets, each}
 use Rattle.protocol.specs.Machine as M
 use Rattle.protocol.specs.Machine.{Msg, Agent, Result, Record, valuesOf, stampOf, toEach}
@@ -158,7 +158,7 @@ Agrees I k L (refused r) (M.done u ms) = ⊥
 Agrees I k L (accepted s p ws) M.refused = ⊥
 Agrees I k L (accepted s p ws) (M.done u ms) = AtRest I k s u × ReadAll I (packets (I .n) k p) ms × Grown k L ws (u .log)
 
-pub agrees-after : (I : Instance) (k : ℕ) (L : List Record) (r : Written) (q : Record) (o : Decision) (res : Result) → RecordIs k r q → Agrees I k (q ∷ L) o res → Agrees I k L (after r o) res
+pub agrees-after : (I : Instance) (k : ℕ) (L : List Record) (r : Written) (q : Record) (o : Decision) (res : Result) → RecordIs k r q → Agrees I k (q ∷ L) o res → Agrees I k L (recorded r o) res
 agrees-after I k L r q (refused x) M.refused e h = tt
 agrees-after I k L r q (refused x) (M.done u ms) e h = h
 agrees-after I k L r q (accepted s p ws) M.refused e h = h

@@ -6,7 +6,7 @@ use native.Mathlib.Nat.{sub-zero}
 use mathlib.Core.List.{List}
 use lib.ListN.{take, replicate, length-replicate}
 use Rattle.table.specs.File.{streamOf}
-use Rattle.report.specs.Report.{refusalBy}
+use Rattle.report.specs.Report.Laws.{refusalBy}
 use Rattle.report.specs.Report.Laws.{unread, read-fits, read-front, read-report}
 use borrow.Author.Needs.{needs}
 use Rattle.report.proofs.print_file.Statement.{statement}

@@ -1,7 +1,7 @@
 -- `print_stream` meets its contract: in each arm `settled` is known, so `refusalBy` is what that arm's call gives.
 -- Assumes nothing.
 use mathlib.Core.Path.{sym, ap, _∙_}
-use Rattle.report.specs.Report.{refusalBy}
+use Rattle.report.specs.Report.Laws.{refusalBy}
 use borrow.Author.Needs.{needs}
 use Rattle.report.proofs.print_stream.Statement.{statement}
 use Rattle.report.proofs.print_stream.Tie as tie

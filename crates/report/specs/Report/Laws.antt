@@ -2,6 +2,7 @@
 -- By the definitions. Assumes nothing.
 use Prim.Native.Nat.{ℕ, _≤_}
 use mathlib.Core.Path.{_≡_, refl, sym, ap, _∙_}
+use mathlib.Core.Bool.{Bool, true, false}
 use mathlib.Core.List.{List}
 use native.Mathlib.Omega.{arith}
 use lib.ListN.{length, take, drop, replicate}
@@ -18,6 +19,11 @@ use Rattle.search.specs.Laws.{search-refusal}
 use Rattle.runs.specs.declared.Answer.{Answer}
 use Rattle.runs.specs.Settle.{settleOf}
 use Rattle.report.specs.Report.{fileRefusal, settleRefusal}
+
+-- the number of a run, or that of the search
+abbrev pub refusalBy : Bool → List ℕ → ℕ
+refusalBy true s = settleRefusal s
+refusalBy false s = searchRefusal s
 
 module _ (f out : List ℕ) (r : Length) (e : r ≡ readOf f (length out)) (room : length out ≡ streamSize) where
   refusal-of : r .refusal ≡ readRefusal f streamSize

@@ -22,7 +22,7 @@ use Rattle.rules.specs.declared.Unit.{Unit as State}
 use Rattle.rules.specs.declared.Sending.{Sending}
 use Rattle.rules.specs.declared.Plan.the-variants.{Forward}
 use Rattle.rules.specs.State.{withBest, ownValue, notLess, inRange}
-use Rattle.rules.specs.Step.{Decision, refused, accepted, Written, after, bareCost, takeOff, carried, backedUp, backtrack, write, recordOf, afterWrite, tryAfter, begun, assign, resume}
+use Rattle.rules.specs.Step.{Decision, refused, accepted, Written, recorded, bareCost, takeOff, carried, backedUp, backtrack, write, recordOf, afterWrite, tryAfter, begun, assign, resume}
 use Rattle.rules.specs.Tests.{isLast, tryValue, reachedBound}
 use Rattle.rules.specs.Send.{packets}
 use Rattle.rules.specs.Laws.Views.{GoodView, units-most, place-16, size-most}
@@ -51,7 +51,7 @@ module _ (n : ℕ) (sizes : List ℕ) (w : View) where
   kept-more m m′ l (refused r) h = tt
   kept-more m m′ l (accepted u s ws) h = record { state = h .state; arrays = h .arrays; sent = h .sent; few = h .few; records = omega (arith, h .records) }
 
-  kept-after : (m : ℕ) (r : Written) (o : Decision) → Whenever (GoodDecision n sizes w m) o → Whenever (GoodDecision n sizes w (suc m)) (after r o)
+  kept-after : (m : ℕ) (r : Written) (o : Decision) → Whenever (GoodDecision n sizes w m) o → Whenever (GoodDecision n sizes w (suc m)) (recorded r o)
   kept-after m r (refused x) h = tt
   kept-after m r (accepted u s ws) h = record { state = h .state; arrays = h .arrays; sent = h .sent; few = h .few; records = omega (arith, h .records) }
 

@@ -19,7 +19,7 @@ use Rattle.rules.specs.declared.Ordering.{Ordering}
 use Rattle.rules.specs.declared.Ordering.the-variants.{Less, Equal, Greater}
 use Rattle.rules.specs.declared.Sending.{Sending}
 use Rattle.rules.specs.State.{withThreshold, withBest, withCpa, left, ownValue, compareOn, sameOn}
-use Rattle.rules.specs.Step.{Decision, refused, accepted, Written, after, quiet, takeBound, bareCost, takeOff, backtrack, write, recordOf, afterWrite, tryAfter, begun, assign, resume, onDown, isOut, isCpaOut, onBack, onCpa, onFresh, onRequest, onOwnEstimate, onTimely, onEstimate, onSolution, onStop, byKind, respond}
+use Rattle.rules.specs.Step.{Decision, refused, accepted, Written, recorded, quiet, takeBound, bareCost, takeOff, backtrack, write, recordOf, afterWrite, tryAfter, begun, assign, resume, onDown, isOut, isCpaOut, onBack, onCpa, onFresh, onRequest, onOwnEstimate, onTimely, onEstimate, onSolution, onStop, byKind, respond}
 use Rattle.rules.specs.Tests.{sumLater, stored, silent, isLast, tryValue, onOwn, takeLower, reachedBound, onEither, reachedByEstimates, unlessStopped}
 use Rattle.rules.specs.Send.{packets}
 use Rattle.rules.specs.Laws.Assign.{Whenever}
@@ -84,7 +84,7 @@ most-of : (B B′ : ℕ) → B ≤ B′ → (o : Decision) → Whenever (BoundAt
 most-of B B′ l (refused r) f = tt
 most-of B B′ l (accepted u s ws) f = omega arith
 
-most-after : (B : ℕ) (r : Written) (o : Decision) → Whenever (BoundAtMost B) o → Whenever (BoundAtMost B) (after r o)
+most-after : (B : ℕ) (r : Written) (o : Decision) → Whenever (BoundAtMost B) o → Whenever (BoundAtMost B) (recorded r o)
 most-after B r (refused x) f = tt
 most-after B r (accepted u s ws) f = f
 
@@ -208,7 +208,7 @@ zeros-everywhere (suc n) zero = refl
 zeros-everywhere (suc n) (suc k) = zeros-everywhere n k
 
 module _ (w : View) (last : isLast w ≡ true) where
-  none-after : (r : Written) (o : Decision) → Whenever (NoneOut w) o → Whenever (NoneOut w) (after r o)
+  none-after : (r : Written) (o : Decision) → Whenever (NoneOut w) o → Whenever (NoneOut w) (recorded r o)
   none-after r (refused x) f = tt
   none-after r (accepted u s ws) f = f
 

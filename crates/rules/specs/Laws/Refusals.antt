@@ -17,7 +17,7 @@ use Rattle.message.specs.Message.{kindOf, wellFormed}
 use Rattle.message.specs.Decode.{messageIn, checkGood, restZero, parseKind, parseFor}
 use Rattle.message.specs.DecodeLaws.{addressedTo}
 use Rattle.rules.specs.declared.Unit.{Unit as State}
-use Rattle.rules.specs.Step.{Decision, refused, accepted, Written, after, backtrack, assign, respond}
+use Rattle.rules.specs.Step.{Decision, refused, accepted, Written, recorded, backtrack, assign, respond}
 use Rattle.rules.specs.Laws.Walk.{assign-by, respond-by}
 use Rattle.rules.specs.Calls.{onRead}
 
@@ -35,7 +35,7 @@ pub assign-accepts : (w : View) (u : State) → Accepts (assign w u)
 unfolding backtrack
 assign-accepts w u = assign-by w Accepts (λ u. tt) (λ b u l. tt) more u
   where
-    more : (r : Written) (o : Decision) → Accepts o → Accepts (after r o)
+    more : (r : Written) (o : Decision) → Accepts o → Accepts (recorded r o)
     more r (refused x) a = a
     more r (accepted u s ws) a = tt
 
@@ -43,7 +43,7 @@ respond-numbered : (w : View) (k : Kind) (u : State) (m : Message) → Numbered 
 unfolding backtrack
 respond-numbered w k u m = respond-by w Numbered (λ u. tt) (λ b u l. tt) more (λ r l. l) (λ u. tt) (λ u m. tt) k u m
   where
-    more : (r : Written) (o : Decision) → Numbered o → Numbered (after r o)
+    more : (r : Written) (o : Decision) → Numbered o → Numbered (recorded r o)
     more r (refused x) a = a
     more r (accepted u s ws) a = tt
 

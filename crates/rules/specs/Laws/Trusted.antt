@@ -22,7 +22,7 @@ use Rattle.message.specs.Unpack.{unpackOf}
 use Rattle.message.specs.RoundTrip.{ParsedGood, parsed-good, unpack-parsed}
 use Rattle.rules.specs.declared.Unit.{Unit as State}
 use Rattle.rules.specs.declared.Sending.{Sending}
-use Rattle.rules.specs.Step.{Decision, refused, accepted, Written, after, backtrack, carried, respond}
+use Rattle.rules.specs.Step.{Decision, refused, accepted, Written, recorded, backtrack, carried, respond}
 use Rattle.rules.specs.Send.{packets}
 use Rattle.rules.specs.State.{fresh, inRange}
 use Rattle.rules.specs.Calls.{start, stepOut}
@@ -136,7 +136,7 @@ module _ (n : ℕ) (w : View) (units : w .n ≡ n) (below : w .place < n) where
       respond-by w (λ o. Whenever Few o) (λ u. forward-few n (w .place) (carried w u) below false)
       (λ b u l. back-few n (w .place) (carried w u) below b (λ e. eqb-true (suc (w .place)) (w .n) (l e) ∙ units)) more (λ r l. tt) (λ u. omega arith) (λ u m. omega arith) k u m
     where
-      more : (r : Written) (o : Decision) → Whenever Few o → Whenever Few (after r o)
+      more : (r : Written) (o : Decision) → Whenever Few o → Whenever Few (recorded r o)
       more r (refused x) f = tt
       more r (accepted u s ws) f = f
 

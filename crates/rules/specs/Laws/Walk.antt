@@ -16,13 +16,13 @@ use Rattle.rules.specs.declared.Ordering.{Ordering}
 use Rattle.rules.specs.declared.Ordering.the-variants.{Less, Equal, Greater}
 use Rattle.rules.specs.declared.Plan.the-variants.{Forward}
 use Rattle.rules.specs.State.{next, ownValue, left, compareOn, sameOn, withBest, withThreshold, withStopped}
-use Rattle.rules.specs.Step.{Decision, refused, accepted, Written, after, quiet, takeBound, takeOff, begun, recordOf, write, carried, afterWrite, tryAfter, assign, backtrack, bareCost, resume, received, onDown, isCpaOut, onBack, onCpa, reply, onFresh, onRequest, isOut, onOwnEstimate, onTimely, onEstimate, onSolution, onStop, byKind, respond}
+use Rattle.rules.specs.Step.{Decision, refused, accepted, Written, recorded, quiet, takeBound, takeOff, begun, recordOf, write, carried, afterWrite, tryAfter, assign, backtrack, bareCost, resume, received, onDown, isCpaOut, onBack, onCpa, reply, onFresh, onRequest, isOut, onOwnEstimate, onTimely, onEstimate, onSolution, onStop, byKind, respond}
 use Rattle.rules.specs.Tests.{costAt, isLast, tryValue, reachedBound, onOwn, onEither, sumLater, stored, reachedByEstimates, unlessStopped}
 
 -- ---- assigning: the cpa goes on, or back, after more records; only the last unit improves
 
 module _ (w : View) (P : Decision → Type 0) (goes : (u : State) → P (accepted u (record { plan = Forward; improved = false; message = carried w u }) (recordOf w u ∷ [])))
-    (backs : (b : Bool) (u : State) → (b ≡ true → isLast w ≡ true) → P (backtrack w b u)) (more : (r : Written) (o : Decision) → P o → P (after r o)) where
+    (backs : (b : Bool) (u : State) → (b ≡ true → isLast w ≡ true) → P (backtrack w b u)) (more : (r : Written) (o : Decision) → P o → P (recorded r o)) where
   -- a value written, with what follows
   written-by : (t : Bool) → isLast w ≡ t → (u : State) (again : Bool → State → Decision) → ((b : Bool) (t : State) → (b ≡ true → isLast w ≡ true) → P (again b t)) → P (afterWrite w t u again)
   written-by true e u again f = let s : State = takeOff w (withBest (u .cost) (u .values) u) in more (recordOf w u) (again true s) (f true s (λ z. e))

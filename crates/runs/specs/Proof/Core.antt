@@ -44,7 +44,7 @@ use Rattle.protocol.specs.Simulation.Units.{read-to, Matches, StepsTo}
 use Rattle.runs.specs.declared.Core.{Core}
 use Rattle.runs.specs.Count.{zeroCount, valueOf, plus}
 use Rattle.runs.specs.Count.Laws.{plus-exact}
-use Rattle.runs.specs.Run.{Pool, HistoryOf, after, begunWith}
+use Rattle.runs.specs.Run.{Pool, HistoryOf, historyAfter, begunWith}
 use Rattle.runs.specs.Calls.{receiverOf, stepFrom8}
 
 -- the bytes of a packet
@@ -121,7 +121,7 @@ module _ (s : List ℕ) (ok : Accepted s) where
   pub core-steps : {W : Type 0} (core : Core) (H : HistoryOf W) (us : ℕ → Agent) → CoreFollows s core H us → (p : Packet) (m : Msg) → Reads (instanceOf s) p m → (res : Result) (u : UnitState) (o : Sending) (ws : List Written)
       (x : StepsTo (instanceOf s) (H .units) (H .written) us (placeOf p) res u o ws) → Leaves (instanceOf s) (sizesIn s) (H .units) (placeOf p) u o ws
       → Safe (problemOf (instanceOf s)) (M.put us (to m) (x .agent)) → length (H .handed ++ (p ∷ [])) < 2 ^ 64 * 2 ^ 64 → (w : W)
-      → CoreFollows s (record { units = set (core .units) (pred (p .message .receiver)) u; records = plus (length ws) (core .records); deliveries = plus 1 (core .deliveries) }) (after H p u (packets (instanceOf s .n) (placeOf p) o) ws w) (M.put us (to m) (x .agent))
+      → CoreFollows s (record { units = set (core .units) (pred (p .message .receiver)) u; records = plus (length ws) (core .records); deliveries = plus 1 (core .deliveries) }) (historyAfter H p u (packets (instanceOf s .n) (placeOf p) o) ws w) (M.put us (to m) (x .agent))
   core-steps core H us f p m rd res u o ws x l safe below w =
       record {
         matches = matched;

@@ -209,7 +209,7 @@ module _ (s : List ℕ) (ok : Accepted s) (S : Shed) (H : History) (A : Network)
         count-accepted : length (H .handed ++ (p ∷ [])) ≡ suc (A .accepted)
         count-accepted = omega (arith, length-append (H .handed) (p ∷ []), i .accepted)
 
-        invariant : Invariant s ok (shedOf stored-after) (R.after H p u ps ws ((b ++ a) ++ ps)) next-machine
+        invariant : Invariant s ok (shedOf stored-after) (R.historyAfter H p u ps ws ((b ++ a) ++ ps)) next-machine
         invariant =
             record {
               core =
@@ -237,14 +237,14 @@ module _ (s : List ℕ) (ok : Accepted s) (S : Shed) (H : History) (A : Network)
                   );
             }
 
-        goes : Delivers (R.delivered (R.after H p u ps ws ((b ++ a) ++ ps))) (deliverOf (S .network) s (S .pool) c)
+        goes : Delivers (R.delivered (R.historyAfter H p u ps ws ((b ++ a) ++ ps))) (deliverOf (S .network) s (S .pool) c)
         goes =
-            subst (Delivers (R.delivered (R.after H p u ps ws ((b ++ a) ++ ps)))) (sym (bytes-are true q))
+            subst (Delivers (R.delivered (R.historyAfter H p u ps ws ((b ++ a) ++ ps)))) (sym (bytes-are true q))
             (record {
               number = refl;
               honest = tt;
               bytes = ap (λ y. map packetBytes (H .handed) ++ (y ∷ [])) (cell-bytes (H .waiting) (S .network .used) (S .pool) (i .stored) z c p e) ∙ sym (map-append packetBytes (H .handed) (p ∷ []));
-              next = subst (Invariant s ok (shedOf stored-after) (R.after H p u ps ws ((b ++ a) ++ ps))) (sym (machine-is true q)) invariant;
+              next = subst (Invariant s ok (shedOf stored-after) (R.historyAfter H p u ps ws ((b ++ a) ++ ps))) (sym (machine-is true q)) invariant;
             })
 
   -- ---- any cell
@@ -265,5 +265,5 @@ module _ (s : List ℕ) (ok : Accepted s) (S : Shed) (H : History) (A : Network)
         (λ f. too-many st p e u o ws gives (no-room _ _ f)),
         (λ ms f.
             let q = some-room _ _ ms f in
-            subst (λ v. Delivers (R.delivered (R.after H p u (packets (instanceOf s .n) (placeOf p) o) ws v)) (deliverOf (S .network) s (S .pool) c)) (q .1) (goes st p e u o ws gives (q .0))),
+            subst (λ v. Delivers (R.delivered (R.historyAfter H p u (packets (instanceOf s .n) (placeOf p) o) ws v)) (deliverOf (S .network) s (S .pool) c)) (q .1) (goes st p e u o ws gives (q .0))),
       )))

@@ -23,7 +23,7 @@ use Rattle.protocol.specs.Theorem.{Kept, make-kept}
 use Rattle.protocol.specs.Simulation.Units.{Simulated, start-simulated}
 use Rattle.runs.specs.Run as R
 use Rattle.runs.specs.Calls as C
-use Rattle.runs.specs.Calls.{makeRefusal, makeOf}
+use Rattle.runs.specs.Calls.{makingRefusal, makeOf}
 use Rattle.runs.specs.Demand3.{shedOf, Made, times}
 use Rattle.runs.specs.Code.{makeable}
 use Rattle.runs.specs.Pool.Stored.{start-stored}
@@ -40,9 +40,9 @@ none-handed s = go (assign (viewOf (instanceOf s) 0) fresh)
     go (U.accepted u o ws) = refl
 
 module _ (s pool : List ℕ) (made : Made s pool) where
-  no-refusal : makeRefusal s pool ≡ 0
+  no-refusal : makingRefusal s pool ≡ 0
   unfolding makeOf
-  no-refusal = go (makeRefusal s pool) made
+  no-refusal = go (makingRefusal s pool) made
     where
       go : (r : ℕ) → C.made (unitsOf s) pool (unlessRefused r (assign (viewOf (instanceOf s) 0) fresh)) .answer .refusal ≡ 0 → r ≡ 0
       go zero e = refl
