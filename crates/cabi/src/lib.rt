@@ -145,7 +145,20 @@ pub extern "C" fn riksamoe_message_parse(n: u8, sizes: Sizes, bytes: &[u8]) -> P
     let places = sizes.places;
     let p = message::parse(n, places, bytes);
     let answer = p.answer;
-    let message = p.message;
+    // by its fields: copied whole, across where they begin, it takes a third of the time of reading
+    let m = p.message;
+    let stamp = m.stamp;
+    let values = m.values;
+    let best = m.best;
+    let message = Message {
+        sender: m.sender,
+        receiver: m.receiver,
+        stamp,
+        values,
+        cost: m.cost,
+        bound: m.bound,
+        best,
+    };
     Parsed {
         refusal: message::refusal_of(answer),
         kind: code_of(answer),

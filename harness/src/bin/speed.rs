@@ -24,6 +24,8 @@ trait Library {
     /// Makes a network and delivers cell 0 at most this often.
     fn deliver(&self, stream: &[u8], pool: &mut [u8], most: u64) -> u64;
     fn step(&self, steps: &[Step], out: &mut [u8]) -> u64;
+    /// The same, beside the second implementation.
+    fn plain_step(&self, steps: &[Step], out: &mut [u8]) -> u64;
     fn table_read(&self, file: &[u8], stream: &mut [u8]) -> u64;
     fn table_write(&self, stream: &[u8], file: &mut [u8]) -> u64;
     fn message_parse(&self, n: u8, sizes: &Places, packets: &[[u8; 64]]) -> u64;
@@ -61,6 +63,13 @@ impl Library for Yardstick {
         for s in steps {
             let mut unit = s.unit;
             let _ = black_box(tuned::step(&mut unit, s.own, s.n, &s.sizes, &s.costs, &s.packet, out));
+        }
+        steps.len() as u64
+    }
+
+    fn plain_step(&self, steps: &[Step], out: &mut [u8]) -> u64 {
+        for s in steps {
+            let _ = black_box(unit::step(&s.unit, s.own, s.n, &s.sizes, &s.costs, &s.packet, out));
         }
         steps.len() as u64
     }
@@ -115,6 +124,10 @@ impl Library for Rattle {
         steps.len() as u64
     }
 
+    fn plain_step(&self, steps: &[Step], out: &mut [u8]) -> u64 {
+        self.step(steps, out)
+    }
+
     fn table_read(&self, file: &[u8], stream: &mut [u8]) -> u64 {
         u64::from(linked::table_read(file, stream).refusal == 0)
     }
@@ -144,12 +157,20 @@ struct Row {
     /// What the yardstick is, and what is counted.
     beside: &'static str,
     counted: &'static str,
+    /// The bytes that one call goes over, where that is what counts.
+    bytes: usize,
     work: Box<dyn Fn(&dyn Library) -> u64>,
 }
 
 fn row(name: String, counted: &'static str, work: impl Fn(&dyn Library) -> u64 + 'static) -> Row {
     let beside = if counted == "call" { "second" } else { "tuned" };
-    Row { name, beside, counted, work: Box::new(work) }
+    Row { name, beside, counted, bytes: 0, work: Box::new(work) }
+}
+
+impl Row {
+    fn over(self, bytes: usize) -> Row {
+        Row { bytes, ..self }
+    }
 }
 
 /// The sample sheds: name, stream, and whether its run is short enough to be done whole.
@@ -223,17 +244,26 @@ fn other_rows() -> Vec<Row> {
     let mut rows = vec![
         row("table read, 122 blocks".into(), "call", move |library| {
             library.table_read(black_box(&file), &mut read.borrow_mut())
-        }),
+        })
+        .over(table::MAX_FILE),
         row("table write, 122 blocks".into(), "call", move |library| {
             library.table_write(black_box(&whole), &mut written.borrow_mut())
-        }),
+        })
+        .over(table::MAX_FILE),
         row("message read, 16 units".into(), "call", move |library| {
             library.message_parse(16, &sizes, black_box(&packets))
-        }),
+        })
+        .over(64),
         row("message write, 16 units".into(), "call", move |library| {
             library.message_write(16, &sizes, black_box(&messages), &mut *out.borrow_mut())
-        }),
+        })
+        .over(64),
     ];
+    for n in [4, 8, 16] {
+        let (steps, out) = (steps(&stream(n, 4), 500), RefCell::new([0; unit::OUT]));
+        let work = move |library: &dyn Library| library.plain_step(black_box(&steps), &mut *out.borrow_mut());
+        rows.push(row(format!("plain step, {n} units of 4"), "call", work));
+    }
     // the largest shapes that the limit of 1,048,576 assignments allows, and all that binary sheds have
     for (n, values) in [(10, 4), (5, 16), (16, 2)] {
         let stream = stream(n, values);
@@ -318,13 +348,17 @@ fn main() {
         let slower = speed[1] / speed[0];
         print!("{:<26} {:<9} {:<9}", row.name, row.beside, row.counted);
         print!(" {:>14.0} {:>14.0} {slower:>7.1}", speed[0], speed[1]);
+        let rate = match row.bytes {
+            0 => String::new(),
+            bytes => format!("   {:.0} and {:.0} MB/s", speed[0] * bytes as f64 / 1e6, speed[1] * bytes as f64 / 1e6),
+        };
         let more = match cost {
             [Some(rattle), Some(yardstick)] => {
-                println!(" {rattle:>14.0} {yardstick:>14.0} {:>7.1}", rattle / yardstick);
+                println!(" {rattle:>14.0} {yardstick:>14.0} {:>7.1}{rate}", rattle / yardstick);
                 Some(rattle / yardstick)
             }
             _ => {
-                println!(" {:>14} {:>14} {:>7}", "-", "-", "-");
+                println!(" {:>14} {:>14} {:>7}{rate}", "-", "-", "-");
                 None
             }
         };
