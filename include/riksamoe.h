@@ -39,10 +39,10 @@
  *   riksamoe_message_write           768
  *   riksamoe_unit_make             2,560
  *   riksamoe_unit_in_range         1,280
- *   riksamoe_unit_step             4,864
- *   riksamoe_unit_step_in_place    4,864
+ *   riksamoe_unit_step             5,120
+ *   riksamoe_unit_step_in_place    5,120
  *   riksamoe_network_make         13,056
- *   riksamoe_network_deliver      24,576
+ *   riksamoe_network_deliver      25,088
  *   riksamoe_network_settle      150,016
  *   riksamoe_search                6,656
  */
@@ -56,7 +56,7 @@
 extern "C" {
 #endif
 
-#define RIKSAMOE_VERSION 1         /* raised where a call, a struct or a promise below changes */
+#define RIKSAMOE_VERSION 2         /* raised where a call, a struct or a promise below changes */
 
 #define RIKSAMOE_UNITS 16          /* places in every array: unit k's is k - 1 */
 #define RIKSAMOE_NONE 4294967295u  /* the bound *none* */
