@@ -1,6 +1,7 @@
 -- The bytes of the costs that touch one unit, 01: "by the other unit ascending, each pair in the stream's order". Nobody has to believe it:
 -- that the unit sees in them what the stream says is `gathered-view` of Gather/Laws. Assumes nothing.
-use Rattle.base.specs.Library.{ℕ, zero, suc, _+_, _*_, pred, cond, List, [], _++_, ltb, eqb, take, drop}
+use Rattle.base.specs.Library.{ℕ, _+_, _*_, pred, cond, List, [], ltb, eqb, take, drop}
+use Rattle.base.specs.Join.{joinTo}
 use Rattle.table.specs.Stream.{unitsOf}
 use Rattle.costs.specs.Instance.{domOf, pairStart}
 
@@ -13,9 +14,8 @@ abbrev pub withOther : List ℕ → ℕ → ℕ → List ℕ
 withOther s k j = cond (eqb j k) [] (cond (ltb j k) (pairBytes s j k) (pairBytes s k j))
 
 -- those of place k with the first m places
-unfoldable pub gatherTo : List ℕ → ℕ → ℕ → List ℕ
-gatherTo s k zero = []
-gatherTo s k (suc m) = gatherTo s k m ++ withOther s k m
+abbrev pub gatherTo : List ℕ → ℕ → ℕ → List ℕ
+gatherTo s k m = joinTo (withOther s k) m
 
 -- the bytes of the costs that touch unit `own`, 1 to n
 unfoldable pub gathered : List ℕ → ℕ → List ℕ

@@ -5,5 +5,6 @@ pub mod Lent
 pub mod Gathered
 pub mod Gather
 pub mod StreamCost
+pub mod Streamed
 pub mod Problem
 pub mod Laws

@@ -1,6 +1,7 @@
 -- Laws of bytes put into a buffer: where they fit, one behind the other, a turn of the loop that writes them.
 -- Assumes nothing.
 use Prim.Native.Nat.{ℕ, suc, _+_, _≤_, _<_}
+use native.Mathlib.Nat.{add-assoc}
 use native.Mathlib.Numerals.{add-one}
 use native.Mathlib.Omega.{arith}
 use mathlib.Core.List.{List, [], _∷_, _++_, append-assoc}
@@ -23,6 +24,13 @@ put-next p q m at e = rw (take-at p q at e, ← e, drop-append-add p q (length m
 -- written behind g, which stands in front of what was there
 pub put-behind : (g w l : List ℕ) (at : ℕ) → at ≡ length g → putAt (g ++ drop (length g) l) at w ≡ (g ++ w) ++ drop (length (g ++ w)) l
 put-behind g w l at e = put-next g (drop (length g) l) w at (sym e) ∙ rw (drop-drop (length w) (length g) l, length-append g w)
+
+-- written behind g, which stands at a place
+pub put-after : (l g w : List ℕ) (at : ℕ) → at ≤ length l → putAt (putAt l at g) (at + length g) w ≡ putAt l at (g ++ w)
+put-after l g w at h =
+    let e : length (take at l ++ g) ≡ at + length g = length-append (take at l) g ∙ rw (length-take-le at l h) in
+    put-next (take at l ++ g) (drop (at + length g) l) w (at + length g) e
+    ∙ rw (drop-drop (length w) (at + length g) l, append-assoc (take at l) g w, length-append g w, add-assoc at (length g) (length w))
 
 -- two bytes
 pub put-two : (l : List ℕ) (at a b : ℕ) → at + 2 ≤ length l → set (set l at a) (at + 1) b ≡ putAt l at (a ∷ b ∷ [])

@@ -4,7 +4,7 @@ use Prim.Native.Nat.{ℕ, zero, suc, _+_, _*_, _-_, _≤_, _<_}
 use mathlib.Core.Path.{_≡_, refl, sym, ap}
 use mathlib.Core.Bool.{Bool, true, false}
 use native.Mathlib.Omega.{arith}
-use native.Mathlib.Nat.{zero-add, add-zero}
+use native.Mathlib.Nat.{zero-add, add-zero, suc-mul, mul-add}
 use lib.Dec.{leb}
 use borrow.Author.Tests.{leb-true, leb-false}
 use Rattle.base.specs.Sums.{sumFrom, sumTo, least}
@@ -47,6 +47,19 @@ sumTo-sumFrom f zero = refl
 sumTo-sumFrom f (suc m) =
     let q : f (0 + m) ≡ f m = ap f (zero-add m) in
     omega (arith, sumTo-sumFrom f m, sumFrom-last f 0 m)
+
+-- equal terms, terms that are multiples, and terms from a place on
+pub sumTo-same : (c m : ℕ) → sumTo (λ k. c) m ≡ m * c
+sumTo-same c zero = omega arith
+sumTo-same c (suc m) = omega (arith, sumTo-same c m, suc-mul m c)
+
+pub sumTo-scaled : (c : ℕ) (f : ℕ → ℕ) (m : ℕ) → sumTo (λ k. c * f k) m ≡ c * sumTo f m
+sumTo-scaled c f zero = omega arith
+sumTo-scaled c f (suc m) = omega (arith, sumTo-scaled c f m, mul-add c (sumTo f m) (f m))
+
+pub sumTo-shifted : (f : ℕ → ℕ) (lo m : ℕ) → sumTo (λ k. f (lo + k)) m ≡ sumFrom f lo m
+sumTo-shifted f lo zero = refl
+sumTo-shifted f lo (suc m) = omega (arith, sumTo-shifted f lo m, sumFrom-last f lo m)
 
 sumTo-mono-by : (f : ℕ → ℕ) (k d : ℕ) → sumTo f k ≤ sumTo f (k + d)
 sumTo-mono-by f k zero = rw (add-zero k) (omega arith)

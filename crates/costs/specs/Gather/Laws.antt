@@ -10,9 +10,10 @@ use native.Mathlib.Omega.{arith}
 use native.Mathlib.Nat.{mul-add, mul-comm, mul-le-mul, add-zero, zero-add}
 use lib.Dec.{ltb, eqb}
 use lib.ListN.{length, getD, take, drop, length-append, length-drop, List·getD-append}
-use lib.Seq.{getD-drop, getD-take, length-take-le, getD-append-add, take-append-seam}
+use lib.Seq.{getD-drop, getD-take, length-take-le, take-append-seam}
 use borrow.Author.Tests.{lt-ltb, le-ltb, ltb-true, ltb-false, eq-eqb, ne-eqb, le-leb}
 use Rattle.base.specs.Limits.{pairLimit, costsSize}
+use Rattle.base.specs.Join.Laws.{join-byte}
 use Rattle.base.specs.Sums.{sumTo}
 use Rattle.table.specs.Stream.{unitsOf, sizesOf, costsGood, Accepted}
 use Rattle.table.specs.StreamLaws.{needed, streamCost, accepted-units, accepted-cost}
@@ -104,7 +105,6 @@ module _ (s : List ℕ) (fit : needed s ≤ length s) where
 
     -- where they begin
     pub length-gather : (m : ℕ) → m ≤ unitsOf s → length (gatherTo s k m) ≡ 2 * otherStart (domOf s) k m
-    unfolding gatherTo
     length-gather zero h = omega arith
     length-gather (suc m) h =
         let a : length (gatherTo s k m ++ withOther s k m) ≡ length (gatherTo s k m) + length (withOther s k m) = length-append (gatherTo s k m) (withOther s k m) in
@@ -112,30 +112,14 @@ module _ (s : List ℕ) (fit : needed s ≤ length s) where
 
     -- ---- and what stands there
 
-    pub gather-room : (j m : ℕ) → j < m → length (gatherTo s k j) + length (withOther s k j) ≤ length (gatherTo s k m)
-    unfolding gatherTo
-    gather-room j zero h = absurd (omega arith)
-    gather-room j (suc m) h =
-        let a : length (gatherTo s k m ++ withOther s k m) ≡ length (gatherTo s k m) + length (withOther s k m) = length-append (gatherTo s k m) (withOther s k m) in
-        by-order j m (λ l. omega (arith, a, gather-room j m l)) (λ e. rw e (omega (arith, a))) (λ l. absurd (omega arith))
-
-    gather-byte : (j m y : ℕ) → j < m → y < length (withOther s k j) → getD (gatherTo s k m) (length (gatherTo s k j) + y) 0 ≡ getD (withOther s k j) y 0
-    unfolding gatherTo
-    gather-byte j zero y h b = absurd (omega arith)
-    gather-byte j (suc m) y h b =
-        by-order j m
-        (λ l. List·getD-append (gatherTo s k m) (withOther s k m) 0 (length (gatherTo s k j) + y) (omega (arith, gather-room j m l)) ∙ gather-byte j m y l b)
-        (λ e. rw e (getD-append-add (gatherTo s k m) (withOther s k m) y 0))
-        (λ l. absurd (omega arith))
-
     gather-number : (j m x : ℕ) → j < m → m ≤ unitsOf s → x < domOf s k * cond (eqb j k) 0 (domOf s j)
         → costNumber (gatherTo s k m) (otherStart (domOf s) k j + x) ≡ costNumber (withOther s k j) x
     gather-number j m x h le b =
         let g : length (gatherTo s k j) ≡ 2 * otherStart (domOf s) k j = length-gather j (omega arith) in
         let w : length (withOther s k j) ≡ 2 * (domOf s k * cond (eqb j k) 0 (domOf s j)) = length-with j (omega arith) in
         same-number (gatherTo s k m) (withOther s k j) (otherStart (domOf s) k j + x) x
-        (ap (λ p. getD (gatherTo s k m) p 0) (omega arith) ∙ gather-byte j m (2 * x) h (omega arith))
-        (ap (λ p. getD (gatherTo s k m) p 0) (omega arith) ∙ gather-byte j m (2 * x + 1) h (omega arith))
+        (ap (λ p. getD (gatherTo s k m) p 0) (omega arith) ∙ join-byte (withOther s k) m j (2 * x) h (omega arith))
+        (ap (λ p. getD (gatherTo s k m) p 0) (omega arith) ∙ join-byte (withOther s k) m j (2 * x + 1) h (omega arith))
 
     -- a unit before k, and one after it
     number-before : (j x : ℕ) → j < k → x < domOf s j * domOf s k
@@ -232,7 +216,6 @@ module _ (s : List ℕ) (ok : Accepted s) (k : ℕ) (in-n : k < unitsOf s) where
       (λ l. rw (with-after s k j l) (pair-small k j x l h (rw (other-size (domOf s) k j (λ e. omega arith)) at b)))
 
   gathered-small : (m x : ℕ) → m ≤ unitsOf s → x < otherStart (domOf s) k m → costNumber (gatherTo s k m) x ≤ pairLimit
-  unfolding gatherTo
   gathered-small zero x h b = absurd (omega arith)
   gathered-small (suc m) x h b = go (ltb x (otherStart (domOf s) k m)) refl (λ l. gathered-small m x (omega arith) l)
     where

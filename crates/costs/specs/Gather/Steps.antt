@@ -21,7 +21,7 @@ use Rattle.base.specs.Sums.Laws.{sumFrom-last}
 use Rattle.costs.specs.Lent.Steps.{dom-past-count}
 use Rattle.costs.specs.Laws.Stream.{rowStart, pair-costs}
 use Rattle.costs.specs.Gather.{sizesIn}
-use Rattle.costs.specs.Gathered.{pairBytes, withOther, gatherTo}
+use Rattle.costs.specs.Gathered.{pairBytes, withOther}
 use Rattle.costs.specs.Gather.Sizes.{dom-same}
 use Rattle.costs.specs.Gather.Laws.{length-pair-bytes, with-own}
 
@@ -107,12 +107,3 @@ put-nothing d at = paste-zero d at []
 -- and the unit itself has no costs with itself
 pub put-own : (s d : List ℕ) (k j at : ℕ) → j ≡ k → (at ≡ at + length (withOther s k j)) × (d ≡ putAt d at (withOther s k j))
 put-own s d k j at e = rw (e, with-own s k) (omega arith, put-nothing d at)
-
--- one unit more
-pub gather-next : (s : List ℕ) (k j : ℕ) → gatherTo s k (j + 1) ≡ gatherTo s k j ++ withOther s k j
-unfolding gatherTo
-gather-next s k j = rw add-one
-
-pub gather-none : (s : List ℕ) (k : ℕ) → gatherTo s k 0 ≡ []
-unfolding gatherTo
-gather-none s k = refl

@@ -5,12 +5,11 @@ use Prim.Native.Nat.{_+_, _-_, _≤_, pred}
 use mathlib.Core.Path.{_≡_, refl, sym, ap, _∙_}
 use mathlib.Core.List.{_++_}
 use lib.ListN.{length, drop, length-append}
+use Rattle.base.specs.Join.Laws.{join-more, join-room}
 use Rattle.base.specs.Put.{putAt}
 use Rattle.base.specs.Put.Laws.{put-behind}
 use Rattle.table.specs.Stream.{unitsOf}
 use Rattle.costs.specs.Gathered.{gatherTo, gathered, withOther}
-use Rattle.costs.specs.Gather.Laws.{gather-room}
-use Rattle.costs.specs.Gather.Steps.{gather-next, gather-none}
 use borrow.Author.Needs.{needs}
 use Rattle.costs.proofs.stream.gather_all.Statement.{statement}
 use Rattle.costs.proofs.stream.gather_all.Tie as tie
@@ -24,15 +23,14 @@ abbrev μ-loop : tie.MeasureT-loop
 loop-holds : tie.Need-loop-holds Inv-loop μ-loop
 loop-holds c =
     let a = c .before .before .before .before .args in
-    let e = gather-none (a .stream .now) (pred (a .seat .own)) in
-    (c .before .wide .ensures .0, omega arith, rw e, refl, rw e)
+    (c .before .wide .ensures .0, omega arith, refl, refl, refl)
 
 put-other-requires : tie.Need-put-other-requires Inv-loop μ-loop
 unfolding gathered
 put-other-requires c κs =
     let s = c .before .before .before .before .before .before .before in
     let l = c .before .before .loop in
-    let room = gather-room (s .args .stream .now) (s .pre .0 .long) (pred (s .args .seat .own)) (omega (arith, s .pre .0 .units)) (l .j) (unitsOf (s .args .stream .now)) (omega (arith, s .pre .0 .units)) in
+    let room = join-room (withOther (s .args .stream .now) (pred (s .args .seat .own))) (l .j) (unitsOf (s .args .stream .now)) (omega (arith, s .pre .0 .units)) in
     (s .pre .0, c .before .before .before .row-starts .ensures, s .pre .1, omega arith, omega arith)
 
 loop-again : tie.Need-loop-again Inv-loop μ-loop
@@ -41,7 +39,7 @@ loop-again c =
     let l = c .before .before .before .before .before .loop in
     let g = gatherTo (a .stream .now) (pred (a .seat .own)) (l .j) in
     let w = withOther (a .stream .now) (pred (a .seat .own)) (l .j) in
-    let e : gatherTo (a .stream .now) (pred (a .seat .own)) (l .j + 1) ≡ g ++ w = gather-next (a .stream .now) (pred (a .seat .own)) (l .j) in (
+    let e : gatherTo (a .stream .now) (pred (a .seat .own)) (l .j + 1) ≡ g ++ w = join-more (withOther (a .stream .now) (pred (a .seat .own))) (l .j) in (
       omega arith,
       omega arith,
       rw (e, length-append g w) (omega arith),
