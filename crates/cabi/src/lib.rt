@@ -19,6 +19,7 @@ ghost use lib.ListN.{length};
 ghost use Rattle.checksum.specs.Sum.{sumOf};
 ghost use Rattle.table.specs.Block.{blockRefusal};
 ghost use Rattle.table.specs.File.{readOf, readInto, storeOf, storeInto};
+ghost use Rattle.readings.specs.Readings.{tableOf, tableInto};
 ghost use Rattle.costs.specs.Gather.{sizesIn, gatherOf, gatherInto};
 ghost use Rattle.message.specs.Message.{kindOf};
 ghost use Rattle.message.specs.Decode.{parseOf};
@@ -117,6 +118,20 @@ pub extern "C" fn riksamoe_table_write(stream: &[u8], file: &mut [u8]) -> Length
     ensures { λ r. ⌜ (r ≡ storeOf (now (stream .entry)) (length (now (file .entry)))) × (now (file .exit) ≡ storeInto (now (stream .entry)) (now (file .entry))) ⌝ }
 {
     table::write(stream, file)
+}
+
+// The stream of a table made of readings.
+#[no_mangle]
+pub extern "C" fn riksamoe_readings_stream(
+    n: u8,
+    sizes: Sizes,
+    readings: &[u8],
+    stream: &mut [u8],
+) -> Length
+    ensures { λ r. ⌜ (r ≡ tableOf n (sizes .places) (now (readings .entry)) (length (now (stream .entry)))) × (now (stream .exit) ≡ tableInto n (sizes .places) (now (readings .entry)) (now (stream .entry))) ⌝ }
+{
+    let places = sizes.places;
+    readings::write_stream(n, places, readings, stream)
 }
 
 // ---- what a unit is lent, out of a stream
