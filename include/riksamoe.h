@@ -33,6 +33,7 @@
  *   riksamoe_block_refusal           256
  *   riksamoe_table_read              256
  *   riksamoe_table_write             256
+ *   riksamoe_readings_stream         256
  *   riksamoe_sizes                   256
  *   riksamoe_costs                   768
  *   riksamoe_message_parse           768
@@ -56,7 +57,7 @@
 extern "C" {
 #endif
 
-#define RIKSAMOE_VERSION 2         /* raised where a call, a struct or a promise below changes */
+#define RIKSAMOE_VERSION 3         /* raised where a call, a struct or a promise below changes */
 
 #define RIKSAMOE_UNITS 16          /* places in every array: unit k's is k - 1 */
 #define RIKSAMOE_NONE 4294967295u  /* the bound *none* */
@@ -88,7 +89,8 @@ enum {
     RIKSAMOE_NO_ROOM = 13,        /* output too short */
     RIKSAMOE_POOL_FULL = 14,      /* what is sent doesn't fit the pool */
     RIKSAMOE_NO_MESSAGE = 15,     /* no message at that cell */
-    RIKSAMOE_TOO_MANY = 16        /* more than 1,048,576 assignments (search only) */
+    RIKSAMOE_TOO_MANY = 16,       /* more than 1,048,576 assignments (search only) */
+    RIKSAMOE_BAD_READING = 17     /* a reading not 100 to 400 */
 };
 
 /* ---- Structs. All pass by value; offsets and sizes in bytes. */
@@ -197,6 +199,13 @@ riksamoe_length_t riksamoe_table_read(const uint8_t *file, size_t length, uint8_
 
 /* The stored table of a stream, to the front of `file` (RIKSAMOE_FILE bytes are always enough): 5, 6, 7, 13. */
 riksamoe_length_t riksamoe_table_write(const uint8_t *stream, size_t length, uint8_t *file, size_t room);
+
+/* The stream of a table made of readings, the mean fibre diameter of each of n lines in tenths of a micron, 100 to 400: 16-bit numbers, the
+ * low byte first, one a line, in `readings`. In the same lot two lines cost what the gap between their readings says, half of it where the
+ * later one is finer; in different lots nothing. To the front of `stream` (lend RIKSAMOE_STREAM bytes): 5, 6 (not 2 bytes a line), 17, 13.
+ * Proved: riksamoe_table_write and riksamoe_network_make accept it. */
+riksamoe_length_t riksamoe_readings_stream(uint8_t n, riksamoe_sizes_t sizes, const uint8_t *readings, size_t length, uint8_t *stream,
+                                           size_t room);
 
 /* The sizes in a stream: its bytes 1 to n, 0 past n and past the stream's end. They are not checked; of an n above 16, which every other
  * call refuses by 5, it gives the first 16. */

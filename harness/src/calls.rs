@@ -1,9 +1,9 @@
-//! Every public call of 01 as one input and one outcome, so that two implementations can be compared on all that a caller sees.
+//! Every public call as one input and one outcome, so that two implementations can be compared on all that a caller sees.
 
 use crate::reference::message::{self, Message};
 use crate::reference::network::{self, Network};
 use crate::reference::unit::{self, Unit};
-use crate::reference::{checksum, costs, search, table, Places};
+use crate::reference::{checksum, costs, readings, search, table, Places};
 
 #[derive(Clone, Copy, PartialEq, Eq, Debug)]
 pub enum Call {
@@ -11,6 +11,7 @@ pub enum Call {
     Block,
     Read,
     Write,
+    Readings,
     Lent,
     Parse,
     Encode,
@@ -24,11 +25,12 @@ pub enum Call {
 }
 
 /// Each call, its name in the Rattle code, and the refusals it can give.
-pub const CALLS: [(Call, &str, &[u8]); 14] = [
+pub const CALLS: [(Call, &str, &[u8]); 15] = [
     (Call::Sum, "checksum::sum", &[]),
     (Call::Block, "table::read_block", &[1, 4, 2, 3]),
     (Call::Read, "table::read", &[13, 1, 4, 2, 3, 5, 6, 7]),
     (Call::Write, "table::write", &[5, 6, 7, 13]),
+    (Call::Readings, "readings::write_stream", &[5, 6, 17, 13]),
     (Call::Lent, "costs::sizes_of and costs::gather", &[5, 10, 6, 7, 13]),
     (Call::Parse, "message::parse", &[5, 8, 10, 9]),
     (Call::Encode, "message::write", &[5, 10, 9, 13]),
@@ -48,6 +50,7 @@ pub enum Input {
     Block { block: Vec<u8>, expected: u16, last: u8 },
     Read { file: Vec<u8>, stream: Vec<u8> },
     Write { stream: Vec<u8>, file: Vec<u8> },
+    Readings { n: u8, sizes: Places, readings: Vec<u8>, stream: Vec<u8> },
     Lent { stream: Vec<u8>, own: u8, out: Vec<u8> },
     Parse { n: u8, sizes: Places, packet: Vec<u8> },
     Encode { n: u8, sizes: Places, kind: u8, message: Message, out: Vec<u8> },
@@ -106,6 +109,9 @@ pub fn reference(input: Input) -> Outcome {
         },
         Input::Read { file, mut stream } => length_outcome(table::read(&file, &mut stream), stream),
         Input::Write { stream, mut file } => length_outcome(table::write(&stream, &mut file), file),
+        Input::Readings { n, sizes, readings, mut stream } => {
+            length_outcome(readings::write_stream(n, &sizes, &readings, &mut stream), stream)
+        }
         Input::Lent { stream, own, mut out } => {
             let answer = costs::gather(&stream, own, &mut out);
             lent_outcome(&costs::sizes_in(&stream), length_outcome(answer, out))

@@ -6,7 +6,7 @@ use crate::random::Random;
 
 pub struct Report {
     /// How often each number came, 0 for accepted.
-    pub counts: [u64; 17],
+    pub counts: [u64; 18],
     pub difference: Option<Difference>,
 }
 
@@ -21,7 +21,7 @@ pub struct Difference {
 /// Stops at the first difference.
 pub fn compare(call: Call, rounds: u64, seed: u64, other: impl Fn(Input) -> Outcome) -> Report {
     let mut random = Random::new(seed);
-    let mut report = Report { counts: [0; 17], difference: None };
+    let mut report = Report { counts: [0; 18], difference: None };
     for round in 0..rounds {
         let input = generate::input(&mut random, call);
         let reference = calls::reference(input.clone());
@@ -36,7 +36,7 @@ pub fn compare(call: Call, rounds: u64, seed: u64, other: impl Fn(Input) -> Outc
 }
 
 /// `accepted 12, 5: 3, 13: 1`, the refusals in the order in which the call checks them.
-pub fn counted(counts: &[u64; 17], refusals: &[u8]) -> String {
+pub fn counted(counts: &[u64; 18], refusals: &[u8]) -> String {
     let mut text = format!("accepted {}", counts[0]);
     for refusal in refusals {
         text += &format!(", {refusal}: {}", counts[*refusal as usize]);

@@ -1,6 +1,6 @@
 //! Random inputs for every public call: right ones, ones with a single damage, and wrong lengths.
 //!
-//! In order: tables and their files; messages; units; networks; `input`, which picks one for a call.
+//! In order: tables and their files; readings; messages; units; networks; `input`, which picks one for a call.
 
 use crate::calls::{Call, Input};
 use crate::random::Random;
@@ -119,6 +119,38 @@ pub fn damage_file(random: &mut Random, file: &mut Vec<u8>) {
         7 => file.truncate(at),
         8 => file.extend_from_within(at..at + 512),
         _ => file.extend(vec![0; *random.pick(&[1, 511, 512, 62_464])]),
+    }
+}
+
+// Readings
+
+/// Readings in range: any, with gaps at the ends of the schedule, or near one another.
+fn readings(random: &mut Random, lines: u8) -> Vec<u8> {
+    let style = random.below(4);
+    let finest = random.between(100, 375) as u16;
+    let mut reading = || match style {
+        0 => random.between(100, 400) as u16,
+        1 => *random.pick(&[100, 101, 119, 120, 380, 381, 399, 400]),
+        _ => finest + random.below(26) as u16,
+    };
+    (0..lines).flat_map(|_| reading().to_le_bytes()).collect()
+}
+
+/// At times: a reading at an end of the range or out of it; too few or too many bytes.
+fn damage_readings(random: &mut Random, readings: &mut Vec<u8>) {
+    if random.once_in(3) {
+        let at = 2 * random.below(readings.len() as u64 / 2) as usize;
+        let any = random.word() as u16;
+        let reading = *random.pick(&[0, 99, 100, 400, 401, 65_535, any]);
+        readings[at..at + 2].copy_from_slice(&reading.to_le_bytes());
+    }
+    match random.below(30) {
+        0 => readings.truncate(readings.len() - 1),
+        1 => readings.truncate(readings.len() - 2),
+        2 => readings.clear(),
+        3 => readings.push(random.byte()),
+        4 => readings.extend([random.byte(), 1]),
+        _ => {}
     }
 }
 
@@ -559,6 +591,17 @@ fn table_read(random: &mut Random) -> Input {
     Input::Read { file, stream: buffer(random, table::MAX_STREAM) }
 }
 
+fn readings_stream(random: &mut Random) -> Input {
+    let shape = if random.once_in(100) { vec![16; 16] } else { sizes(random) };
+    let (mut n, mut sizes) = head(random, &sample::stream(&shape, &[]));
+    let mut readings = readings(random, n);
+    damage_readings(random, &mut readings);
+    damage_head(random, &mut n, &mut sizes);
+    let mut stream = buffer(random, table::MAX_STREAM);
+    stream.iter_mut().for_each(|byte| *byte = random.byte());
+    Input::Readings { n, sizes, readings, stream }
+}
+
 fn block(random: &mut Random) -> Input {
     let mut file = blocks(&stream(random));
     let mut expected = random.below(file.len() as u64 / 512) as u16;
@@ -595,6 +638,7 @@ pub fn input(random: &mut Random, call: Call) -> Input {
             let asked = 512 * stream.len().div_ceil(table::PAYLOAD).max(1);
             Input::Write { file: buffer(random, asked), stream }
         }
+        Call::Readings => readings_stream(random),
         Call::Lent => {
             let stream = some_stream(random, 2);
             let own = own_number(random, stream.first().copied().unwrap_or(0).clamp(1, 16));

@@ -1,6 +1,6 @@
-//! An independent implementation of document 01 and the tools that compare the Rattle code with it.
+//! An independent implementation of documents 01 and 02 (job 1) and the tools that compare the Rattle code with it.
 //!
-//! `reference` is written from the document alone. Nothing here is proved: it is the other opinion.
+//! `reference` is written from the documents alone. Nothing here is proved: it is the other opinion.
 
 pub mod calls;
 pub mod differential;

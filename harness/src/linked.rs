@@ -115,6 +115,14 @@ extern "C" {
     fn riksamoe_block_refusal(block: *const u8, length: usize, expected: u16, last: u8) -> u8;
     fn riksamoe_table_read(file: *const u8, length: usize, stream: *mut u8, room: usize) -> Length;
     fn riksamoe_table_write(stream: *const u8, length: usize, file: *mut u8, room: usize) -> Length;
+    fn riksamoe_readings_stream(
+        n: u8,
+        sizes: Sizes,
+        readings: *const u8,
+        length: usize,
+        stream: *mut u8,
+        room: usize,
+    ) -> Length;
     fn riksamoe_sizes(stream: *const u8, length: usize) -> Sizes;
     fn riksamoe_costs(stream: *const u8, length: usize, own: u8, out: *mut u8, room: usize) -> Length;
     fn riksamoe_message_parse(n: u8, sizes: Sizes, bytes: *const u8, length: usize) -> Parsed;
@@ -182,6 +190,12 @@ pub fn table_read(file: &[u8], stream: &mut [u8]) -> Length {
 
 pub fn table_write(stream: &[u8], file: &mut [u8]) -> Length {
     unsafe { riksamoe_table_write(stream.as_ptr(), stream.len(), file.as_mut_ptr(), file.len()) }
+}
+
+pub fn readings_stream(n: u8, sizes: &Places, readings: &[u8], stream: &mut [u8]) -> Length {
+    let sizes = Sizes { places: *sizes };
+    let (stream, room) = (stream.as_mut_ptr(), stream.len());
+    unsafe { riksamoe_readings_stream(n, sizes, readings.as_ptr(), readings.len(), stream, room) }
 }
 
 pub fn sizes(stream: &[u8]) -> Places {
@@ -368,6 +382,9 @@ pub fn linked(input: Input) -> Outcome {
         }
         Input::Read { file, mut stream } => length_outcome(table_read(&file, &mut stream), stream),
         Input::Write { stream, mut file } => length_outcome(table_write(&stream, &mut file), file),
+        Input::Readings { n, sizes, readings, mut stream } => {
+            length_outcome(readings_stream(n, &sizes, &readings, &mut stream), stream)
+        }
         Input::Lent { stream, own, mut out } => {
             let answer = costs(&stream, own, &mut out);
             lent_outcome(&sizes(&stream), length_outcome(answer, out))

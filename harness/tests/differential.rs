@@ -59,3 +59,34 @@ fn checks_in_another_order_are_found() {
     let found = compare(Call::Parse, 20_000, 1, kind_before_ends).difference.expect("a difference");
     assert!(describe(&found).contains("refusal 10 by the reference, 9 by the other"));
 }
+
+/// Readings turned about, 100 for 400: every gap the other way round, the refusals the same.
+#[test]
+fn gaps_the_other_way_round_are_found() {
+    let turned = |input: Input| {
+        let Input::Readings { n, sizes, mut readings, stream } = input else { unreachable!("readings") };
+        for reading in readings.chunks_exact_mut(2) {
+            let turned = 500u16.wrapping_sub(u16::from_le_bytes([reading[0], reading[1]]));
+            reading.copy_from_slice(&turned.to_le_bytes());
+        }
+        calls::reference(Input::Readings { n, sizes, readings, stream })
+    };
+    let found = compare(Call::Readings, 20_000, 1, turned).difference.expect("a difference");
+    assert_eq!((found.reference.refusal, found.other.refusal), (0, 0));
+    assert!(describe(&found).contains("byte "));
+}
+
+#[test]
+fn room_looked_at_before_the_readings_is_found() {
+    let room_first = |input: Input| {
+        let Input::Readings { stream, .. } = &input else { unreachable!("readings") };
+        let short = stream.len() < 61_457;
+        let mut outcome = calls::reference(input);
+        if outcome.refusal == 17 && short {
+            outcome.refusal = 13;
+        }
+        outcome
+    };
+    let found = compare(Call::Readings, 20_000, 1, room_first).difference.expect("a difference");
+    assert!(describe(&found).contains("refusal 17 by the reference, 13 by the other"));
+}

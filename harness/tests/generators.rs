@@ -16,6 +16,7 @@ fn lent(input: &Input) -> Option<Vec<u8>> {
     match input {
         Input::Read { stream: lent, .. }
         | Input::Write { file: lent, .. }
+        | Input::Readings { stream: lent, .. }
         | Input::Lent { out: lent, .. }
         | Input::Encode { out: lent, .. }
         | Input::Make { out: lent, .. }
@@ -31,7 +32,7 @@ fn lent(input: &Input) -> Option<Vec<u8>> {
 fn every_refusal_is_reached_and_leaves_what_was_lent() {
     for (call, name, refusals) in CALLS {
         let mut random = Random::new(1);
-        let mut reached = [0u32; 17];
+        let mut reached = [0u32; 18];
         for _ in 0..inputs(call) {
             let input = generate::input(&mut random, call);
             let before = input.clone();
@@ -51,7 +52,7 @@ fn every_refusal_is_reached_and_leaves_what_was_lent() {
         }
         println!("{name}: accepted {}, refused {:?}", reached[0], &reached[1..]);
         assert!(reached[0] > 100, "{name} was accepted {} times", reached[0]);
-        for refusal in 1..=16u8 {
+        for refusal in 1..=17u8 {
             let times = reached[refusal as usize];
             let can = refusals.contains(&refusal);
             assert!(can == (times > 0), "{name}: refusal {refusal} came {times} times");

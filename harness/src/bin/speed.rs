@@ -12,7 +12,7 @@ use harness::random::Random;
 use harness::reference::message::{self, Message};
 use harness::reference::network::{self, Network};
 use harness::reference::unit::{self, Unit};
-use harness::reference::{costs, search, table, Places};
+use harness::reference::{costs, readings, search, table, Places};
 use harness::{generate, sample, tuned};
 use std::cell::RefCell;
 use std::hint::black_box;
@@ -28,6 +28,7 @@ trait Library {
     fn plain_step(&self, steps: &[Step], out: &mut [u8]) -> u64;
     fn table_read(&self, file: &[u8], stream: &mut [u8]) -> u64;
     fn table_write(&self, stream: &[u8], file: &mut [u8]) -> u64;
+    fn readings_stream(&self, n: u8, sizes: &Places, readings: &[u8], stream: &mut [u8]) -> u64;
     fn message_parse(&self, n: u8, sizes: &Places, packets: &[[u8; 64]]) -> u64;
     fn message_write(&self, n: u8, sizes: &Places, messages: &[(u8, Message)], out: &mut [u8]) -> u64;
     fn search(&self, stream: &[u8]) -> u64;
@@ -82,6 +83,10 @@ impl Library for Yardstick {
         u64::from(black_box(table::write(stream, file)).is_ok())
     }
 
+    fn readings_stream(&self, n: u8, sizes: &Places, readings: &[u8], stream: &mut [u8]) -> u64 {
+        u64::from(black_box(readings::write_stream(n, sizes, readings, stream)).is_ok())
+    }
+
     fn message_parse(&self, n: u8, sizes: &Places, packets: &[[u8; 64]]) -> u64 {
         packets.iter().map(|packet| u64::from(black_box(message::parse(n, sizes, packet)).is_ok())).sum()
     }
@@ -134,6 +139,10 @@ impl Library for Rattle {
 
     fn table_write(&self, stream: &[u8], file: &mut [u8]) -> u64 {
         u64::from(linked::table_write(stream, file).refusal == 0)
+    }
+
+    fn readings_stream(&self, n: u8, sizes: &Places, readings: &[u8], stream: &mut [u8]) -> u64 {
+        u64::from(linked::readings_stream(n, sizes, readings, stream).refusal == 0)
     }
 
     fn message_parse(&self, n: u8, sizes: &Places, packets: &[[u8; 64]]) -> u64 {
@@ -240,7 +249,8 @@ fn other_rows() -> Vec<Row> {
     let sizes = [4; 16];
     let messages: Vec<(u8, Message)> = (0..64).map(|_| generate::message(&mut random, 16, &sizes)).collect();
     let packets: Vec<[u8; 64]> = messages.iter().map(|(kind, m)| message::encode(*kind, m)).collect();
-    let (read, written, out) = (lent(), lent(), RefCell::new([0; 64]));
+    let readings: Vec<u8> = (0..16).flat_map(|_| (random.between(160, 210) as u16).to_le_bytes()).collect();
+    let (read, written, made, out) = (lent(), lent(), lent(), RefCell::new([0; 64]));
     let mut rows = vec![
         row("table read, 122 blocks".into(), "call", move |library| {
             library.table_read(black_box(&file), &mut read.borrow_mut())
@@ -250,6 +260,10 @@ fn other_rows() -> Vec<Row> {
             library.table_write(black_box(&whole), &mut written.borrow_mut())
         })
         .over(table::MAX_FILE),
+        row("readings, 16 lines of 16".into(), "call", move |library| {
+            library.readings_stream(16, &[16; 16], black_box(&readings), &mut made.borrow_mut())
+        })
+        .over(table::MAX_STREAM),
         row("message read, 16 units".into(), "call", move |library| {
             library.message_parse(16, &sizes, black_box(&packets))
         })

@@ -1,14 +1,15 @@
-//! Document 01 in plain Rust, one module for each part of it. Refusals are 01's numbers, the first in 01's order.
+//! Documents 01 and 02 (job 1) in plain Rust, one module for each part of them. Refusals are their numbers, the first in their order.
 
 pub mod checksum;
 pub mod costs;
 pub mod message;
 pub mod network;
+pub mod readings;
 pub mod search;
 pub mod table;
 pub mod unit;
 
-/// 1 to 16, as in 01's table of refusals.
+/// 1 to 16, as in 01's table of refusals, and 02's 17.
 pub type Refusal = u8;
 
 /// A byte per unit; those past n are not looked at where sizes are lent.
