@@ -1,4 +1,4 @@
--- The numbers of document 01 that more than one place goes by, each here alone; src/lib.rt has the same for code. Assumes nothing.
+-- The numbers of documents 01 and 02 that more than one place goes by, each here alone; src/lib.rt has the same for code. Assumes nothing.
 use Rattle.base.specs.Library.{ℕ, _*_, _-_}
 
 -- ---- units and costs
@@ -10,6 +10,10 @@ places = 16
 -- 01: "Each pair i < j has a cost, 0 to 60,000"
 abbrev pub pairLimit : ℕ
 pairLimit = 60000
+
+-- 02, job 3: "A pair cost of 65,535 means barred"
+abbrev pub forbiddenPair : ℕ
+forbiddenPair = 65535
 
 -- 01: "A bound is at most 7,200,000": so a total too, of the 120 pairs of 16 units
 abbrev pub totalLimit : ℕ

@@ -1,5 +1,5 @@
--- Finite sums and least values over numbers. Their laws are in Sums/Laws. Assumes nothing.
-use Rattle.base.specs.Library.{ℕ, zero, suc, _+_, min}
+-- Finite sums of numbers. Their laws are in Sums/Laws. Assumes nothing.
+use Rattle.base.specs.Library.{ℕ, zero, suc, _+_}
 pub mod Laws
 
 -- f lo + f (lo + 1) + .., m of them
@@ -11,9 +11,3 @@ sumFrom f lo (suc m) = f lo + sumFrom f (suc lo) m
 abbrev pub sumTo : (ℕ → ℕ) → ℕ → ℕ
 sumTo f zero = 0
 sumTo f (suc m) = sumTo f m + f m
-
--- the least of f 1, .., f d; 0 where d is 0
-abbrev pub least : (ℕ → ℕ) → ℕ → ℕ
-least f zero = 0
-least f (suc zero) = f 1
-least f (suc (suc d)) = min (least f (suc d)) (f (suc (suc d)))

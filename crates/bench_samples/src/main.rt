@@ -13,6 +13,10 @@ fn main() {
     show(b"eight.table");
     show(b"two-by-sixteen.table");
     show(b"sparse-twelve.table");
+    // barred pairs; two tables with no assignment without one
+    show(b"barred-five.table");
+    show(b"none-three.table");
+    show(b"none-at-once.table");
     // 1,048,576 assignments in another shape, 2 and 16 values by turns; 1,049,760, the next number that sizes give, and 16^16: 16
     show(b"most.table");
     show(b"more.table");

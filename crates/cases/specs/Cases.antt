@@ -11,11 +11,12 @@ use lib.ListN.{length, getD, take, drop, replicate}
 use Rattle.base.specs.Limits.{streamSize}
 use Rattle.base.specs.Shape.{allInSixteen, shapeGood}
 use Rattle.checksum.specs.Sum.{sumOf}
-use Rattle.table.specs.Stream.{sumList, pairsIn, costsGood, streamRefusal}
+use Rattle.table.specs.Stream.{sumList, pairsIn, costGood, costsGood, streamRefusal}
 use Rattle.table.specs.Block.{allZero, blockRefusal}
 use Rattle.table.specs.BlockLaws.{checkOf}
 use Rattle.table.specs.Written.{blockOf, fileFrom, fileOf}
 use Rattle.table.specs.File.{blocksRefusal, joined, streamOf, readRefusal}
+use Rattle.costs.specs.Cost.{asNumber}
 use Rattle.costs.specs.Instance.{Instance, viewOf, instanceOf}
 use Rattle.costs.specs.Bounds.{costWith, h, estimate, total}
 use Rattle.search.specs.Search.{searchRefusal, searchOf}
@@ -89,7 +90,7 @@ table =
     -- "T's stream is 11 bytes, its check 219"
     count 1 (length streamT ∷ checkOf (blockOf 0 streamT) ∷ reading streamT ∷ []) (11 ∷ 219 ∷ 0 ∷ []) ∷
     -- "h of unit 1: 3 and 2"
-    count 2 (h (viewOf instanceT 0) 1 ∷ h (viewOf instanceT 0) 2 ∷ []) (3 ∷ 2 ∷ []) ∷
+    count 2 (asNumber (h (viewOf instanceT 0) 1) ∷ asNumber (h (viewOf instanceT 0) 2) ∷ []) (3 ∷ 2 ∷ []) ∷
     -- "Least total 2, by values 2, 1"
     count 3 (searchOf streamT .refusal ∷ searchOf streamT .total ∷ take 2 (searchOf streamT .values)) (0 ∷ 2 ∷ 2 ∷ 1 ∷ []) ∷
     -- "n = 1, size 3: total 0, value 1, one record, no delivery"
@@ -104,10 +105,12 @@ table =
     row 6 (states (run instanceT (four ++ (0 ∷ [])) .units)) (states (run instanceT four .units)) ∷
     -- "Cost 60,000 read, 60,001 refused by 7"
     count 7 (reading (pairAt 60000) ∷ reading (pairAt 60001) ∷ []) (0 ∷ 7 ∷ []) ∷
+    -- 02, job 3: "A pair cost of 65,535 means barred, and check 7 lets that number through for pairs."
+    count 7 (reading (pairAt 65534) ∷ reading (pairAt 65535) ∷ []) (7 ∷ 0 ∷ []) ∷
     -- "n = 16 read, 17 and 0 refused by 5"
     count 8 (reading (single 16 120) ∷ reading (single 17 136) ∷ reading (single 0 0) ∷ []) (0 ∷ 5 ∷ 5 ∷ []) ∷
     []
 
 pub cases-hold : map (λ (r : Row). r .found) table ≡ map (λ (r : Row). r .said) table
-unfolding table allInSixteen shapeGood sumOf sumList pairsIn costsGood streamRefusal allZero blockRefusal blockOf blocksRefusal joined streamOf readRefusal fileFrom fileOf instanceOf costWith h estimate total inTurn bestFrom searchRefusal searchOf compareOn sameOn backtrack tryAfter assign resume onCpa onRequest onEstimate onSolution onStop respond each packets begin handOver runFrom run
+unfolding table allInSixteen shapeGood sumOf sumList pairsIn costGood costsGood streamRefusal allZero blockRefusal blockOf blocksRefusal joined streamOf readRefusal fileFrom fileOf instanceOf costWith h estimate total inTurn bestFrom searchRefusal searchOf compareOn sameOn backtrack tryAfter assign resume onCpa onRequest onEstimate onSolution onStop respond each packets begin handOver runFrom run
 cases-hold = refl

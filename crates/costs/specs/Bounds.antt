@@ -1,29 +1,47 @@
--- What a unit works out from its view: the cost of a value with a prefix, h, the estimate; and the total of an assignment. Assumes nothing.
-use Rattle.base.specs.Library.{ℕ, zero, suc, _+_, _*_, _-_, _≤_, _<_, List, getD}
-use Rattle.base.specs.Sums.{sumFrom, sumTo, least}
+-- What a unit works out from its view: the cost of a value with a prefix, h, the estimate; and assignments, their totals and what is reported of
+-- them. Each cost is a number or forbidden (Cost.antt). Assumes nothing.
+use Rattle.base.specs.Library.{ℕ, zero, suc, _*_, _-_, _≤_, _<_, _≡_, _≢_, _⊎_, List, getD}
+use Rattle.base.specs.Limits.{NONE}
+use Rattle.base.specs.Sums as Number
+use Rattle.costs.specs.Cost.{Cost, Of, Forbidden, _⊕_, sumFrom, sumTo, least, asNumber}
 use Rattle.costs.specs.Instance.{Instance, View}
 
 -- the cost of own value v with the values of the first k units
-unfoldable pub costWith : View → List ℕ → ℕ → ℕ → ℕ
+unfoldable pub costWith : View → List ℕ → ℕ → ℕ → Cost
 costWith w values k v = sumTo (λ j. w .pair j (getD values j 0) v) k
 
--- 01: "h(v) is the sum, over later units, of the least cost of v with any value of that unit"
-unfoldable pub h : View → ℕ → ℕ
+-- 01: "h(v) is the sum, over later units, of the least cost of v with any value of that unit";
+-- 02: "h takes the least over values not barred; if there are none, the value can't be written"
+unfoldable pub h : View → ℕ → Cost
 h w v = sumFrom (λ j. least (λ u. w .pair j u v) (w .dom j)) (suc (w .place)) (w .n - suc (w .place))
 
--- 01: "the least, over own values v, of costs to the filled units plus h(v)", k units filled
-unfoldable pub estimate : View → List ℕ → ℕ → ℕ
-estimate w values k = least (λ v. costWith w values k v + h w v) (w .dom (w .place))
+-- 01: "the least, over own values v, of costs to the filled units plus h(v)", k units filled; forbidden where no value is left.
+-- A message carries it as a number.
+unfoldable pub estimate : View → List ℕ → ℕ → Cost
+estimate w values k = least (λ v. costWith w values k v ⊕ h w v) (w .dom (w .place))
 
 -- ---- assignments, 01: "lotting"; a list's first n places
 
 -- 01: "A full lotting gives each of the n units one of its values"
+abbrev pub Valued : Instance → List ℕ → Type 0
+Valued I l = (k : ℕ) → k < I .n → (1 ≤ getD l k 0) × (getD l k 0 ≤ I .dom k)
+
+-- 02: "A lotting with a barred pair isn't a lotting."
+abbrev pub Permitted : Instance → List ℕ → Type 0
+Permitted I l = (i j : ℕ) → i < j → j < I .n → I .cost i (getD l i 0) j (getD l j 0) ≢ Forbidden
+
 abbrev pub Assignment : Instance → List ℕ → Type 0
-Assignment I l = (k : ℕ) → k < I .n → (1 ≤ getD l k 0) × (getD l k 0 ≤ I .dom k)
+Assignment I l = Valued I l × Permitted I l
 
 -- 01: "its total is the sum over all pairs"
-unfoldable pub total : Instance → List ℕ → ℕ
+unfoldable pub total : Instance → List ℕ → Cost
 total I l = sumTo (λ k. sumTo (λ i. I .cost i (getD l i 0) k (getD l k 0)) k) (I .n)
+
+-- 02: "The report is the least over permitted lottings, or *none* if there isn't one", and then "*none* with best all zero"
+abbrev pub Reported : Instance → ℕ → List ℕ → Type 0
+Reported I B best =
+    ((B ≡ NONE) × ((k : ℕ) → getD best k 0 ≡ 0) × ((l : List ℕ) → Assignment I l → ⊥))
+    ⊎ (Assignment I best × (total I best ≡ Of B) × ((l : List ℕ) → Assignment I l → B ≤ asNumber (total I l)))
 
 -- ---- beginnings, 01: "the values of units 1 to i"
 
@@ -34,4 +52,4 @@ prefixCount dom (suc k) = prefixCount dom k * dom k
 
 -- 01: "N is d(1) + d(1) × d(2) + .. up to d(1) × .. × d(n-1); 0 for n = 1"
 abbrev pub N : Instance → ℕ
-N I = sumTo (λ k. prefixCount (I .dom) (suc k)) (I .n - 1)
+N I = Number.sumTo (λ k. prefixCount (I .dom) (suc k)) (I .n - 1)

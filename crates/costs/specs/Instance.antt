@@ -3,22 +3,23 @@
 use Rattle.base.specs.Library.{ℕ, suc, _+_, _*_, _-_, pred, cond, not, _&&_, List, ltb, eqb, getD, take, drop}
 use Rattle.base.specs.{Bytes.u16At, Shape.isValue, Sums.sumFrom, Sums.sumTo}
 use Rattle.table.specs.Stream.{unitsOf}
+use Rattle.costs.specs.Cost.{Cost, Of, pairCost}
 use Rattle.costs.specs.declared.Seat.{Seat}
 
 -- ---- the instance
 
--- n units with their domain sizes, and the cost of value u of unit i with value v of a later unit j
+-- n units with their domain sizes, and the cost of value u of unit i with value v of a later unit j: a number, or the two may not meet
 pub record Instance : Type 0 where
   pub n : ℕ
   pub dom : ℕ → ℕ
-  pub cost : ℕ → ℕ → ℕ → ℕ → ℕ
+  pub cost : ℕ → ℕ → ℕ → ℕ → Cost
 
 -- What one unit sees: its own place, and `pair j u v`, the cost of its own value v with value u of unit j.
 pub record View : Type 0 where
   pub place : ℕ
   pub n : ℕ
   pub dom : ℕ → ℕ
-  pub pair : ℕ → ℕ → ℕ → ℕ
+  pub pair : ℕ → ℕ → ℕ → Cost
 
 abbrev pub viewOf : Instance → ℕ → View
 viewOf I k = record { place = k; n = I .n; dom = I .dom; pair = λ j u v. cond (ltb j k) (I .cost j u k v) (I .cost k v j u) }
@@ -43,9 +44,9 @@ abbrev pub costNumber : List ℕ → ℕ → ℕ
 costNumber costs k = u16At costs (2 * k)
 
 -- A cost of a table, from all its costs; 0 where there is no such pair of values.
-abbrev pub tableCost : ℕ → (ℕ → ℕ) → List ℕ → ℕ → ℕ → ℕ → ℕ → ℕ
+abbrev pub tableCost : ℕ → (ℕ → ℕ) → List ℕ → ℕ → ℕ → ℕ → ℕ → Cost
 tableCost n dom costs i u j v =
-    cond (ltb i j && ltb j n && isValue (dom i) u && isValue (dom j) v) (costNumber costs (pairStart dom n i j + inPair (dom j) u v)) 0
+    cond (ltb i j && ltb j n && isValue (dom i) u && isValue (dom j) v) (pairCost (costNumber costs (pairStart dom n i j + inPair (dom j) u v))) (Of 0)
 
 -- The instance of a stream: n, then n sizes, then the costs.
 abbrev pub domOf : List ℕ → ℕ → ℕ
@@ -61,10 +62,10 @@ abbrev pub otherStart : (ℕ → ℕ) → ℕ → ℕ → ℕ
 otherStart dom k j = dom k * sumTo (λ b. cond (eqb b k) 0 (dom b)) j
 
 -- A cost of unit k's value v with value u of unit j, from the costs that touch unit k; 0 where there is no such pair of values.
-abbrev pub lentCost : ℕ → (ℕ → ℕ) → ℕ → List ℕ → ℕ → ℕ → ℕ → ℕ
+abbrev pub lentCost : ℕ → (ℕ → ℕ) → ℕ → List ℕ → ℕ → ℕ → ℕ → Cost
 lentCost n dom k costs j u v =
     cond (not (eqb j k) && ltb j n && isValue (dom j) u && isValue (dom k) v)
-    (costNumber costs (otherStart dom k j + cond (ltb j k) (inPair (dom k) u v) (inPair (dom j) v u))) 0
+    (pairCost (costNumber costs (otherStart dom k j + cond (ltb j k) (inPair (dom k) u v) (inPair (dom j) v u)))) (Of 0)
 
 -- What unit `own` (1 to n) sees in the costs lent with it.
 unfoldable pub lentView : ℕ → ℕ → List ℕ → List ℕ → View

@@ -1,4 +1,5 @@
 -- Pair costs and what is worked out from them, in reading order.
+pub mod Cost
 pub mod Instance
 pub mod Bounds
 pub mod Lent

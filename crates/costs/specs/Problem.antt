@@ -1,12 +1,13 @@
 -- All that the protocol's proof knows of an instance: how many units and values there are, three functions of a prefix, and
--- the laws that tie them together. A prefix (01: "beginning") is the list of its values, the LAST unit's first: `v ∷ b` is the
--- prefix b followed by the value v of unit `length b`. Units count from 0.
+-- the laws that tie them together. A forbidden cost counts as NONE (Cost.antt: `asNumber`). A prefix (01: "beginning") is the list of its
+-- values, the LAST unit's first: `v ∷ b` is the prefix b followed by the value v of unit `length b`. Units count from 0.
 -- Assumes nothing.
 use Prim.Native.Nat.{ℕ, zero, suc, _+_, _-_, _≤_, _<_}
 use mathlib.Core.Path.{_≡_, sym, subst}
 use mathlib.Core.List.{List, [], _∷_}
 use native.Mathlib.Omega.{arith}
 use lib.ListN.{length}
+use Rattle.base.specs.Limits.{NONE}
 use Rattle.base.specs.Sums.{sumFrom}
 
 -- ---- the problem
@@ -23,13 +24,13 @@ module _ (P : Problem) where
   InDomains [] = Unit {0}
   InDomains (v ∷ b) = (1 ≤ v) × (v ≤ P .size (length b)) × InDomains b
 
-  -- a full assignment, 01: "full lotting"
+  -- a full assignment, 01: "full lotting"; 02: "A lotting with a barred pair isn't a lotting."
   abbrev pub Full : List ℕ → Type 0
-  Full l = (length l ≡ P .n) × InDomains l
+  Full l = (length l ≡ P .n) × InDomains l × (P .cost l < NONE)
 
-  -- every assignment that extends b by r more units costs at least B
+  -- every permitted assignment that extends b by r more units costs at least B
   abbrev pub ClosedBy : ℕ → List ℕ → ℕ → Type 0
-  ClosedBy zero b B = B ≤ P .cost b
+  ClosedBy zero b B = P .cost b < NONE → B ≤ P .cost b
   ClosedBy (suc r) b B = (v : ℕ) → 1 ≤ v → v ≤ P .size (length b) → ClosedBy r (v ∷ b) B
 
   -- every full assignment that extends b costs at least B
@@ -40,7 +41,7 @@ module _ (P : Problem) where
 -- a closed prefix is closed for less (L4, L5, L6 of the proof) need no law: they follow from what `Closed` says, as shown below.
 pub record Laws (P : Problem) : Type 0 where
   pub size-le-16 : (k : ℕ) → P .size k ≤ 16
-  pub cost-le-lookahead : (b : List ℕ) → P .cost b ≤ P .lookahead b
+  pub cost-le-lookahead : (b : List ℕ) → P .lookahead b < NONE → P .cost b ≤ P .lookahead b
   -- L1
   pub closed-by-lookahead : (b : List ℕ) (B : ℕ) → length b ≤ P .n → B ≤ P .lookahead b → Closed P b B
   -- L3
@@ -51,7 +52,7 @@ pub record Laws (P : Problem) : Type 0 where
 -- ---- what follows from the meaning of `Closed`
 module _ (P : Problem) where
   closedBy-mono : (r : ℕ) (b : List ℕ) {B C : ℕ} → C ≤ B → ClosedBy P r b B → ClosedBy P r b C
-  closedBy-mono zero b h p = omega arith
+  closedBy-mono zero b h p = λ few. omega (arith, p few)
   closedBy-mono (suc r) b h p = λ v lo hi. closedBy-mono r (v ∷ b) h (p v lo hi)
 
   -- a lower bound is reached too
@@ -67,7 +68,7 @@ module _ (P : Problem) where
 
   -- a full assignment is closed by its own cost
   pub closed-full : (b : List ℕ) → length b ≡ P .n → Closed P b (P .cost b)
-  closed-full b h = subst (λ r. ClosedBy P r b (P .cost b)) (sym e) (omega arith)
+  closed-full b h = subst (λ r. ClosedBy P r b (P .cost b)) (sym e) (λ few. omega arith)
     where
       e : P .n - length b ≡ 0
       e = omega arith
@@ -85,7 +86,7 @@ module _ (P : Problem) where
 
   -- once the empty prefix is closed, no full assignment costs less
   pub closed-least : (B : ℕ) → Closed P [] B → (l : List ℕ) → Full P l → B ≤ P .cost l
-  closed-least B p l f = subst (λ r. ClosedBy P r l B) e (closed-from-empty B p l (omega (arith, f .0)) (f .1))
+  closed-least B p l f = subst (λ r. ClosedBy P r l B) e (closed-from-empty B p l (omega (arith, f .0)) (f .1)) (f .2)
     where
       e : P .n - length l ≡ 0
       e = omega (arith, f .0)

@@ -15,11 +15,12 @@ use Rattle.base.specs.Bytes.{u16At}
 use Rattle.base.specs.Sums.{sumFrom}
 use Rattle.table.specs.Stream.{unitsOf}
 use Rattle.base.specs.Shape.{isValue}
+use Rattle.costs.specs.Cost.{Cost, Of, Forbidden, pairCost}
+use Rattle.costs.specs.Cost.Laws.{sums-zero}
 use Rattle.costs.specs.Instance.{inPair, costNumber, pairStart, tableCost, viewOf, instanceOf, domOf}
 use Rattle.costs.specs.Laws.Stream.{costsOf, rowStart}
 use Rattle.costs.specs.Bounds.{costWith}
-use Rattle.base.specs.Sums.Laws.{sumTo-sumFrom}
-use Rattle.costs.specs.Lent.Steps.{dom-past-count, no-value, sumFrom-zero, cost-none, cost-more}
+use Rattle.costs.specs.Lent.Steps.{dom-past-count, no-value, cost-none, cost-more, cost-forbidden}
 
 -- a unit with a value is one of the n
 pub value-inside : (s : List ℕ) (k v : ℕ) → isValue (domOf s k) v ≡ true → k < unitsOf s
@@ -34,20 +35,18 @@ value-inside s k v e = go (ltb k (unitsOf s)) refl
         omega arith
 
 -- what is no value costs nothing
-pub no-own-cost : (s values : List ℕ) (k v : ℕ) → isValue (domOf s k) v ≡ false → costWith (viewOf (instanceOf s) k) values k v ≡ 0
+pub no-own-cost : (s values : List ℕ) (k v : ℕ) → isValue (domOf s k) v ≡ false → costWith (viewOf (instanceOf s) k) values k v ≡ Of 0
 unfolding costWith instanceOf
-no-own-cost s values k v none =
-    sumTo-sumFrom (λ j. viewOf (instanceOf s) k .pair j (getD values j 0) v) k
-    ∙ sumFrom-zero (λ j. viewOf (instanceOf s) k .pair j (getD values j 0) v) (λ j. go (ltb j k) j) 0 k
+no-own-cost s values k v none = sums-zero (λ j. viewOf (instanceOf s) k .pair j (getD values j 0) v) k (λ j. go (ltb j k) j)
   where
     go : (t : Bool) (j : ℕ)
-        → cond t (tableCost (unitsOf s) (domOf s) (costsOf s) j (getD values j 0) k v) (tableCost (unitsOf s) (domOf s) (costsOf s) k v j (getD values j 0)) ≡ 0
+        → cond t (tableCost (unitsOf s) (domOf s) (costsOf s) j (getD values j 0) k v) (tableCost (unitsOf s) (domOf s) (costsOf s) k v j (getD values j 0)) ≡ Of 0
     go true j = simp (none, and-false)
     go false j = simp (none, and-false)
 
 -- the cost of own value v with value u of the unit at place j, before it
 pub stream-pair : (s : List ℕ) (k j u v from : ℕ) → isValue (domOf s k) v ≡ true → j < k → from ≡ 1 + unitsOf s + 2 * pairStart (domOf s) (unitsOf s) j k
-    → viewOf (instanceOf s) k .pair j u v ≡ cond (isValue (domOf s j) u) (u16At s (from + 2 * inPair (domOf s k) u v)) 0
+    → viewOf (instanceOf s) k .pair j u v ≡ cond (isValue (domOf s j) u) (pairCost (u16At s (from + 2 * inPair (domOf s k) u v))) (Of 0)
 unfolding instanceOf
 stream-pair s k j u v from own h start =
     let x : ℕ = pairStart (domOf s) (unitsOf s) j k + inPair (domOf s k) u v in
@@ -69,7 +68,7 @@ pub record Running (s values : List ℕ) (place v later between row sum j : ℕ)
   pub later-sizes : later ≡ sumFrom (domOf s) j (unitsOf s - j)
   pub between-sizes : between ≡ sumFrom (domOf s) j (place - j)
   pub row-start : row ≡ rowStart (domOf s) (unitsOf s) j
-  pub cost-so-far : sum ≡ costWith (viewOf (instanceOf s) place) values j v
+  pub cost-so-far : Of sum ≡ costWith (viewOf (instanceOf s) place) values j v
   pub later-most : later ≤ 65025
   pub between-most : between ≤ 65025
   pub row-most : row ≤ 16581375 * j
@@ -123,24 +122,34 @@ module _ {s values : List ℕ} {place v later between row sum j e : ℕ} (t : Tu
       let b : between - e ≡ sumFrom (domOf s) (suc j) (place - suc j) = omega (arith, between-after) in
       rw (t .now .row-start, b, t .size)
 
-  pub running-next : (paid : ℕ) → paid < 65536
-      → paid ≡ cond (isValue e (getD values j 0)) (u16At s (1 + unitsOf s + 2 * (row + e * (between - e)) + 2 * inPair (domOf s place) (getD values j 0) v)) 0
+  -- the cost of the pair
+  pub pair-here : (c : Cost)
+      → c ≡ cond (isValue e (getD values j 0)) (pairCost (u16At s (1 + unitsOf s + 2 * (row + e * (between - e)) + 2 * inPair (domOf s place) (getD values j 0) v))) (Of 0)
+      → viewOf (instanceOf s) place .pair j (getD values j 0) v ≡ c
+  pair-here c is =
+      let from : 1 + unitsOf s + 2 * (row + e * (between - e)) ≡ 1 + unitsOf s + 2 * pairStart (domOf s) (unitsOf s) j place = ap (λ (x : ℕ). 1 + unitsOf s + 2 * x) pair-begins in
+      stream-pair s place j (getD values j 0) v (1 + unitsOf s + 2 * (row + e * (between - e))) (t .own) (t .more) from
+      ∙ ap (λ (x : ℕ). cond (isValue x (getD values j 0)) (pairCost (u16At s (1 + unitsOf s + 2 * (row + e * (between - e)) + 2 * inPair (domOf s place) (getD values j 0) v))) (Of 0)) (sym (t .size))
+      ∙ sym is
+
+  -- it is a number
+  pub running-next : (paid : ℕ) → paid < 65536 → viewOf (instanceOf s) place .pair j (getD values j 0) v ≡ Of paid
       → Running s values place v (later - e) (between - e) (row + e * (later - e)) (sum + paid) (j + 1)
   running-next paid small is =
       let a : later - e ≡ sumFrom (domOf s) (suc j) (unitsOf s - suc j) = omega (arith, later-after) in
       let b : between - e ≡ sumFrom (domOf s) (suc j) (place - suc j) = omega (arith, between-after) in
-      let from : 1 + unitsOf s + 2 * (row + e * (between - e)) ≡ 1 + unitsOf s + 2 * pairStart (domOf s) (unitsOf s) j place = ap (λ (x : ℕ). 1 + unitsOf s + 2 * x) pair-begins in
-      let pair : paid ≡ viewOf (instanceOf s) place .pair j (getD values j 0) v =
-      is ∙ ap (λ (x : ℕ). cond (isValue x (getD values j 0)) (u16At s (1 + unitsOf s + 2 * (row + e * (between - e)) + 2 * inPair (domOf s place) (getD values j 0) v)) 0) (t .size)
-      ∙ sym (stream-pair s place j (getD values j 0) v (1 + unitsOf s + 2 * (row + e * (between - e))) (t .own) (t .more) from) in
       record {
         inside = omega (arith, t .more);
         later-sizes = rw add-one a;
         between-sizes = rw add-one b;
         row-start = rw (add-one, t .now .row-start, a, t .size);
-        cost-so-far = rw (t .now .cost-so-far, pair, cost-more);
+        cost-so-far = rw (cost-more, is, ← t .now .cost-so-far);
         later-most = omega (arith, t .now .later-most);
         between-most = omega (arith, t .now .between-most);
         row-most = row-after;
         sum-most = omega (arith, t .now .sum-most);
       }
+
+  -- it is forbidden
+  pub running-stops : viewOf (instanceOf s) place .pair j (getD values j 0) v ≡ Forbidden → costWith (viewOf (instanceOf s) place) values place v ≡ Forbidden
+  running-stops is = cost-forbidden (viewOf (instanceOf s) place) values j place v (t .more) is

@@ -1,4 +1,4 @@
-// Pair costs, and what is worked out from them: the costs lent with one unit, as bytes.
+// Pair costs, each a number or forbidden, and what is worked out from them: the costs lent with one unit, as bytes.
 
 mod prefix; // the cost of a value with those before it, straight from a stream
 mod stream; // what is read out of a stream
@@ -14,10 +14,12 @@ ghost use Prim.Native.Nat.{_+_, _*_, _≤_, pred, min};
 ghost use lib.Dec.{eqb};
 ghost use lib.ListN.{getD};
 ghost use Rattle.base.specs.Sums.{sumFrom};
+ghost use Rattle.costs.specs.Cost.{_⊕_, asNumber, pairCost};
+ghost use Rattle.costs.specs.Cost.Laws.{AtMost};
 ghost use Rattle.costs.specs.Instance.{inPair, costNumber, viewFrom};
 ghost use Rattle.costs.specs.Bounds.{costWith, h, estimate};
 ghost use Rattle.costs.specs.Lent.{lentCount, lentRefusal};
-ghost use Rattle.costs.specs.Lent.Parts.{othersBefore, pairFrom, leastRun, domFrom};
+ghost use Rattle.costs.specs.Lent.Parts.{othersBefore, pairFrom, leastRun, runsFrom, domFrom};
 
 // Where a unit sits: its own number, 1 to n, among n units with these domain sizes; places past n are not looked at.
 // The costs that touch it are lent beside it.
@@ -25,6 +27,22 @@ pub struct Seat {
     pub own: u8,
     pub n: u8,
     pub sizes: [u8; 16],
+}
+
+// What looking up a cost gives. 02: "a number or "barred""; a sum is forbidden as soon as one part is.
+pub enum Cost {
+    Of(u32),
+    Forbidden,
+}
+
+// A cost where a number is asked for: NONE where it is forbidden.
+pub fn as_number(cost: Cost) -> u32
+    ensures { λ r. ⌜ r ≡ asNumber cost ⌝ }
+{
+    match cost {
+        Cost::Of(number) => number,
+        Cost::Forbidden => base::NONE,
+    }
 }
 
 // Refusal 6 or 7 of the costs lent with the unit, or 0.
@@ -42,27 +60,24 @@ pub fn lent_refusal(seat: Seat, costs: &[u8]) -> u8
 }
 
 // The cost of own value v with the values of the first k units.
-pub fn cost_with(seat: Seat, costs: &[u8], values: [u8; 16], k: u8, v: u8) -> u32
+pub fn cost_with(seat: Seat, costs: &[u8], values: [u8; 16], k: u8, v: u8) -> Cost
     ensures { λ r. ⌜ r ≡ costWith (viewFrom seat (now (costs .entry))) values k v ⌝ }
 {
     prefix_cost(seat, costs, values, wide(k), wide(v))
 }
 
-// The lookahead bound: over later units, the least cost of own value v with any value of that unit.
-pub fn h(seat: Seat, costs: &[u8], v: u8) -> u32
+// The lookahead bound: over later units, the least cost of own value v with any value of that unit; forbidden where one has none for it.
+pub fn h(seat: Seat, costs: &[u8], v: u8) -> Cost
     ensures { λ r. ⌜ r ≡ h (viewFrom seat (now (costs .entry))) v ⌝ }
 {
     later_cost(seat, costs, wide(v))
 }
 
-// The least, over own values, of the cost with the values of the first k units and the lookahead bound.
+// The least, over own values, of the cost with the values of the first k units and the lookahead bound; NONE where no value is left.
 pub fn estimate(seat: Seat, costs: &[u8], values: [u8; 16], k: u8) -> u32
-    ensures { λ r. ⌜ r ≡ estimate (viewFrom seat (now (costs .entry))) values k ⌝ }
+    ensures { λ r. ⌜ r ≡ asNumber (estimate (viewFrom seat (now (costs .entry))) values k) ⌝ }
 {
     let d = size_of(seat, place_of(seat));
-    if d == 0 {
-        return 0;
-    }
     least_cost(seat, costs, values, wide(k), d)
 }
 
@@ -74,9 +89,9 @@ fn lent_count(seat: Seat) -> usize
 }
 
 // The cost of own value v with the values of the first k units.
-fn prefix_cost(seat: Seat, costs: &[u8], values: [u8; 16], k: usize, v: usize) -> u32
+fn prefix_cost(seat: Seat, costs: &[u8], values: [u8; 16], k: usize, v: usize) -> Cost
     requires { ⌜ k ≤ 255 ⌝ }
-    ensures { λ r. ⌜ (r ≡ costWith (viewFrom seat (now (costs .entry))) values k v) × (r ≤ 65535 * k) ⌝ }
+    ensures { λ r. ⌜ (r ≡ costWith (viewFrom seat (now (costs .entry))) values k v) × AtMost (65535 * k) r ⌝ }
 {
     let place = place_of(seat);
     let d = size_of(seat, place);
@@ -86,11 +101,14 @@ fn prefix_cost(seat: Seat, costs: &[u8], values: [u8; 16], k: usize, v: usize) -
     while j < k {
         let e = size_of(seat, j);
         let u = value_at(values, j);
-        sum += pair_cost(costs, place, j, d, e, before, u, v);
+        let Cost::Of(cost) = pair_cost(costs, place, j, d, e, before, u, v) else {
+            return Cost::Forbidden;
+        };
+        sum += cost;
         before += other_size(seat, j);
         j += 1;
     }
-    sum
+    Cost::Of(sum)
 }
 
 // The cost of own value v with value u of the unit at place j, 0 where there is no such pair of values.
@@ -104,18 +122,18 @@ fn pair_cost(
     before: usize,
     u: usize,
     v: usize,
-) -> u32
+) -> Cost
     requires { ⌜ (d ≤ 255) × (e ≤ 255) × (before ≤ 65025) ⌝ }
-    ensures { λ r. ⌜ (r ≡ pairFrom (now (costs .entry)) place j d e before u v) × (r ≤ 65535) ⌝ }
+    ensures { λ r. ⌜ (r ≡ pairFrom (now (costs .entry)) place j d e before u v) × AtMost 65535 r ⌝ }
 {
     if j == place {
-        return 0;
+        return Cost::Of(0);
     }
     if !is_value(e, u) {
-        return 0;
+        return Cost::Of(0);
     }
     if !is_value(d, v) {
-        return 0;
+        return Cost::Of(0);
     }
     if j < place {
         return cost_number(costs, d * before, d, u, v);
@@ -124,45 +142,64 @@ fn pair_cost(
 }
 
 // The cost of the values u and v, the second unit having d values, of a pair whose costs start at number `start`.
-fn cost_number(costs: &[u8], start: usize, d: usize, u: usize, v: usize) -> u32
+fn cost_number(costs: &[u8], start: usize, d: usize, u: usize, v: usize) -> Cost
     requires { ⌜ (start ≤ 16777216) × (d ≤ 255) × (1 ≤ u) × (u ≤ 255) × (1 ≤ v) × (v ≤ 255) ⌝ }
-    ensures { λ r. ⌜ (r ≡ costNumber (now (costs .entry)) (start + inPair d u v)) × (r ≤ 65535) ⌝ }
+    ensures { λ r. ⌜ (r ≡ pairCost (costNumber (now (costs .entry)) (start + inPair d u v))) × AtMost 65535 r ⌝ }
 {
-    base::u16_at(costs, 2 * (start + ((u - 1) * d + (v - 1))))
+    cost_of(base::u16_at(costs, 2 * (start + ((u - 1) * d + (v - 1)))))
 }
 
-// The lookahead bound of own value v.
-fn later_cost(seat: Seat, costs: &[u8], v: usize) -> u32
-    ensures { λ r. ⌜ (r ≡ h (viewFrom seat (now (costs .entry))) v) × (r ≤ 16711425) ⌝ }
+// What a number of 16 bits stands for.
+fn cost_of(number: u32) -> Cost
+    requires { ⌜ number ≤ 65535 ⌝ }
+    ensures { λ r. ⌜ (r ≡ pairCost number) × AtMost 65535 r ⌝ }
+{
+    if number == base::FORBIDDEN_PAIR {
+        return Cost::Forbidden;
+    }
+    Cost::Of(number)
+}
+
+// The lookahead bound of own value v. What is no value costs nothing: the runs are then read from no bytes, as zeros.
+fn later_cost(seat: Seat, costs: &[u8], v: usize) -> Cost
+    ensures { λ r. ⌜ (r ≡ h (viewFrom seat (now (costs .entry))) v) × AtMost 16711425 r ⌝ }
+{
+    if is_value(size_of(seat, place_of(seat)), v) {
+        return least_runs(seat, costs, v);
+    }
+    least_runs(seat, &costs[0..0], 1)
+}
+
+// The runs of own value v with later units, the least of each added up.
+fn least_runs(seat: Seat, costs: &[u8], v: usize) -> Cost
+    requires { ⌜ (1 ≤ v) × (v ≤ 255) ⌝ }
+    ensures { λ r. ⌜ (r ≡ runsFrom seat (now (costs .entry)) v (pred (seat .own) + 1)) × AtMost 16711425 r ⌝ }
 {
     let place = place_of(seat);
     let d = size_of(seat, place);
-    if !is_value(d, v) {
-        return 0;
-    }
     let count = wide(seat.n);
     let mut before = others_before(seat, place + 1);
     let mut sum: u32 = 0;
     let mut j = place + 1;
     while j < count {
         let e = size_of(seat, j);
-        sum += least_run(costs, d * before + (v - 1) * e, e);
+        let Cost::Of(least) = cost_of(least_run(costs, d * before + (v - 1) * e, e)) else {
+            return Cost::Forbidden;
+        };
+        sum += least;
         before += e;
         j += 1;
     }
-    sum
+    Cost::Of(sum)
 }
 
-// The least of the e costs from number `start` on, 0 where there are none.
+// The least of the e costs from number `start` on, as a number; forbidden, the last of 16 bits, where there are none.
 fn least_run(costs: &[u8], start: usize, e: usize) -> u32
     requires { ⌜ (start ≤ 67108864) × (e ≤ 255) ⌝ }
-    ensures { λ r. ⌜ (r ≡ leastRun (now (costs .entry)) start e) × (r ≤ 65535) ⌝ }
+    ensures { λ r. ⌜ (pairCost r ≡ leastRun (now (costs .entry)) start e) × (r ≤ 65535) ⌝ }
 {
-    if e == 0 {
-        return 0;
-    }
-    let mut best = base::u16_at(costs, 2 * start);
-    let mut u = 1;
+    let mut best = base::FORBIDDEN_PAIR;
+    let mut u = 0;
     while u < e {
         best = lesser(best, base::u16_at(costs, 2 * (start + u)));
         u += 1;
@@ -170,13 +207,13 @@ fn least_run(costs: &[u8], start: usize, e: usize) -> u32
     best
 }
 
-// The least, over own values up to d, of the cost with the first k units and the lookahead bound.
+// The least, over own values up to d, of the cost with the first k units and the lookahead bound; NONE where all are forbidden.
 fn least_cost(seat: Seat, costs: &[u8], values: [u8; 16], k: usize, d: usize) -> u32
-    requires { ⌜ (k ≤ 255) × (1 ≤ d) × (d ≡ domFrom seat (pred (seat .own))) ⌝ }
-    ensures { λ r. ⌜ r ≡ estimate (viewFrom seat (now (costs .entry))) values k ⌝ }
+    requires { ⌜ (k ≤ 255) × (d ≡ domFrom seat (pred (seat .own))) ⌝ }
+    ensures { λ r. ⌜ r ≡ asNumber (estimate (viewFrom seat (now (costs .entry))) values k) ⌝ }
 {
-    let mut best = value_cost(seat, costs, values, k, 1);
-    let mut v = 1;
+    let mut best = base::NONE;
+    let mut v = 0;
     while v < d {
         v += 1;
         best = lesser(best, value_cost(seat, costs, values, k, v));
@@ -184,12 +221,18 @@ fn least_cost(seat: Seat, costs: &[u8], values: [u8; 16], k: usize, d: usize) ->
     best
 }
 
-// The cost of own value v with the first k units, and its lookahead bound.
+// The cost of own value v with the first k units, and its lookahead bound; NONE where it is forbidden.
 fn value_cost(seat: Seat, costs: &[u8], values: [u8; 16], k: usize, v: usize) -> u32
     requires { ⌜ k ≤ 255 ⌝ }
-    ensures { λ r. ⌜ r ≡ costWith (viewFrom seat (now (costs .entry))) values k v + h (viewFrom seat (now (costs .entry))) v ⌝ }
+    ensures { λ r. ⌜ r ≡ asNumber (costWith (viewFrom seat (now (costs .entry))) values k v ⊕ h (viewFrom seat (now (costs .entry))) v) ⌝ }
 {
-    prefix_cost(seat, costs, values, k, v) + later_cost(seat, costs, v)
+    let Cost::Of(cost) = prefix_cost(seat, costs, values, k, v) else {
+        return base::NONE;
+    };
+    let Cost::Of(later) = later_cost(seat, costs, v) else {
+        return base::NONE;
+    };
+    cost + later
 }
 
 fn lesser(a: u32, b: u32) -> u32

@@ -1,5 +1,7 @@
 // The cost of a value with the values before it, straight from a stream.
 
+use crate::Cost;
+use crate::cost_of;
 use crate::place_at;
 use crate::stream::size_at;
 use crate::value_at;
@@ -11,25 +13,27 @@ ghost use Prim.Native.Nat.{_+_, _*_, _≤_, _<_, pred};
 ghost use Rattle.base.specs.Bytes.{u16At};
 ghost use Rattle.base.specs.Shape.{isValue};
 ghost use Rattle.base.specs.Sums.{sumFrom};
+ghost use Rattle.costs.specs.Cost.{Of, pairCost};
+ghost use Rattle.costs.specs.Cost.Laws.{AtMost};
 ghost use Rattle.costs.specs.Instance.{inPair, viewOf, instanceOf, domOf};
 ghost use Rattle.costs.specs.Bounds.{costWith};
 
 // The cost of value v of unit `own` with the values of the units before it; there is none before unit 1, nor where `own` is 0.
-pub fn stream_cost_with(stream: &[u8], values: [u8; 16], own: u8, v: u8) -> u32
+pub fn stream_cost_with(stream: &[u8], values: [u8; 16], own: u8, v: u8) -> Cost
     ensures { λ r. ⌜ r ≡ costWith (viewOf (instanceOf (now (stream .entry))) (pred own)) values (pred own) v ⌝ }
 {
     let place = place_at(own);
     let value = wide(v);
     let d = wide(size_at(stream, place));
     if !is_value(d, value) {
-        return 0;
+        return Cost::Of(0);
     }
     cost_before(stream, values, place, d, value)
 }
 
 // The same for a value v of the unit at `place`, which has d values. The costs of its pair with the unit at place j follow those of the
 // pairs of the units before j, and of j with the units between: both are counted along.
-fn cost_before(stream: &[u8], values: [u8; 16], place: usize, d: usize, v: usize) -> u32
+fn cost_before(stream: &[u8], values: [u8; 16], place: usize, d: usize, v: usize) -> Cost
     requires { ⌜ (place < 256) × (d ≡ domOf (now stream) place) × (d < 256) × (isValue d v ≡ true) ⌝ }
     ensures { λ r. ⌜ r ≡ costWith (viewOf (instanceOf (now (stream .entry))) place) values place v ⌝ }
 {
@@ -44,22 +48,26 @@ fn cost_before(stream: &[u8], values: [u8; 16], place: usize, d: usize, v: usize
         later -= e;
         between -= e;
         let u = value_at(values, j);
-        sum += cost_in_pair(stream, 1 + units + 2 * (row + e * between), d, e, u, v);
+        let from = 1 + units + 2 * (row + e * between);
+        let Cost::Of(cost) = cost_in_pair(stream, from, d, e, u, v) else {
+            return Cost::Forbidden;
+        };
+        sum += cost;
         row += e * later;
         j += 1;
     }
-    sum
+    Cost::Of(sum)
 }
 
 // The cost of the values u and v of units of e and d values, the costs of which start at byte `from`; 0 where u is no value.
-fn cost_in_pair(stream: &[u8], from: usize, d: usize, e: usize, u: usize, v: usize) -> u32
+fn cost_in_pair(stream: &[u8], from: usize, d: usize, e: usize, u: usize, v: usize) -> Cost
     requires { ⌜ (from ≤ 17179869184) × (d < 256) × (u < 256) × (1 ≤ v) × (v < 256) ⌝ }
-    ensures { λ r. ⌜ (r ≡ cond (isValue e u) (u16At (now (stream .entry)) (from + 2 * inPair d u v)) 0) × (r < 65536) ⌝ }
+    ensures { λ r. ⌜ (r ≡ cond (isValue e u) (pairCost (u16At (now (stream .entry)) (from + 2 * inPair d u v))) (Of 0)) × AtMost 65535 r ⌝ }
 {
     if !is_value(e, u) {
-        return 0;
+        return Cost::Of(0);
     }
-    base::u16_at(stream, from + 2 * ((u - 1) * d + (v - 1)))
+    cost_of(base::u16_at(stream, from + 2 * ((u - 1) * d + (v - 1))))
 }
 
 // The sizes of the first m units, added up.

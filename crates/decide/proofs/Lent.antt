@@ -8,6 +8,8 @@ use mathlib.Core.List.{List}
 use lib.ListN.{getD, set}
 use lib.Seq.{getD-take}
 use Rattle.costs.specs.declared.Seat.{Seat}
+use Rattle.costs.specs.declared.Cost.the-variants.{Of}
+use Rattle.costs.specs.Cost.{asNumber}
 use Rattle.costs.specs.Instance.{lentView, viewFrom}
 use Rattle.costs.specs.Bounds.{costWith}
 use Rattle.rules.specs.declared.Unit.{Unit}
@@ -39,15 +41,19 @@ module _ (seat : Seat) (costs : List ℕ) where
   pub taken-off : (u : Unit) (cost : ℕ) → cost ≡ bareCost (viewFrom seat costs) u → withCpa (set (u .stamp) (seat .own - 1) 0) (set (u .values) (seat .own - 1) 0) cost u ≡ takeOff (viewFrom seat costs) u
   taken-off u cost e = rw e (ap (λ (k : ℕ). withCpa (set (u .stamp) k 0) (set (u .values) k 0) (bareCost (viewFrom seat costs) u) u) (sym place-lent))
 
+  -- a value's costs, at the unit's place
+  pub paid-lent : (u : Unit) (v : ℕ) → costWith (viewFrom seat costs) (u .values) (viewFrom seat costs .place) v ≡ costWith (viewFrom seat costs) (u .values) (seat .own - 1) v
+  paid-lent u v = ap (λ (k : ℕ). costWith (viewFrom seat costs) (u .values) k v) place-lent
+
   -- without a value there is nothing to pay
-  none-paid : (l : List ℕ) (k : ℕ) → costWith (viewFrom seat costs) l k 0 ≡ 0
+  none-paid : (l : List ℕ) (k : ℕ) → costWith (viewFrom seat costs) l k 0 ≡ Of 0
   unfolding costWith lentView
   none-paid l zero = refl
   none-paid l (suc k) = rw (none-paid l k) (simp and-false)
 
-  pub own-cost-lent : (u : Unit) → costWith (viewFrom seat costs) (u .values) (seat .own - 1) (getD (u .values) (seat .own - 1) 0) ≡ ownCost (viewFrom seat costs) u
-  own-cost-lent u = ap (λ (k : ℕ). costWith (viewFrom seat costs) (u .values) k (getD (u .values) k 0)) (sym place-lent)
+  pub own-cost-lent : (u : Unit) → asNumber (costWith (viewFrom seat costs) (u .values) (seat .own - 1) (getD (u .values) (seat .own - 1) 0)) ≡ ownCost (viewFrom seat costs) u
+  own-cost-lent u = ap (λ (k : ℕ). asNumber (costWith (viewFrom seat costs) (u .values) k (getD (u .values) k 0))) (sym place-lent)
 
   pub no-value-no-cost : (u : Unit) → getD (u .values) (seat .own - 1) 0 ≡ 0 → 0 ≡ ownCost (viewFrom seat costs) u
   no-value-no-cost u e =
-      sym (ap (λ (v : ℕ). costWith (viewFrom seat costs) (u .values) (viewFrom seat costs .place) v) (value-lent u ∙ e) ∙ none-paid (u .values) (viewFrom seat costs .place))
+      sym (ap asNumber (ap (λ (v : ℕ). costWith (viewFrom seat costs) (u .values) (viewFrom seat costs .place) v) (value-lent u ∙ e) ∙ none-paid (u .values) (viewFrom seat costs .place)))

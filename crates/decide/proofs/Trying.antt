@@ -3,18 +3,22 @@
 use Prim.Native.Nat.{ℕ, suc, _+_, _-_, _≤_, _<_}
 use native.Mathlib.Omega.{arith}
 use native.Mathlib.Numerals.{add-one}
-use mathlib.Core.Path.{_≡_, refl}
-use mathlib.Core.Bool.{Bool, true, false}
+use mathlib.Core.Path.{_≡_, refl, sym, _∙_}
+use mathlib.Core.Bool.{Bool, true, false, cond}
 use lib.ListN.{length, getD}
 use borrow.Author.Tests.{lt-ltb, le-ltb, eq-eqb, ne-eqb}
+use Rattle.costs.specs.declared.Cost.{Cost}
+use Rattle.costs.specs.declared.Cost.the-variants.{Of, Forbidden}
+use Rattle.costs.specs.Cost.{_⊕_, below, asNumber}
+use Rattle.costs.specs.Cost.Laws.{number-not-forbidden, below-numbers}
 use Rattle.costs.specs.Instance.{View}
-use Rattle.costs.specs.Bounds.{h}
+use Rattle.costs.specs.Bounds.{costWith, h}
 use Rattle.rules.specs.declared.Unit.{Unit}
 use Rattle.rules.specs.declared.Decided.{Decided}
 use Rattle.rules.specs.declared.Plan.the-variants.{Forward}
 use Rattle.rules.specs.State.{withBest}
 use Rattle.rules.specs.Step.{Decision, refused, accepted, Written, recorded, carried, takeOff, write, recordOf, backtrack, tryAfter}
-use Rattle.rules.specs.Tests.{silent, costAt}
+use Rattle.rules.specs.Tests.{silent, costAt, costBelow}
 use Rattle.rules.specs.Ready.{decidedOf}
 
 -- a decision as the code has it, after k records
@@ -30,29 +34,64 @@ counted-more : (k : ℕ) (was : Unit) (r : Written) (o : Decision) → counted k
 counted-more k was r (refused x) = refl
 counted-more k was r (accepted u s ws) = let e : k + suc (length ws) ≡ k + 1 + length ws = omega arith in rw e
 
--- one turn, v tried so far: the next value costs `cost` and has the lookahead bound `ahead`
-module _ (w : View) (d v k : ℕ) (was : Unit) (b : Bool) (u : Unit) (more : v < d) (cost ahead : ℕ)
-    (paid : cost ≡ costAt w (v + 1) u) (seen : ahead ≡ h w (v + 1)) where
+-- a value's cost, where that and h are below the bound: what either answer says of the test
+none-below : (c d : Cost) (B : ℕ) → cond (below (c ⊕ d) B) c Forbidden ≡ Forbidden → below (c ⊕ d) B ≡ false
+none-below c d B e = go (below (c ⊕ d) B) refl e
+  where
+    go : (t : Bool) → below (c ⊕ d) B ≡ t → cond t c Forbidden ≡ Forbidden → t ≡ false
+    go true q f = absurd (number-not-forbidden (asNumber c) (sym (below-numbers c d B q) ∙ f))
+    go false q f = refl
+
+some-below : (c d : Cost) (B x : ℕ) → cond (below (c ⊕ d) B) c Forbidden ≡ Of x → (below (c ⊕ d) B ≡ true) × (c ≡ Of x)
+some-below c d B x e = go (below (c ⊕ d) B) e
+  where
+    go : (t : Bool) → cond t c Forbidden ≡ Of x → (t ≡ true) × (c ≡ Of x)
+    go true f = (refl, f)
+    go false f = absurd (number-not-forbidden x (sym f))
+
+-- the same by its parts: what value v costs, and its h
+module _ (w : View) (v : ℕ) (u : Unit) where
+  pub no-cost : costWith w (u .values) (w .place) v ≡ Forbidden → Forbidden ≡ costBelow w v u
+  no-cost e = rw e
+
+  module _ (paid : ℕ) (e : costWith w (u .values) (w .place) v ≡ Of paid) where
+    pub no-h : h w v ≡ Forbidden → Forbidden ≡ costBelow w v u
+    no-h f = rw (e, f)
+
+    module _ (ahead : ℕ) (f : h w v ≡ Of ahead) where
+      pub bound-reached : u .bound ≤ u .cost + paid + ahead → Forbidden ≡ costBelow w v u
+      bound-reached l = rw (e, f, le-ltb _ _ l)
+
+      pub bound-above : u .cost + paid + ahead < u .bound → Of (u .cost + paid) ≡ costBelow w v u
+      bound-above l = rw (e, f, lt-ltb _ _ l)
+
+-- one turn, v tried so far
+module _ (w : View) (d v k : ℕ) (was : Unit) (b : Bool) (u : Unit) (more : v < d) where
   rest : d - v ≡ suc (d - (v + 1))
   rest = omega arith
 
-  -- a value that reaches the bound is passed over
-  pub passed-over : u .bound ≤ cost + ahead → counted k was (tryAfter w (d - v) v b u) ≡ counted k was (tryAfter w (d - (v + 1)) (v + 1) b u)
+  -- a value that is forbidden or reaches the bound is passed over
+  pub passed-over : costBelow w (v + 1) u ≡ Forbidden → counted k was (tryAfter w (d - v) v b u) ≡ counted k was (tryAfter w (d - (v + 1)) (v + 1) b u)
   unfolding tryAfter
-  passed-over l = rw (rest, ← add-one v, ← paid, ← seen) (simp (le-ltb _ _ l))
+  passed-over l = rw (rest, ← add-one v, none-below (costAt w (v + 1) u) (h w (v + 1)) (u .bound) l)
 
   -- unit n writes it, takes it as its best, and goes on
-  pub written-last : cost + ahead < u .bound → suc (w .place) ≡ w .n → (t : Unit) → t ≡ write w (v + 1) cost u
+  pub written-last : (cost : ℕ) → costBelow w (v + 1) u ≡ Of cost → suc (w .place) ≡ w .n → (t : Unit) → t ≡ write w (v + 1) cost u
       → counted k was (tryAfter w (d - v) v b u) ≡ counted (k + 1) was (tryAfter w (d - (v + 1)) (v + 1) true (takeOff w (withBest (t .cost) (t .values) t)))
   unfolding tryAfter
-  written-last l e t f = rw (rest, ← add-one v, ← paid, ← seen, f) (simp (lt-ltb _ _ l, eq-eqb _ _ e) (counted-more k was (recordOf w (write w (v + 1) cost u)) (tryAfter w (d - (v + 1)) (v + 1) true (takeOff w (withBest cost (write w (v + 1) cost u .values) (write w (v + 1) cost u))))))
+  written-last cost l e t f =
+      let p = some-below (costAt w (v + 1) u) (h w (v + 1)) (u .bound) cost l in
+      rw (rest, ← add-one v, f, p .0, p .1, eq-eqb _ _ e)
+      (counted-more k was (recordOf w (write w (v + 1) cost u)) (tryAfter w (d - (v + 1)) (v + 1) true (takeOff w (withBest cost (write w (v + 1) cost u .values) (write w (v + 1) cost u)))))
 
   -- another unit writes it and sends it on
-  pub written-on : cost + ahead < u .bound → (suc (w .place) ≡ w .n → ⊥) → (t : Unit) → t ≡ write w (v + 1) cost u
+  pub written-on : (cost : ℕ) → costBelow w (v + 1) u ≡ Of cost → (suc (w .place) ≡ w .n → ⊥) → (t : Unit) → t ≡ write w (v + 1) cost u
       → counted k was (tryAfter w (d - v) v b u)
       ≡ record { refusal = 0; unit = t; sending = record { plan = Forward; improved = false; message = carried w t }; records = k + 1 }
   unfolding tryAfter
-  written-on l e t f = rw (rest, ← add-one v, ← paid, ← seen, f) (simp (lt-ltb _ _ l, ne-eqb _ _ e))
+  written-on cost l e t f =
+      let p = some-below (costAt w (v + 1) u) (h w (v + 1)) (u .bound) cost l in
+      rw (rest, ← add-one v, f, p .0, p .1, ne-eqb _ _ e)
 
 -- no value is left: the backtrack r, after k records
 pub none-left : (w : View) (d v k : ℕ) (was : Unit) (b : Bool) (u : Unit) (r : Decided) → d ≤ v → r ≡ decidedOf was (backtrack w b u)

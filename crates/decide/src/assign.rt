@@ -4,6 +4,7 @@ use crate::backtrack::backtrack;
 use crate::backtrack::carry;
 use crate::backtrack::take_off;
 use crate::state::with_best;
+use costs::Cost;
 use costs::Seat;
 use rules::Decided;
 use rules::Plan;
@@ -11,13 +12,13 @@ use rules::Sending;
 use rules::Unit;
 ghost use mathlib.Core.Path.{_≡_};
 ghost use mathlib.Core.Bool.{false, cond};
-ghost use Prim.Native.Nat.{suc, _+_, _-_, _≤_, _<_};
+ghost use Prim.Native.Nat.{suc, _+_, _-_, _≤_};
 ghost use lib.Dec.{eqb};
 ghost use lib.ListN.{getD};
 ghost use Rattle.costs.specs.Instance.{View, viewFrom};
 ghost use Rattle.rules.specs.State.{withBest};
 ghost use Rattle.rules.specs.Step.{takeOff, carried, write, tryAfter, begun, assign};
-ghost use Rattle.rules.specs.Tests.{costAt};
+ghost use Rattle.rules.specs.Tests.{costBelow};
 ghost use Rattle.rules.specs.Ready.{Own, Shaped, Ready, decidedOf};
 
 // Assign: the first value after the own one that stays below the bound is written and sent on; without one, backtrack.
@@ -67,11 +68,9 @@ fn try_after(seat: Seat, costs: &[u8], from: u8, u: Unit) -> Decided
     let mut v = from;
     while v < d {
         v += 1;
-        let cost = cost_at(seat, costs, v, t);
-        let ahead = costs::h(seat, costs, v);
-        if cost + base::wide_u64(ahead) < base::wide_u64(t.bound) {
+        if let Cost::Of(cost) = cost_below(seat, costs, v, t) {
             records += 1;
-            let s = put(seat.own, v, cost as u32, t);
+            let s = put(seat.own, v, cost, t);
             if seat.own != seat.n {
                 let sending = forward(seat.own, s);
                 return Decided {
@@ -90,14 +89,23 @@ fn try_after(seat: Seat, costs: &[u8], from: u8, u: Unit) -> Decided
     back
 }
 
-// The cost with own value v; wide, so that no sum wraps.
-fn cost_at(seat: Seat, costs: &[u8], v: u8, u: Unit) -> u64
+// The cost with own value v where that and h are below the bound, else forbidden; wide, so that no sum wraps.
+fn cost_below(seat: Seat, costs: &[u8], v: u8, u: Unit) -> Cost
     requires { ⌜ Own (seat .own) ⌝ }
-    ensures { λ r. ⌜ (r ≡ costAt (viewFrom seat (now (costs .entry))) v u) × (r < 8589934592) ⌝ }
+    ensures { λ r. ⌜ r ≡ costBelow (viewFrom seat (now (costs .entry))) v u ⌝ }
 {
     let values = u.values;
-    let paid = costs::cost_with(seat, costs, values, seat.own - 1, v);
-    base::wide_u64(u.cost) + base::wide_u64(paid)
+    let Cost::Of(paid) = costs::cost_with(seat, costs, values, seat.own - 1, v) else {
+        return Cost::Forbidden;
+    };
+    let Cost::Of(ahead) = costs::h(seat, costs, v) else {
+        return Cost::Forbidden;
+    };
+    let cost = base::wide_u64(u.cost) + base::wide_u64(paid);
+    if base::wide_u64(u.bound) <= cost + base::wide_u64(ahead) {
+        return Cost::Forbidden;
+    }
+    Cost::Of(cost as u32)
 }
 
 // Value v at this cost is written: one record.

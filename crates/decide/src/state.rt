@@ -37,7 +37,7 @@ pub fn in_range(seat: Seat, costs: &[u8], u: Unit) -> bool
     paid_in_range(seat, paid, u)
 }
 
-// The own value's costs; without one there are none to add up.
+// The own value's costs, NONE where they are forbidden; without one there are none to add up.
 pub(crate) fn own_cost(seat: Seat, costs: &[u8], u: Unit) -> u32
     requires { ⌜ Own (seat .own) ⌝ }
     ensures { λ r. ⌜ r ≡ ownCost (viewFrom seat (now (costs .entry))) u ⌝ }
@@ -48,7 +48,7 @@ pub(crate) fn own_cost(seat: Seat, costs: &[u8], u: Unit) -> u32
     if value == 0 {
         return 0;
     }
-    costs::cost_with(seat, costs, values, place, value)
+    costs::as_number(costs::cost_with(seat, costs, values, place, value))
 }
 
 // Whether the state of unit `own` is in range, its own value's costs being `paid`; no state is for a number that is not 1 to 16.

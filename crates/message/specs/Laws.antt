@@ -1,11 +1,13 @@
 -- Laws of a message's fields: what a filled stamp or assignment holds place by place, and the parts of checks 9 and 10.
 --     filled-at, filled-past, filled-by     `filledTo`, place by place
 --     bound-by, bound-parts, not-none-is, no-bound-by, blank-filled     a bound with its best assignment
+--     cost-by, none-by, cost-most, cost-or-none     a cost within what a kind carries
 --     address-by, addressed; formed-by, formed     checks 10 and 9 from their parts, and their parts
 -- Assumes nothing.
 use Prim.Native.Nat.{ℕ, _-_, _≤_, _<_}
-use mathlib.Core.Path.{_≡_, refl}
-use mathlib.Core.Bool.{Bool, true, false, cond, _&&_}
+use mathlib.Core.Logic.{_⊎_, inl, inr, ⊎-elim}
+use mathlib.Core.Path.{_≡_, refl, sym, _∙_}
+use mathlib.Core.Bool.{Bool, true, false, cond, _&&_, _||_, false≢true}
 use mathlib.Core.List.{List}
 use native.Mathlib.Omega.{arith}
 use borrow.Author.Tests.{leb-true, le-leb, ltb-true, ltb-false, lt-ltb, le-ltb, eqb-true, eq-eqb, ne-eqb}
@@ -15,9 +17,10 @@ use Rattle.base.specs.Every.Laws.{every-at, every-by}
 use Rattle.base.specs.Limits.{places, totalLimit, NONE}
 use Rattle.base.specs.Shape.{isValue}
 use Rattle.base.specs.Shape.Laws.{and-left, and-right, value-range, range-value}
+use Rattle.message.specs.declared.Carried.{Carried}
 use Rattle.message.specs.declared.Kind.{Kind}
 use Rattle.message.specs.declared.Message.{Message}
-use Rattle.message.specs.Message.{placeAt, filledTo, boundGood, noneOrBound, noBound, carriedOf, boundFits, directionGood, isUnit, addressGood, wellFormed}
+use Rattle.message.specs.Message.{placeAt, filledTo, boundGood, noneOrBound, noBound, carriedOf, costFits, boundFits, directionGood, isUnit, addressGood, wellFormed}
 
 -- how many units of a CPA are filled
 abbrev pub cpaCount : ℕ → ℕ → ℕ
@@ -75,6 +78,31 @@ unfolding filledTo
 blank-filled sizes = refl
 
 -- ------------------------------------------------------------------------------------------------------------------
+-- A cost within what a kind carries.
+
+or-true : (a : Bool) → (a || true) ≡ true
+or-true true = refl
+or-true false = refl
+
+module _ (c : Carried) where
+  pub cost-by : (x : ℕ) → x ≤ c .cost → costFits c x ≡ true
+  cost-by x h = rw (le-leb x (c .cost) h)
+
+  pub none-by : c .none ≡ true → costFits c NONE ≡ true
+  none-by e = rw e (or-true (leb NONE (c .cost)))
+
+  pub cost-or-none : (x : ℕ) → costFits c x ≡ true → (x ≤ c .cost) ⊎ ((c .none ≡ true) × (x ≡ NONE))
+  cost-or-none x = go (leb x (c .cost)) refl
+    where
+      go : (a : Bool) → leb x (c .cost) ≡ a → (a || (c .none && eqb x NONE)) ≡ true → (x ≤ c .cost) ⊎ ((c .none ≡ true) × (x ≡ NONE))
+      go true l e = inl (leb-true x (c .cost) l)
+      go false l e = inr (and-left _ _ e, eqb-true x NONE (and-right (c .none) _ e))
+
+  -- where it may not be NONE: on every kind but an estimate
+  pub cost-most : c .none ≡ false → (x : ℕ) → costFits c x ≡ true → x ≤ c .cost
+  cost-most never x e = ⊎-elim (λ l. l) (λ q. absurd (false≢true (sym never ∙ q .0))) (cost-or-none x e)
+
+-- ------------------------------------------------------------------------------------------------------------------
 -- The parts of checks 10 and 9.
 
 pub address-by : (n : ℕ) (m : Message) → 1 ≤ m .sender → m .sender ≤ n → 1 ≤ m .receiver → m .receiver ≤ n → addressGood n m ≡ true
@@ -99,12 +127,12 @@ pub record Formed (n : ℕ) (sizes : List ℕ) (k : Kind) (m : Message) : Type 0
   pub direction : directionGood n k (m .sender) (m .receiver) ≡ true
   pub stamps : filledTo (carriedOf k m .stamps) sizes (m .stamp) ≡ true
   pub values : filledTo (carriedOf k m .values) sizes (m .values) ≡ true
-  pub cost : m .cost ≤ carriedOf k m .cost
+  pub cost : costFits (carriedOf k m) (m .cost) ≡ true
   pub bound : boundFits n sizes k (m .bound) (m .best) ≡ true
 
 pub formed-by : (n : ℕ) (sizes : List ℕ) (k : Kind) (m : Message) → Formed n sizes k m → wellFormed n sizes k m ≡ true
 unfolding wellFormed
-formed-by n sizes k m f = rw (f .direction, f .stamps, f .values, le-leb (m .cost) (carriedOf k m .cost) (f .cost)) (f .bound)
+formed-by n sizes k m f = rw (f .direction, f .stamps, f .values, f .cost) (f .bound)
 
 pub formed : (n : ℕ) (sizes : List ℕ) (k : Kind) (m : Message) → wellFormed n sizes k m ≡ true → Formed n sizes k m
 unfolding wellFormed
@@ -112,7 +140,7 @@ formed n sizes k m e =
     let a : Bool = directionGood n k (m .sender) (m .receiver) in
     let b : Bool = filledTo (carriedOf k m .stamps) sizes (m .stamp) in
     let c : Bool = filledTo (carriedOf k m .values) sizes (m .values) in
-    let d : Bool = leb (m .cost) (carriedOf k m .cost) in
+    let d : Bool = costFits (carriedOf k m) (m .cost) in
     let e4 : (a && b && c && d) ≡ true = and-left _ _ e in
     let e3 : (a && b && c) ≡ true = and-left _ _ e4 in
     let e2 : (a && b) ≡ true = and-left _ _ e3 in
@@ -120,6 +148,6 @@ formed n sizes k m e =
       direction = and-left _ _ e2;
       stamps = and-right a b e2;
       values = and-right (a && b) c e3;
-      cost = leb-true (m .cost) (carriedOf k m .cost) (and-right (a && b && c) d e4);
+      cost = and-right (a && b && c) d e4;
       bound = and-right (a && b && c && d) _ e;
     }

@@ -3,9 +3,9 @@
 --     Packet, noMessage                 a message with its kind; one whose fields are all zero
 --     filledTo                          which places of a stamp or an assignment are filled
 --     boundGood, noneOrBound, noBound   a bound with its best assignment
---     carriedOf, boundFits, directionGood     what each kind carries, from whom to whom
+--     carriedOf, costFits, boundFits, directionGood     what each kind carries, from whom to whom
 --     addressGood, wellFormed           01's checks 10 and 9 on the fields
-use Rattle.base.specs.Library.{ℕ, _+_, _-_, Bool, cond, not, _&&_, _||_, List, ltb, leb, eqb, getD, replicate}
+use Rattle.base.specs.Library.{ℕ, _+_, _-_, Bool, true, false, cond, not, _&&_, _||_, List, ltb, leb, eqb, getD, replicate}
 use Rattle.base.specs.{Limits.places, Limits.totalLimit, Limits.estimateLimit, Limits.prefixLimit, Limits.NONE, Shape.isValue, Every.every}
 use Rattle.message.specs.{declared.Kind.Kind, declared.Read.Read, declared.Read.the-variants.Good, declared.Read.the-variants.Refused, declared.Message.Message, declared.Carried.Carried}
 use Rattle.message.specs.declared.Kind.the-variants.{Cpa, Request, Estimate, Solution, Stop}
@@ -58,17 +58,22 @@ noBound sizes bound best = eqb bound 0 && filledTo 0 sizes best
 
 -- units 1 to k filled, in stamp and values, at the cost that they can have
 abbrev pub prefixOf : ℕ → Carried
-prefixOf k = record { stamps = k; values = k; cost = prefixLimit k }
+prefixOf k = record { stamps = k; values = k; cost = prefixLimit k; none = false }
 
 -- what a kind carries besides a bound. 01: paper: "units 1 to receiver - 1, or 1 to receiver going back, are filled"; copy: "units 1 to
 -- sender filled"; estimate: "stamp filled for units 1 to receiver, cost is
--- the estimate, all else zero"; news and stop: "only bound and best"
+-- the estimate, all else zero"; news and stop: "only bound and best". 02, job 3: "An estimate with no value left carries 4,294,967,295, which
+-- check 9 lets through"
 abbrev pub carriedOf : Kind → Message → Carried
 carriedOf Cpa m = prefixOf (cond (ltb (m .sender) (m .receiver)) (m .receiver - 1) (m .receiver))
 carriedOf Request m = prefixOf (m .sender)
-carriedOf Estimate m = record { stamps = m .receiver; values = 0; cost = estimateLimit }
+carriedOf Estimate m = record { stamps = m .receiver; values = 0; cost = estimateLimit; none = true }
 carriedOf Solution m = prefixOf 0
 carriedOf Stop m = prefixOf 0
+
+-- a cost within what a kind carries
+abbrev pub costFits : Carried → ℕ → Bool
+costFits c x = leb x (c .cost) || (c .none && eqb x NONE)
 
 -- which bounds a kind may carry
 abbrev pub boundFits : ℕ → List ℕ → Kind → ℕ → List ℕ → Bool
@@ -102,4 +107,4 @@ addressGood n m = isUnit n (m .sender) && isUnit n (m .receiver)
 unfoldable pub wellFormed : ℕ → List ℕ → Kind → Message → Bool
 wellFormed n sizes k m =
     directionGood n k (m .sender) (m .receiver) && filledTo (carriedOf k m .stamps) sizes (m .stamp) && filledTo (carriedOf k m .values) sizes (m .values)
-    && leb (m .cost) (carriedOf k m .cost) && boundFits n sizes k (m .bound) (m .best)
+    && costFits (carriedOf k m) (m .cost) && boundFits n sizes k (m .bound) (m .best)

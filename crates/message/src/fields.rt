@@ -9,7 +9,7 @@ ghost use mathlib.Core.Bool.{cond, _||_};
 ghost use lib.Dec.{eqb};
 ghost use Rattle.base.specs.Limits.{prefixLimit};
 ghost use Rattle.base.specs.Shape.{isValue};
-ghost use Rattle.message.specs.Message.{filledTo, boundGood, noneOrBound, noBound, prefixOf, carriedOf, boundFits, fromTo, directionGood, isUnit, addressGood, wellFormed};
+ghost use Rattle.message.specs.Message.{filledTo, boundGood, noneOrBound, noBound, prefixOf, carriedOf, costFits, boundFits, fromTo, directionGood, isUnit, addressGood, wellFormed};
 ghost use Rattle.message.specs.Laws.{cpaCount};
 
 // Check 10: sender and receiver are units.
@@ -45,7 +45,7 @@ pub fn well_formed(n: u8, sizes: [u8; 16], kind: Kind, m: Message) -> bool
     if !filled_to(most.values, sizes, values) {
         return false;
     }
-    if most.cost < m.cost {
+    if !cost_fits(most, m.cost) {
         return false;
     }
     let best = m.best;
@@ -98,6 +98,7 @@ fn carried(kind: Kind, m: Message) -> Carried
             stamps: m.receiver,
             values: 0,
             cost: base::ESTIMATE_LIMIT,
+            none: true,
         },
         Kind::Solution => prefix(0),
         Kind::Stop => prefix(0),
@@ -112,7 +113,21 @@ fn prefix(k: u8) -> Carried
         stamps: k,
         values: k,
         cost: prefix_limit(k),
+        none: false,
     }
+}
+
+// A cost within what a kind carries.
+fn cost_fits(most: Carried, cost: u32) -> bool
+    ensures { λ r. ⌜ r ≡ costFits most cost ⌝ }
+{
+    if cost <= most.cost {
+        return true;
+    }
+    if !most.none {
+        return false;
+    }
+    cost == base::NONE
 }
 
 // How many units a cpa has filled, going down or back.

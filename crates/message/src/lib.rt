@@ -67,11 +67,13 @@ pub struct Parsed {
     pub answer: Read,
 }
 
-// What a kind carries besides a bound: units 1 to `stamps` have a stamp, 1 to `values` a value, and the cost is at most `cost`.
+// What a kind carries besides a bound: units 1 to `stamps` have a stamp, 1 to `values` a value, and the cost is at most `cost`, or `none` says
+// that it may be NONE.
 struct Carried {
     stamps: u8,
     values: u8,
     cost: u32,
+    none: bool,
 }
 
 // A message read: its kind and fields, or the refusal's number: 5, 8, 10, 9. Any receiver will do: it is read as by the unit that it names.

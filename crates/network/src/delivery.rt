@@ -17,6 +17,7 @@ ghost use Rattle.table.specs.Stream.{unitsOf, Accepted};
 ghost use Rattle.base.specs.Every.{every};
 ghost use Rattle.base.specs.Bytes.Laws.{AllBytes};
 ghost use Rattle.costs.specs.Instance.{viewOf, instanceOf};
+ghost use Rattle.costs.specs.Cost.{asNumber};
 ghost use Rattle.costs.specs.Bounds.{costWith};
 ghost use Rattle.rules.specs.State.{paidInRange};
 ghost use Rattle.rules.specs.Laws.Range.{SizedUnit};
@@ -91,12 +92,12 @@ fn units_in_range(units: [Unit; 16], stream: &[u8]) -> bool
 // Whether the state of the unit at place k is in range, by what its own value costs in the stream.
 fn unit_in_range(k: u8, n: u8, sizes: [u8; 16], stream: &[u8], u: Unit) -> bool
     requires { ⌜ k < 16 ⌝ }
-    ensures { λ r. ⌜ r ≡ paidInRange n sizes (suc k) (costWith (viewOf (instanceOf (now (stream .entry))) k) (u .values) k (getD (u .values) k 0)) u ⌝ }
+    ensures { λ r. ⌜ r ≡ paidInRange n sizes (suc k) (asNumber (costWith (viewOf (instanceOf (now (stream .entry))) k) (u .values) k (getD (u .values) k 0))) u ⌝ }
 {
     let own = k + 1;
     let values = u.values;
     let paid = costs::stream_cost_with(stream, values, own, values[k as usize]);
-    unit::in_range_paid(own, n, sizes, paid, u)
+    unit::in_range_paid(own, n, sizes, costs::as_number(paid), u)
 }
 
 // The message at the cell goes to its receiver, and what that unit sends is added at the end.

@@ -4,7 +4,7 @@
 -- Units count from 0 here: unit k is 01's unit k + 1. A prefix of k units is the list of their values, the LAST unit's first, so
 -- `v ∷ b` is the prefix b with the value v of unit `length b` behind it. A value is its place, from 1, in the order tried.
 -- Assumes nothing.
-use Prim.Native.Nat.{ℕ, suc, _-_, _≤_, _<_}
+use Prim.Native.Nat.{ℕ, suc, _-_, _≤_}
 use mathlib.Core.Path.{_≡_, refl}
 use mathlib.Core.Logic.{_⊎_, inl, inr}
 use mathlib.Core.List.{List, []}
@@ -18,13 +18,13 @@ pub use Rattle.costs.specs.Bounds.{prefixCount}
 pub use Rattle.costs.specs.Problem.{Problem, InDomains, Full, Closed, Laws, closed-mono, closed-by-values, closed-full, closed-least}
 
 module _ (P : Problem) where
-  -- a bound is none, or the total of its assignment and below none
+  -- a bound is none, or the total of its assignment, which is permitted
   abbrev pub ValidBound : ℕ → List ℕ → Type 0
-  ValidBound B l = ((B ≡ NONE) × (l ≡ [])) ⊎ ((B ≡ P .cost l) × Full P l × (B < NONE))
+  ValidBound B l = ((B ≡ NONE) × (l ≡ [])) ⊎ ((B ≡ P .cost l) × Full P l)
 
   pub valid-le-none : {B : ℕ} (l : List ℕ) → ValidBound B l → B ≤ NONE
   valid-le-none l (inl h) = omega (arith, h .0)
-  valid-le-none l (inr h) = omega (arith, h .2)
+  valid-le-none l (inr h) = omega (arith, h .0, h .1 .2)
 
   -- 01: "N is d(1) + d(1) × d(2) + .. up to d(1) × .. × d(n-1); 0 for n = 1"
   abbrev pub N : ℕ

@@ -3,7 +3,7 @@ use Rattle.base.specs.Library.{ℕ, suc, _*_, _/_, Bool, cond, not, _&&_, List,
 use Rattle.base.specs.{declared.Length.Length, Bytes.u16At, Every.every, Limits.pairLimit, Limits.streamSize, Shape.shapeGood}
 use lib.IntN.{ℤ, pos, negsuc, _-ℤ_}
 use Rattle.table.specs.File.{answer, leaves}
-use Rattle.costs.specs.{Instance.Instance, Instance.domIn, Streamed.streamFor}
+use Rattle.costs.specs.{declared.Cost.the-variants.Of, Instance.Instance, Instance.domIn, Streamed.streamFor}
 
 -- ---- readings
 
@@ -40,9 +40,9 @@ inLots cost u v = cond (eqb u v) cost 0
 
 -- ---- the table
 
--- n lines with their numbers of lots; the cost of lot u of line i with lot v of a later line j
+-- n lines with their numbers of lots; the cost of lot u of line i with lot v of a later line j, never forbidden
 unfoldable pub linesOf : ℕ → List ℕ → List ℕ → Instance
-linesOf n sizes readings = record { n = n; dom = domIn n sizes; cost = λ i u j v. inLots (gapCost (gap (readingAt readings i) (readingAt readings j))) u v }
+linesOf n sizes readings = record { n = n; dom = domIn n sizes; cost = λ i u j v. Of (inLots (gapCost (gap (readingAt readings i) (readingAt readings j))) u v) }
 
 -- 02: "Readings other than one a line are 6. A reading out of range is 17, found after 5 and 6 and before any cost is made; 13 comes last."
 unfoldable pub readingsRefusal : ℕ → List ℕ → List ℕ → ℕ → ℕ

@@ -19,6 +19,7 @@ use Rattle.base.specs.Shape.{isValue, shapeGood}
 use Rattle.base.specs.Shape.Laws.{shape-n, shape-size}
 use Rattle.table.specs.Stream.{Accepted}
 use Rattle.table.specs.StreamLaws.{accepted-most}
+use Rattle.costs.specs.declared.Cost.the-variants.{Of}
 use Rattle.costs.specs.Instance.{domIn, instanceOf}
 use Rattle.costs.specs.Laws.{Sound}
 use Rattle.costs.specs.Lent.Steps.{dom-at, dom-past-count}
@@ -69,7 +70,7 @@ module _ (n : ℕ) (sizes readings : List ℕ) (good : shapeGood n sizes ≡ tru
 
   -- and its costs are those of the gaps
   pub lines-cost : (i u j v : ℕ) → i < j → j < n → isValue (domIn n sizes i) u ≡ true → isValue (domIn n sizes j) v ≡ true
-      → instanceOf (streamFor (linesOf n sizes readings)) .cost i u j v ≡ inLots (gapCost (gap (readingAt readings i) (readingAt readings j))) u v
+      → instanceOf (streamFor (linesOf n sizes readings)) .cost i u j v ≡ Of (inLots (gapCost (gap (readingAt readings i) (readingAt readings j))) u v)
   unfolding linesOf
   lines-cost = stream-cost (linesOf n sizes readings) lines-sound no-more
 

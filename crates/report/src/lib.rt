@@ -9,7 +9,7 @@ ghost use Rattle.report.specs.Report.{fileRefusal, settleRefusal};
 ghost use Rattle.report.specs.Report.Laws.{refusalBy};
 
 // Prints the least total of a file's table, then each unit's value in the first assignment that has it, or `refused` and the number,
-// which it gives too.
+// which it gives too. Where no assignment is permitted the total is the word none, and the values are 0.
 pub fn print_search(file: &[u8]) -> u8
     ensures { λ r. ⌜ r ≡ fileRefusal searchRefusal (now (file .entry)) ⌝ }
 {
@@ -59,11 +59,9 @@ fn print_found(stream: &[u8]) -> u8
         refuse(refusal);
         return refusal;
     }
-    io::write_all(STDOUT_FILENO, b"total ");
-    io::print_decimal(STDOUT_FILENO, found.total as u64);
-    io::write_all(STDOUT_FILENO, b"\n");
+    print_total(found.total);
     let values = found.values;
-    list(values);
+    list(base::byte_at(stream, 0), values);
     refusal
 }
 
@@ -79,22 +77,20 @@ fn print_run(stream: &[u8]) -> u8
         return refusal;
     }
     let net = answer.network;
-    print_network(net);
+    print_network(base::byte_at(stream, 0), net);
     refusal
 }
 
-// Prints what unit 1 reports, then records and accepted deliveries; gives the total.
-pub fn print_network(net: Network) -> u32
+// Prints what unit 1 of n reports, then records and accepted deliveries; gives the total.
+pub fn print_network(n: u8, net: Network) -> u32
     ensures { λ r. ⌜ r ≡ unitAt (net .core .units) 0 .bound ⌝ }
 {
     let core = net.core;
     let first = core.units[0];
     let total = first.bound;
-    io::write_all(STDOUT_FILENO, b"total ");
-    io::print_decimal(STDOUT_FILENO, wide(total));
-    io::write_all(STDOUT_FILENO, b"\n");
+    print_total(total);
     let best = first.best;
-    list(best);
+    list(n, best);
     io::write_all(STDOUT_FILENO, b"records ");
     let records = core.records;
     print_count(records);
@@ -105,8 +101,15 @@ pub fn print_network(net: Network) -> u32
     total
 }
 
-fn wide(x: u32) -> u64 {
-    x as u64
+// The line of a total. 02: "The listing then has the word none".
+fn print_total(total: u32) {
+    io::write_all(STDOUT_FILENO, b"total ");
+    if total == base::NONE {
+        io::write_all(STDOUT_FILENO, b"none");
+    } else {
+        io::print_decimal(STDOUT_FILENO, total as u64);
+    }
+    io::write_all(STDOUT_FILENO, b"\n");
 }
 
 // A count, whole.
@@ -117,11 +120,12 @@ fn print_count(c: Count) {
     io::write_all(STDOUT_FILENO, &text[start..]);
 }
 
-// A line for each unit; places past the last unit are 0.
-fn list(values: [u8; 16]) {
+// A line for each of n units.
+fn list(n: u8, values: [u8; 16]) {
+    let count = base::wide(n);
     let mut k = 0;
     while k < 16 {
-        if values[k] != 0 {
+        if k < count {
             say(k as u64 + 1, values[k]);
         }
         k += 1;

@@ -1,6 +1,7 @@
 -- Laws of a unit, over the definitions alone. 01's promises that every run rests on:
 --     Views, Filled, Stamps     a view in range; places filled; the order of stamps
 --     Range                     a state in range, as facts
+--     Forbidden                 what is forbidden is passed over, or out of range; an estimate of NONE makes a unit assign
 --     Packets                   what each plan sends can be written (`Sendable`), at most 16 packets
 --     Assign, Steps             a unit in range takes any message that reads well, stays in range, and sends what can be written; so does making
 --     Bounds                    a stale message changes nothing; the bound never rises; unit n keeps no CPA
@@ -14,6 +15,7 @@ pub mod Views
 pub mod Stamps
 pub mod Filled
 pub mod Range
+pub mod Forbidden
 pub mod Packets
 pub mod Assign
 pub mod Steps

@@ -6,7 +6,7 @@
 -- Places count from 0: place k of an array is unit k + 1's; numbers of units (`own`) count from 1. Assumes nothing.
 use Rattle.base.specs.Library.{ℕ, zero, suc, pred, _-_, Bool, true, false, cond, _&&_, List, [], ltb, leb, eqb, getD, replicate}
 use Rattle.base.specs.{Limits.NONE, Limits.estimateLimit, Limits.prefixLimit, Every.every}
-use Rattle.costs.specs.{Instance.View, Bounds.costWith}
+use Rattle.costs.specs.{Cost.asNumber, Instance.View, Bounds.costWith}
 use Rattle.message.specs.Message.{isUnit, filledTo, noneOrBound}
 use Rattle.rules.specs.{declared.Unit.Unit, declared.Ordering.Ordering, declared.Ordering.the-variants.Less, declared.Ordering.the-variants.Equal, declared.Ordering.the-variants.Greater}
 
@@ -55,9 +55,10 @@ withStopped z u = unit (u .threshold) (u .bound) (u .best) (u .estimates) (u .st
 abbrev pub ownValue : View → Unit → ℕ
 ownValue w u = getD (u .values) (w .place) 0
 
--- 01: "the own value's costs": with the values of the units before
+-- 01: "the own value's costs": with the values of the units before. 02, job 3: "A lent paper whose own value is barred with a filled one is out of
+-- range": what is forbidden counts as NONE, which no paper costs
 abbrev pub ownCost : View → Unit → ℕ
-ownCost w u = costWith w (u .values) (w .place) (ownValue w u)
+ownCost w u = asNumber (costWith w (u .values) (w .place) (ownValue w u))
 
 -- 01: "the values after the current one, ascending": the next one, and how many there are
 abbrev pub next : ℕ → ℕ

@@ -8,7 +8,7 @@
 -- Places count from 0: the unit at place k is 01's unit i = k + 1. Assumes nothing.
 use Rattle.base.specs.Library.{ℕ, zero, suc, _+_, _-_, Bool, true, false, cond, _&&_, _||_, List, [], _∷_, ltb, leb, eqb, getD, set, take}
 use Rattle.base.specs.Sums.{sumFrom}
-use Rattle.costs.specs.{Instance.View, Bounds.costWith, Bounds.h, Bounds.estimate}
+use Rattle.costs.specs.{declared.Cost.the-variants.Of, Cost._⊕_, Cost.below, Cost.asNumber, Instance.View, Bounds.costWith, Bounds.h, Bounds.estimate}
 use Rattle.message.specs.{declared.Message.Message, declared.Kind.Kind, Message.noMessage}
 use Rattle.message.specs.declared.Kind.the-variants.{Cpa, Request, Estimate, Solution, Stop}
 use Rattle.rules.specs.{declared.Unit.Unit, declared.Ordering.Ordering, declared.Sending.Sending}
@@ -84,13 +84,14 @@ afterWrite w true u again = recorded (recordOf w u) (again true (takeOff w (with
 afterWrite w false u again = accepted u (record { plan = Forward; improved = false; message = carried w u }) (recordOf w u ∷ [])
 
 -- 01: "Try the values after the current one, ascending. The first with cost + h(v) below the bound is written": m values after v are left,
--- the own value is off. "No value: back up."
+-- the own value is off. "No value: back up." 02, job 3: what is forbidden is below no bound, so a value barred with a filled one, or with no h,
+-- "can't be written, even with no bound".
 unfoldable pub tryAfter : View → ℕ → ℕ → Bool → Unit → Decision
 tryAfter w zero v improved u = backtrack w improved u
 tryAfter w (suc m) v improved u =
     let x = next v in
-    let c = u .cost + costWith w (u .values) (w .place) x in
-    cond (ltb (c + h w x) (u .bound)) (afterWrite w (eqb (suc (w .place)) (w .n)) (write w x c u) (λ (b : Bool) (t : Unit). tryAfter w m x b t)) (tryAfter w m x improved u)
+    let c = Of (u .cost) ⊕ costWith w (u .values) (w .place) x in
+    cond (below (c ⊕ h w x) (u .bound)) (afterWrite w (eqb (suc (w .place)) (w .n)) (write w x (asNumber c) u) (λ (b : Bool) (t : Unit). tryAfter w m x b t)) (tryAfter w m x improved u)
 
 -- 01: "Clear estimates; if the paper has no own value the counter becomes 0."
 abbrev pub begun : View → Unit → Unit
@@ -133,12 +134,12 @@ onCpa w u m =
 
 -- ---- 01: "Copy"
 
--- 01: "Reply with the least .., carrying the copy's stamp"
+-- 01: "Reply with the least .., carrying the copy's stamp". 02, job 3: "An estimate with no value left carries 4,294,967,295"
 abbrev pub reply : View → Message → Sending
 reply w m = record {
   plan = Reply;
   improved = false;
-  message = record { sender = suc (w .place); receiver = m .sender; stamp = m .stamp; values = zeros; cost = estimate w (m .values) (m .sender); bound = 0; best = zeros };
+  message = record { sender = suc (w .place); receiver = m .sender; stamp = m .stamp; values = zeros; cost = asNumber (estimate w (m .values) (m .sender)); bound = 0; best = zeros };
 }
 
 -- 01: "Smaller: stale; bigger sets the threshold."
@@ -153,7 +154,8 @@ onRequest w u m = onFresh w (compareOn (w .place) (m .stamp) (u .threshold)) u m
 
 -- ---- 01: "Estimate"
 
--- 01: "if paper cost plus the estimates of units i+1 to n reaches the bound, assign"
+-- 01: "if paper cost plus the estimates of units i+1 to n reaches the bound, assign". 02, job 3: an estimate of 4,294,967,295 reaches every bound,
+-- none too: "the box it reaches .. then assigns", which clears the estimates
 abbrev pub onOwnEstimate : View → Bool → Unit → Decision
 onOwnEstimate w true u = cond (leb (u .bound) (u .cost + sumFrom (λ (j : ℕ). getD (u .estimates) j 0) (suc (w .place)) (w .n - suc (w .place)))) (assign w u) (quiet u)
 onOwnEstimate w false u = refused 11

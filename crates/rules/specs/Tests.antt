@@ -1,9 +1,9 @@
 -- Parts of a step that its proofs speak of: small ones, and each test with what either answer leads to. Nobody has to believe these: Step has
 -- the same.
 -- Assumes nothing.
-use Rattle.base.specs.Library.{ℕ, suc, _+_, _-_, Bool, false, cond, List, eqb, getD, set}
+use Rattle.base.specs.Library.{ℕ, suc, _-_, Bool, false, cond, List, eqb, getD, set}
 use Rattle.base.specs.Sums.{sumFrom}
-use Rattle.costs.specs.{Instance.View, Bounds.costWith}
+use Rattle.costs.specs.{declared.Cost.Cost, declared.Cost.the-variants.Of, declared.Cost.the-variants.Forbidden, Cost._⊕_, Cost.below, Instance.View, Bounds.costWith, Bounds.h}
 use Rattle.message.specs.{declared.Message.Message, declared.Kind.Kind, Message.noMessage}
 use Rattle.rules.specs.{declared.Unit.Unit, declared.Sending.Sending, declared.Plan.the-variants.Nothing, State.withBest, State.withEstimates, State.compareOn}
 use Rattle.rules.specs.Step.{Decision, refused, quiet, takeBound, takeOff, backtrack, write, afterWrite, assign, resume, onDown, onBack, byKind}
@@ -17,8 +17,12 @@ abbrev pub isLast : View → Bool
 isLast w = eqb (suc (w .place)) (w .n)
 
 -- the cost with own value v
-abbrev pub costAt : View → ℕ → Unit → ℕ
-costAt w v u = u .cost + costWith w (u .values) (w .place) v
+abbrev pub costAt : View → ℕ → Unit → Cost
+costAt w v u = Of (u .cost) ⊕ costWith w (u .values) (w .place) v
+
+-- the same where that and h are below the bound, else forbidden
+abbrev pub costBelow : View → ℕ → Unit → Cost
+costBelow w v u = cond (below (costAt w v u ⊕ h w v) (u .bound)) (costAt w v u) Forbidden
 
 -- the estimates of units i+1 to n, added up
 abbrev pub sumLater : View → List ℕ → ℕ

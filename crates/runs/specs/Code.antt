@@ -21,6 +21,7 @@ use Rattle.base.specs.Limits.{poolCells, poolSize, sendingSize, messageSize, co
 use Rattle.table.specs.Stream.{unitsOf, streamRefusal, Accepted}
 use Rattle.table.specs.StreamLaws.{accepted-units}
 use Rattle.costs.specs.Instance.{viewOf, instanceOf}
+use Rattle.costs.specs.Cost.{asNumber}
 use Rattle.costs.specs.Bounds.{costWith}
 use Rattle.base.specs.declared.Length.{Length}
 use Rattle.costs.specs.Gather.{sizesIn, gatherOf, gatherInto}
@@ -62,7 +63,7 @@ unitInRange s us k = inRange (sizesIn s) (viewOf (instanceOf s) k) (unitAt us k)
 
 -- by what its own value pays
 pub range-of-paid : (s : List ℕ) (us : List UnitState) (k : ℕ) (u : UnitState) (v paid : ℕ) → u ≡ unitAt us k → v ≡ getD (u .values) k 0
-    → paid ≡ costWith (viewOf (instanceOf s) k) (u .values) k v → paidInRange (unitsOf s) (sizesIn s) (suc k) paid u ≡ unitInRange s us k
+    → paid ≡ asNumber (costWith (viewOf (instanceOf s) k) (u .values) k v) → paidInRange (unitsOf s) (sizesIn s) (suc k) paid u ≡ unitInRange s us k
 unfolding inRange instanceOf
 range-of-paid s us k u v paid unit own pays = rw (pays, own, unit)
 

@@ -8,7 +8,7 @@
 --     Demand3                       two runs of one table
 use Rattle.base.specs.Library.{ℕ, _+_, _*_, _-_, _≤_, _≡_, _⊎_, Bool, true, false, cond, List, [], _∷_, _++_, map, eqb, length, take}
 use Rattle.base.specs.Limits.{messageSize}
-use Rattle.costs.specs.{Instance.Instance, Instance.instanceOf, Bounds.Assignment, Bounds.total, Bounds.N}
+use Rattle.costs.specs.{Instance.Instance, Instance.instanceOf, Bounds.Reported, Bounds.N}
 use Rattle.message.specs.{Message.Packet, Written.encode}
 use Rattle.rules.specs.{Send.encodeAll, Units.unitAt, Units.Distinct}
 use Rattle.runs.specs.{declared.Network.Network, Count.valueOf, Pool.cellOf, Run.History, Run.run, Run.written, Calls.Result, Calls.makeOf, Calls.deliverOf}
@@ -109,10 +109,8 @@ pub record Served (stream pool cells : List ℕ) : Type 0 where
   pub waits : over (runBytes stream pool cells) ≡ false → 1 ≤ runBytes stream pool cells .network .used
   -- and one of them can be delivered: the pool never refuses all by 14
   pub progress : over (runBytes stream pool cells) ≡ false → (cell : ℕ) × (refusalAt stream (runBytes stream pool cells) cell ≡ 0)
-  -- once stopped it reports the least total, with an assignment that totals just that
-  pub full : over (runBytes stream pool cells) ≡ true → Assignment (instanceOf stream) (reportOf (runBytes stream pool cells) .assignment)
-  pub sum : over (runBytes stream pool cells) ≡ true → total (instanceOf stream) (reportOf (runBytes stream pool cells) .assignment) ≡ reportOf (runBytes stream pool cells) .total
-  pub least : over (runBytes stream pool cells) ≡ true → (l : List ℕ) → Assignment (instanceOf stream) l → reportOf (runBytes stream pool cells) .total ≤ total (instanceOf stream) l
+  -- once stopped it reports the least total, with an assignment that totals just that, or none where there is no assignment
+  pub reported : over (runBytes stream pool cells) ≡ true → Reported (instanceOf stream) (reportOf (runBytes stream pool cells) .total) (reportOf (runBytes stream pool cells) .assignment)
   -- what accepted deliveries handed over was sent, every message at most once
   pub handed : (t : Packet → Bool) → times t (run (instanceOf stream) cells .handed) + times t (run (instanceOf stream) cells .waiting) ≡ times t (run (instanceOf stream) cells .sent)
   -- these messages, in this order, are the bytes that were handed over

@@ -7,7 +7,6 @@ use mathlib.Core.Logic.{_⊎_, inl, inr}
 use mathlib.Core.Bool.{Bool, true, false, cond}
 use mathlib.Core.List.{List, [], _∷_, _++_, append-nil, append-assoc, map}
 use native.Mathlib.Omega.{arith}
-use native.Mathlib.Nat.{le-antisymm}
 use lib.Dec.{eqb}
 use lib.ListN.{length, length-append, length-map, replicate}
 use Rattle.base.specs.Limits.{poolCells}
@@ -15,6 +14,8 @@ use Rattle.base.specs.Members.{In}
 use Rattle.base.specs.Members.Laws.{not-in-nil}
 use borrow.Author.Tests.{eq-eqb}
 use Rattle.table.specs.Stream.{Accepted}
+use Rattle.costs.specs.Bounds.{Reported}
+use Rattle.costs.specs.Laws.Prefix.{reported-same}
 use Rattle.costs.specs.Instance.{instanceOf}
 use Rattle.costs.specs.Laws.{problemOf}
 use Rattle.costs.specs.Laws.Stream.{sound-of}
@@ -27,7 +28,7 @@ use Rattle.protocol.specs.Demand3 as D
 use Rattle.protocol.specs.Theorem as T
 use Rattle.protocol.specs.Oldest.Run as O
 use Rattle.protocol.specs.Simulation.Units.{read-length}
-use Rattle.protocol.specs.Simulation.Report.{Reports, reports}
+use Rattle.protocol.specs.Simulation.Report.{reports}
 use Rattle.runs.specs.Count.{valueOf}
 use Rattle.runs.specs.Pool.{cellOf}
 use Rattle.runs.specs.Run as R
@@ -162,9 +163,7 @@ module _ (s pool : List ℕ) (made : Made s pool) where
         progress = λ e.
             let p = T.progress (problemOf (instanceOf s)) (laws s ok) (sound-of s ok .n1) poolCells (T.enough-room (problemOf (instanceOf s)) (laws s ok) (sound-of s ok .n1) (sound-of s ok .n16)) cs (sym (over-is cs) ∙ e) in
             (p .0, accepted-by cs (p .0) (p .1));
-        full = λ e. report e .full;
-        sum = λ e. report e .sum;
-        least = λ e. report e .least;
+        reported = report;
         handed = i .balanced;
         taken = taken cs;
         records = i .core .records;
@@ -186,9 +185,9 @@ module _ (s pool : List ℕ) (made : Made s pool) where
           not-empty [] m j = absurd (not-in-nil j)
           not-empty (x ∷ l) m j = omega arith
 
-      report : over (runBytes s pool cs) ≡ true → Reports (instanceOf s) (unitAt (runBytes s pool cs .network .core .units) 0)
+      report : over (runBytes s pool cs) ≡ true → Reported (instanceOf s) (reportOf (runBytes s pool cs) .total) (reportOf (runBytes s pool cs) .assignment)
       report e =
-          subst (Reports (instanceOf s)) (sym (unit-is cs))
+          subst (λ (u : UnitState). Reported (instanceOf s) (u .bound) (u .best)) (sym (unit-is cs))
           (reports (instanceOf s) (sound-of s ok) (unitAt (run (instanceOf s) cs .units) 0) (machine cs .units 0) (i .core .matches .units 0 (sound-of s ok .n1)) (d .report (sym (over-is cs) ∙ e))
           (i .kept .network .safe 0 (sound-of s ok .n1) .stop refl (sym (over-is cs) ∙ e)))
 
@@ -213,13 +212,15 @@ module _ (s pool : List ℕ) (made : Made s pool) where
 
 -- DEMAND 3: for every table that making accepts, any two pools, and any two lists of cells.
 pub demand3 : (s pool pool′ : List ℕ) → Made s pool → Made s pool′ → (cells cells′ : List ℕ) → Demand3 s pool cells pool′ cells′
-demand3 s pool pool′ made made′ cells cells′ = record { one = one; other = other; agree = λ e e′. le-antisymm (half one other e e′) (half other one e′ e) }
+demand3 s pool pool′ made made′ cells cells′ =
+    record {
+      one = one;
+      other = other;
+      agree = λ e e′. reported-same (instanceOf s) _ _ _ _ (one .reported e) (other .reported e′);
+    }
   where
     one : Served s pool cells
     one = served s pool made cells
 
     other : Served s pool′ cells′
     other = served s pool′ made′ cells′
-
-    half : {p q cs ds : List ℕ} → Served s p cs → Served s q ds → over (runBytes s p cs) ≡ true → over (runBytes s q ds) ≡ true → reportOf (runBytes s p cs) .total ≤ reportOf (runBytes s q ds) .total
-    half {p} {q} {cs} {ds} a b e e′ = subst (λ x. reportOf (runBytes s p cs) .total ≤ x) (b .sum e′) (a .least e (reportOf (runBytes s q ds) .assignment) (b .full e′))

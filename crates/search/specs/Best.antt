@@ -1,16 +1,17 @@
 -- The exhaustive search. 01: "The bench search goes unit by unit, each choice handing on to the next unit's, and gives the least total
--- with its first lotting in ascending order." Every full assignment is totalled on its own here; the code carries the cost of what is chosen.
+-- with its first lotting in ascending order." Every choice of all values is totalled on its own here; the code carries the cost of what is chosen
+-- and goes no further where that is forbidden.
 -- Nobody has to believe it: that the answer is the one that specs/Least describes, and no other, is in specs/Laws. Assumes nothing.
 use Rattle.base.specs.Library.{ℕ, zero, suc, cond, List, ltb, set, replicate}
 use Rattle.base.specs.Limits.{NONE}
-use Rattle.costs.specs.{Instance.Instance, Bounds.total}
+use Rattle.costs.specs.{Instance.Instance, Cost.asNumber, Bounds.total}
 use Rattle.search.specs.declared.Best.{Best}
 
--- no assignment yet
+-- no assignment yet. 02: "*none* with best all zero"
 abbrev pub nothing : Best
 nothing = record { values = replicate 16 0; total = NONE }
 
--- the assignment l, which totals t, takes b's place only where t is lower: the first of equal totals stays
+-- the values l, which total t, take b's place only where t is lower: the first of equal totals stays
 abbrev pub keep : Best → ℕ → List ℕ → Best
 keep b t l = cond (ltb t (b .total)) (record { values = l; total = t }) b
 
@@ -20,9 +21,10 @@ inTurn f v zero a = a
 inTurn f v (suc d) a = inTurn f (suc v) d (f v a)
 
 -- The best of b and of the assignments that begin with the first k values of l, where `left` units come after these:
--- each value of unit k, ascending, with the best of the units after it.
+-- each value of unit k, ascending, with the best of the units after it. 02: "A lotting with a barred pair isn't a lotting": its total counts as
+-- NONE, and so is never lower.
 unfoldable pub bestFrom : Instance → ℕ → ℕ → List ℕ → Best → Best
-bestFrom I zero k l b = keep b (total I l) l
+bestFrom I zero k l b = keep b (asNumber (total I l)) l
 bestFrom I (suc left) k l b = inTurn (λ (v : ℕ) (a : Best). bestFrom I left (suc k) (set l k v) a) 1 (I .dom k) b
 
 -- over all of them

@@ -1,5 +1,5 @@
--- What the answer of the search is: the least total with its first assignment in ascending order where it isn't refused, and only the number
--- where it is. Each by taking the definition's tests apart; the rest is in Least.
+-- What the answer of the search is: the least total with its first assignment in ascending order, or NONE, where it isn't refused, and only the
+-- number where it is. Each by taking the definition's tests apart; the rest is in Least.
 -- Assumes nothing.
 use Prim.Native.Nat.{ℕ, _≤_}
 use mathlib.Core.Path.{_≡_, refl, sym, _∙_}
@@ -64,7 +64,7 @@ module _ (s : List ℕ) where
     unfolding searchOf
     search-found = rw (eq-eqb (searchRefusal s) 0 h)
 
-    -- the reported assignment is full and totals what is reported; every full one totals at least that, and each before it more
+    -- an assignment that totals what is reported, every one at least that and each before it more; or NONE, with no assignment
     pub search-least-first : LeastFirst (instanceOf s) (searchOf s .total) (searchOf s .values)
     search-least-first = rw search-found (best-least-first (instanceOf s) (sound-of s (searched h .0)))
 

@@ -1,4 +1,5 @@
--- What the exhaustive search gives. 01: ".. gives the least total with its first lotting in ascending order."
+-- What the exhaustive search gives. 01: ".. gives the least total with its first lotting in ascending order." 02: "If no lotting remains, stop and
+-- bench give *none* with best all zero."
 -- specs/Least says of the answer, without the search, which one it is; specs/Best is the search. Assumes nothing.
 use Rattle.base.specs.Library.{ℕ, cond, List, ltb, eqb, replicate}
 use Rattle.base.specs.Limits.{searchLimit}
@@ -6,7 +7,7 @@ use Rattle.table.specs.Stream.{streamRefusal}
 use Rattle.costs.specs.{Instance.Instance, Instance.instanceOf, Bounds.prefixCount}
 use Rattle.search.specs.{declared.Found.Found, Best.bestOf}
 
--- how many assignments there are
+-- how many there are by the domain sizes alone. 02: "The bench counts barred lottings among its 1,048,576."
 abbrev pub assignmentCount : Instance → ℕ
 assignmentCount I = prefixCount (I .dom) (I .n)
 

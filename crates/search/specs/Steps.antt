@@ -11,24 +11,28 @@ use native.Mathlib.Numerals.{add-one}
 use lib.Dec.{eqb, ltb}
 use lib.ListN.{length, getD, set, length-set}
 use lib.Seq.{getD-set-same, getD-set-other}
-use borrow.Author.Tests.{lt-ltb, le-ltb, eqb-true, eqb-false}
-use Rattle.base.specs.Limits.{pairLimit, totalLimit, searchLimit, streamSize}
+use borrow.Author.Tests.{lt-ltb, le-ltb, ne-eqb, eqb-true, eqb-false}
+use Rattle.base.specs.Limits.{NONE, pairLimit, forbiddenPair, totalLimit, searchLimit, streamSize}
 use Rattle.base.specs.Bytes.{u16At}
 use Rattle.base.specs.Sums.{sumFrom}
 use Rattle.table.specs.Stream.{unitsOf, Accepted}
 use Rattle.table.specs.StreamLaws.{accepted-units, accepted-length, accepted-most}
+use Rattle.costs.specs.declared.Cost.the-variants.{Of, Forbidden}
+use Rattle.costs.specs.Cost.{_⊕_, pairCost}
+use Rattle.costs.specs.Cost.Laws.{most-is}
 use Rattle.costs.specs.Instance.{Instance, instanceOf, viewOf, pairStart, inPair, domOf}
 use Rattle.costs.specs.Bounds.{costWith, total, prefixCount}
 use Rattle.costs.specs.Gather.Steps.{size-some}
 use Rattle.base.specs.Shape.Laws.{range-value}
-use Rattle.costs.specs.Lent.Steps.{cost-more}
+use Rattle.costs.specs.Lent.Steps.{cost-more, cost-forbidden}
 use Rattle.costs.specs.Laws.{costOf, full-limit}
 use Rattle.base.specs.Sums.Laws.{sumFrom-last}
-use Rattle.costs.specs.Laws.Prefix.{pre, length-pre, pre-set-next, pair-before, cost-next, total-prefix}
+use Rattle.costs.specs.Laws.Prefix.{pre, length-pre, pre-set, pre-set-next, pair-before, cost-next, total-prefix}
 use Rattle.costs.specs.Laws.Stream.{instance-units, instance-dom, cost-number-at, sound-of, pair-costs}
 use Rattle.search.specs.declared.Best.{Best}
 use Rattle.search.specs.Search.{assignmentCount}
 use Rattle.search.specs.Best.{keep, inTurn, bestFrom}
+use Rattle.search.specs.Least.Picked.{best-picks}
 
 -- ---- where the costs of a pair begin
 
@@ -54,7 +58,7 @@ pub record Extending (s : List ℕ) (starts : List ℕ) (left level cost : ℕ) 
   pub units : level + left ≡ unitsOf s
   pub most : level + left ≤ 16
   pub values : Within (instanceOf s) level chosen
-  pub costs : cost ≡ costOf (instanceOf s) (pre level chosen)
+  pub costs : Of cost ≡ costOf (instanceOf s) (pre level chosen)
   pub small : cost ≤ totalLimit
 
 -- at one value v of the next unit, which has d
@@ -102,9 +106,27 @@ best-of-values I (suc left) k d l b h e =
     (ap (λ (m : ℕ). inTurn (λ (v : ℕ) (a : Best). bestFrom I m (suc k) (set l k v) a) 1 (I .dom k) b) (sym q)
     ∙ ap (λ (m : ℕ). inTurn (λ (v : ℕ) (a : Best). bestFrom I (suc left - 1) m (set l k v) a) 1 (I .dom k) b) (sym (add-one k)))
 
-pub best-full : (I : Instance) (left k : ℕ) (l : List ℕ) (b : Best) (cost : ℕ) → left ≡ 0 → cost ≡ total I l → keep b cost l ≡ bestFrom I left k l b
+pub best-full : (I : Instance) (left k : ℕ) (l : List ℕ) (b : Best) (cost : ℕ) → left ≡ 0 → Of cost ≡ total I l → keep b cost l ≡ bestFrom I left k l b
 unfolding bestFrom
-best-full I left k l b cost e t = rw (e, t)
+best-full I left k l b cost e t = rw (e, ← t)
+
+-- ---- values that are forbidden with those before them are passed over
+
+in-turn-same : {A : Type 0} (f : ℕ → A → A) (v d : ℕ) (a : A) → ((u : ℕ) → f u a ≡ a) → inTurn f v d a ≡ a
+unfolding inTurn
+in-turn-same f v zero a e = refl
+in-turn-same f v (suc d) a e = rw (e v) (in-turn-same f (suc v) d a e)
+
+-- what begins with forbidden values counts as NONE, and so is never lower
+pub best-forbidden : (I : Instance) (left k : ℕ) (l : List ℕ) (b : Best) → k + left ≡ I .n → costOf I (pre k l) ≡ Forbidden → b .total ≤ NONE → bestFrom I left k l b ≡ b
+unfolding bestFrom
+best-forbidden I zero k l b n e most =
+    let q : k ≡ I .n = omega arith in
+    let t : total I l ≡ Forbidden = total-prefix I l ∙ rw (← q) e in
+    rw (t, le-ltb NONE (b .total) most)
+best-forbidden I (suc left) k l b n e most =
+    in-turn-same (λ (v : ℕ) (a : Best). bestFrom I left (suc k) (set l k v) a) 1 (I .dom k) b
+    (λ v. best-forbidden I left (suc k) (set l k v) b (omega arith) (rw (pre-set k k l v (omega arith), e)) most)
 
 -- ---- the cost of a value with those before it
 
@@ -114,39 +136,38 @@ dom-of s k h = size-some s k h ∙ sym (ap (λ (f : ℕ → ℕ). f k) (instance
 -- a pair's cost, at its place in the stream
 module _ (s : List ℕ) where
   cost-at : (i k u v : ℕ) → i < k → k < unitsOf s → 1 ≤ u → u ≤ domOf s i → 1 ≤ v → v ≤ domOf s k
-      → instanceOf s .cost i u k v ≡ u16At s (startAt s i k + 2 * ((u - 1) * domOf s k + (v - 1)))
+      → instanceOf s .cost i u k v ≡ pairCost (u16At s (startAt s i k + 2 * ((u - 1) * domOf s k + (v - 1))))
   unfolding instanceOf
   cost-at i k u v a b u1 ud v1 vd =
       let m : ℕ = pairStart (domOf s) (unitsOf s) i k + inPair (domOf s k) u v in
       let e : 1 + unitsOf s + 2 * m ≡ startAt s i k + 2 * inPair (domOf s k) u v = omega arith in
-      simp (lt-ltb i k a, lt-ltb k (unitsOf s) b, range-value (domOf s i) u u1 ud, range-value (domOf s k) v v1 vd) (cost-number-at s m ∙ ap (λ (p : ℕ). u16At s p) e)
+      simp (lt-ltb i k a, lt-ltb k (unitsOf s) b, range-value (domOf s i) u u1 ud, range-value (domOf s k) v v1 vd) (ap pairCost (cost-number-at s m ∙ ap (λ (p : ℕ). u16At s p) e))
 
-module _ {s starts : List ℕ} {k d v : ℕ} {l : List ℕ} (x : Adding s starts k d l v) (i : ℕ) (h : i < k) where
-  -- where the cost with the value before stands
-  placeOf : ℕ
-  placeOf = startAt s i k + 2 * ((getD l i 0 - 1) * d + (v - 1))
-
-  pair-read : viewOf (instanceOf s) k .pair i (getD l i 0) v ≡ u16At s placeOf
-  unfolding placeOf
+-- with the value before it at place i, the number of which stands where the code reaches it
+module _ {s starts : List ℕ} {k d v : ℕ} {l : List ℕ} (x : Adding s starts k d l v) (i : ℕ) (h : i < k) (number : ℕ)
+    (read : number ≡ u16At s (getD starts (16 * k + i) 0 + 2 * ((getD l i 0 - 1) * d + (v - 1)))) where
+  pair-read : viewOf (instanceOf s) k .pair i (getD l i 0) v ≡ pairCost number
   pair-read =
       let e : d ≡ domOf s k = x .size ∙ size-some s k (x .inside) in
       let q : instanceOf s .dom i ≡ domOf s i = ap (λ (f : ℕ → ℕ). f i) (instance-dom s) in
+      let start : getD starts (16 * k + i) 0 ≡ startAt s i k = x .filled .at i k h (x .inside) (omega (arith, x .most)) in
       pair-before (instanceOf s) k i (getD l i 0) v h
-      ∙ rw e (cost-at s i k (getD l i 0) v h (x .inside) (x .values i h .0) (omega (arith, x .values i h .1)) (x .v1) (omega (arith, x .vd)))
+      ∙ rw (read, start, e) (cost-at s i k (getD l i 0) v h (x .inside) (x .values i h .0) (omega (arith, x .values i h .1)) (x .v1) (omega (arith, x .vd)))
 
-  -- as the code reaches it
-  place-read : (at : ℕ) → at ≡ getD starts (16 * k + i) 0 + 2 * ((getD l i 0 - 1) * d + (v - 1)) → at ≡ placeOf
-  unfolding placeOf
-  place-read at e = e ∙ rw (x .filled .at i k h (x .inside) (omega (arith, x .most)))
+  -- a forbidden pair
+  pub cost-ends : number ≡ forbiddenPair → Forbidden ≡ costWith (viewOf (instanceOf s) k) l k v
+  cost-ends e = sym (cost-forbidden (viewOf (instanceOf s) k) l i k v h (pair-read ∙ ap pairCost e))
 
-  pub cost-turn : (at : ℕ) → at ≡ getD starts (16 * k + i) 0 + 2 * ((getD l i 0 - 1) * d + (v - 1))
-      → costWith (viewOf (instanceOf s) k) l i v + u16At s at ≡ costWith (viewOf (instanceOf s) k) l (i + 1) v
-  cost-turn at e = sym (cost-more (viewOf (instanceOf s) k) l i v ∙ rw (pair-read, place-read at e))
+  -- a pair that costs a number
+  module _ (other : number ≡ forbiddenPair → ⊥) where
+    pair-number : viewOf (instanceOf s) k .pair i (getD l i 0) v ≡ Of number
+    pair-number = pair-read ∙ rw (ne-eqb number forbiddenPair other)
 
-  pub cost-small : (at : ℕ) → at ≡ getD starts (16 * k + i) 0 + 2 * ((getD l i 0 - 1) * d + (v - 1)) → u16At s at ≤ pairLimit
-  cost-small at e =
-      let q : u16At s at ≡ instanceOf s .cost i (getD l i 0) k v = rw (place-read at e) (sym pair-read ∙ pair-before (instanceOf s) k i (getD l i 0) v h) in
-      rw q (sound-of s (x .accepted) .small i (getD l i 0) k v)
+    pub cost-turn : (sum : ℕ) → Of sum ≡ costWith (viewOf (instanceOf s) k) l i v → Of (sum + number) ≡ costWith (viewOf (instanceOf s) k) l (i + 1) v
+    cost-turn sum e = sym (cost-more (viewOf (instanceOf s) k) l i v ∙ rw (pair-number, ← e))
+
+    pub cost-small : number ≤ pairLimit
+    cost-small = most-is pairLimit number (instanceOf s .cost i (getD l i 0) k v) (sym (pair-before (instanceOf s) k i (getD l i 0) v h) ∙ pair-number) (sound-of s (x .accepted) .small i (getD l i 0) k v)
 
 -- ---- the next choice
 
@@ -176,7 +197,7 @@ extending-first s starts n chosen ok filled units =
 
 module _ {s starts : List ℕ} {left level cost : ℕ} {chosen : List ℕ} (x : Extending s starts left level cost chosen) where
   -- full: its cost is its total
-  pub cost-is-total : left ≡ 0 → cost ≡ total (instanceOf s) chosen
+  pub cost-is-total : left ≡ 0 → Of cost ≡ total (instanceOf s) chosen
   cost-is-total e =
       let n : level ≡ instanceOf s .n = omega (arith, x .units, instance-units s) in
       x .costs ∙ rw n (sym (total-prefix (instanceOf s) chosen))
@@ -188,13 +209,29 @@ module _ {s starts : List ℕ} {left level cost : ℕ} {chosen : List ℕ} (x : 
     pub size-is-dom : d ≡ instanceOf s .dom level
     size-is-dom = size ∙ dom-of s level inside
 
-    module _ (v : ℕ) (v1 : 1 ≤ v) (vd : v ≤ d) where
-      pub extending-next : (more : ℕ) → length chosen ≡ 16 → more ≡ costWith (viewOf (instanceOf s) level) chosen level v
-          → Extending s starts (left - 1) (level + 1) (cost + more) (set chosen level v)
-      extending-next more places e =
+    module _ (v : ℕ) (places : length chosen ≡ 16) where
+      -- what the value hands on is no more than what it was handed
+      pub next-most : (b : Best) → withValue (instanceOf s) left level chosen v b .total ≤ b .total
+      next-most b =
+          let n : instanceOf s .n ≡ unitsOf s = instance-units s in
+          best-picks (instanceOf s) (left - 1) (level + 1) (set chosen level v) b (omega (arith, x .units)) (rw (length-set chosen level v) (omega (arith, x .units, x .most))) .below
+
+      -- the cost with the next value
+      next-cost : costOf (instanceOf s) (pre (level + 1) (set chosen level v)) ≡ Of cost ⊕ costWith (viewOf (instanceOf s) level) chosen level v
+      next-cost =
           let next : pre (level + 1) (set chosen level v) ≡ v ∷ pre level chosen = rw add-one (pre-set-next level chosen v (omega (arith, x .most))) in
-          let whole : cost + more ≡ costOf (instanceOf s) (pre (level + 1) (set chosen level v))
-          = rw (x .costs, e) (cost-next (instanceOf s) level chosen v ∙ ap (λ (b : List ℕ). costOf (instanceOf s) b) (sym next)) in
+          rw (next, x .costs) (sym (cost-next (instanceOf s) level chosen v))
+
+      -- which is forbidden
+      pub forbidden-next : (b : Best) → b .total ≤ NONE → costWith (viewOf (instanceOf s) level) chosen level v ≡ Forbidden → withValue (instanceOf s) left level chosen v b ≡ b
+      forbidden-next b most e =
+          best-forbidden (instanceOf s) (left - 1) (level + 1) (set chosen level v) b (omega (arith, x .units, instance-units s)) (next-cost ∙ rw e) most
+
+      -- or a number
+      pub extending-next : (more : ℕ) → 1 ≤ v → v ≤ d → costWith (viewOf (instanceOf s) level) chosen level v ≡ Of more
+          → Extending s starts (left - 1) (level + 1) (cost + more) (set chosen level v)
+      extending-next more v1 vd e =
+          let whole : costOf (instanceOf s) (pre (level + 1) (set chosen level v)) ≡ Of (cost + more) = next-cost ∙ rw e in
           let n : instanceOf s .n ≡ unitsOf s = instance-units s in
           let p = length-pre (level + 1) (set chosen level v) in
           record {
@@ -203,8 +240,9 @@ module _ {s starts : List ℕ} {left level cost : ℕ} {chosen : List ℕ} (x : 
             units = omega (arith, x .units);
             most = omega (arith, x .most);
             values = within-next (instanceOf s) level v chosen (omega (arith, x .most)) (x .values) v1 (omega (arith, size-is-dom));
-            costs = whole;
-            small = rw whole (full-limit (instanceOf s) (sound-of s (x .accepted)) (pre (level + 1) (set chosen level v)) (omega (arith, x .units)));
+            costs = sym whole;
+            small = most-is totalLimit (cost + more) (costOf (instanceOf s) (pre (level + 1) (set chosen level v))) whole
+                (full-limit (instanceOf s) (sound-of s (x .accepted)) (pre (level + 1) (set chosen level v)) (omega (arith, x .units)));
           }
 
 -- ---- how many assignments

@@ -1,18 +1,20 @@
 // The bench's exhaustive search over the assignments of a stream's table.
 
+use costs::Cost;
 ghost use mathlib.Core.Path.{_≡_};
 ghost use Prim.Native.Nat.{_+_, _*_, _-_, _≤_, _<_};
 ghost use lib.Dec.{ltb};
 ghost use lib.ListN.{getD};
 ghost use Rattle.base.specs.Limits.{pairLimit, searchLimit};
 ghost use Rattle.table.specs.Stream.{unitsOf, Accepted};
+ghost use Rattle.costs.specs.Cost.Laws.{AtMost};
 ghost use Rattle.costs.specs.Instance.{instanceOf, viewOf};
 ghost use Rattle.costs.specs.Bounds.{costWith};
 ghost use Rattle.search.specs.Search.{assignmentCount, searchOf};
 ghost use Rattle.search.specs.Best.{keep, bestFrom};
 ghost use Rattle.search.specs.Steps.{Filled, Filling, Adding, Extending};
 
-// What the search gives: the refusal, or 0 with the least total and its first assignment, places past n zero.
+// What the search gives: the refusal, or 0 with the least total and its first assignment, places past n zero; where there is none, NONE and zeros.
 #[repr(C)]
 pub struct Found {
     pub refusal: u8,
@@ -26,7 +28,7 @@ struct Best {
     total: u32,
 }
 
-// The least total over all assignments, with its first assignment in ascending order.
+// The least total over all assignments, with its first assignment in ascending order; NONE where there is none.
 pub fn exhaustive(stream: &[u8]) -> Found
     ensures { λ r. ⌜ r ≡ searchOf (now (stream .entry)) ⌝ }
 {
@@ -61,7 +63,7 @@ pub fn exhaustive(stream: &[u8]) -> Found
     }
 }
 
-// Whether there are more than 1,048,576 assignments; the product stops once it is above.
+// Whether there are more than 1,048,576 assignments, forbidden ones counted; the product stops once it is above.
 fn too_many(stream: &[u8], n: usize) -> bool
     requires { ⌜ Accepted (now stream) × (n ≡ unitsOf (now stream)) ⌝ }
     ensures { λ r. ⌜ r ≡ ltb searchLimit (assignmentCount (instanceOf (now (stream .entry)))) ⌝ }
@@ -79,7 +81,7 @@ fn too_many(stream: &[u8], n: usize) -> bool
 }
 
 // The best of b and of the assignments that begin with the first `level` places of `chosen`, which cost `cost`. `left` units come
-// after these: each value of the next hands on to the one after it.
+// after these: each value of the next that is not forbidden with those before hands on to the one after it.
 fn extend(
     stream: &[u8],
     starts: &[u32],
@@ -102,8 +104,9 @@ fn extend(
         // stored before the costs are added, as the call's copy would wait for a byte just stored
         let mut next = chosen;
         next[level] = v as u8;
-        let more = added_cost(stream, starts, level, d, chosen, v);
-        best = extend(stream, starts, left - 1, level + 1, cost + more, next, best);
+        if let Cost::Of(more) = added_cost(stream, starts, level, d, chosen, v) {
+            best = extend(stream, starts, left - 1, level + 1, cost + more, next, best);
+        }
         v += 1;
     }
     best
@@ -119,7 +122,7 @@ fn better(b: Best, total: u32, values: [u8; 16]) -> Best
     b
 }
 
-// The cost of value v of the unit at `level`, which has d values, with the values chosen before it.
+// The cost of value v of the unit at `level`, which has d values, with the values chosen before it: forbidden as soon as one pair is.
 fn added_cost(
     stream: &[u8],
     starts: &[u32],
@@ -127,19 +130,23 @@ fn added_cost(
     d: usize,
     chosen: [u8; 16],
     v: usize,
-) -> u32
+) -> Cost
     requires { ⌜ Adding (now stream) (now starts) level d chosen v ⌝ }
-    ensures { λ r. ⌜ (r ≡ costWith (viewOf (instanceOf (now (stream .entry))) level) chosen level v) × (r ≤ pairLimit * level) ⌝ }
+    ensures { λ r. ⌜ (r ≡ costWith (viewOf (instanceOf (now (stream .entry))) level) chosen level v) × AtMost (pairLimit * level) r ⌝ }
 {
     let column = 16 * level;
     let mut sum: u32 = 0;
     let mut i = 0;
     while i < level {
         let at = cost_place(starts[column + i], d, chosen[i], v);
-        sum += base::u16_at(stream, at);
+        let number = base::u16_at(stream, at);
+        if number == base::FORBIDDEN_PAIR {
+            return Cost::Forbidden;
+        }
+        sum += number;
         i += 1;
     }
-    sum
+    Cost::Of(sum)
 }
 
 // Where the cost of the values u and v stands, the second unit having d values, of a pair whose costs begin at `start`.

@@ -20,14 +20,18 @@ fn main() {
     show(b"eight.table");
     show(b"sparse-twelve.table");
     show(b"readings-sixteen.table");
+    // barred pairs; no assignment without one, found after some deliveries, and when unit 1 is made
+    show(b"barred-five.table");
+    show(b"none-three.table");
+    show(b"none-at-once.table");
     // a size of 17
     show(b"bad.table");
     // 01's case 9: 5 records, 10 deliveries, the most allowed
     io::write_all(STDOUT_FILENO, b"T, newest first\n");
     let net = newest_first();
-    report::print_network(net);
+    report::print_network(2, net);
     io::write_all(STDOUT_FILENO, b"the same, counted past one word\n");
-    report::print_network(recounted(net));
+    report::print_network(2, recounted(net));
 }
 
 fn show(name: &[u8]) {

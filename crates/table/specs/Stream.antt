@@ -1,7 +1,7 @@
 -- The stream of a table: n, the n sizes, the costs of all pairs; and what is wrong with a list that is none.
 -- Document 01, "Stored table" and refusals 5, 6, 7. The facts about these are in StreamLaws. Assumes nothing.
-use Rattle.base.specs.Library.{ℕ, zero, suc, _+_, _*_, Bool, true, cond, _&&_, List, [], _∷_, _≡_, eqb, leb, length, getD, take, drop}
-use Rattle.base.specs.{Limits.pairLimit, Bytes.u16At, Shape.shapeGood}
+use Rattle.base.specs.Library.{ℕ, zero, suc, _+_, _*_, Bool, true, cond, _&&_, _||_, List, [], _∷_, _≡_, eqb, leb, length, getD, take, drop}
+use Rattle.base.specs.{Limits.pairLimit, Limits.forbiddenPair, Bytes.u16At, Shape.shapeGood}
 
 -- 01: "n, then n sizes". In a shorter stream, the sizes that are present.
 abbrev pub unitsOf : List ℕ → ℕ
@@ -19,10 +19,14 @@ unfoldable pub pairsIn : List ℕ → ℕ
 pairsIn [] = 0
 pairsIn (d ∷ ds) = d * sumList ds + pairsIn ds
 
--- 01: "the costs as 16-bit numbers": the m that stand in s from byte k on are within the limit
+-- 01: "Each pair i < j has a cost, 0 to 60,000"; 02, job 3: "A pair cost of 65,535 means barred, and check 7 lets that number through for pairs."
+unfoldable pub costGood : ℕ → Bool
+costGood x = leb x pairLimit || eqb x forbiddenPair
+
+-- 01: "the costs as 16-bit numbers": the m that stand in s from byte k on pass check 7
 unfoldable pub costsGood : List ℕ → ℕ → ℕ → Bool
 costsGood s k zero = true
-costsGood s k (suc m) = leb (u16At s k) pairLimit && costsGood s (k + 2) m
+costsGood s k (suc m) = costGood (u16At s k) && costsGood s (k + 2) m
 
 -- 01: "In a stream too short for n or the sizes, those present are checked by 5, then it is 6"
 unfoldable pub streamRefusal : List ℕ → ℕ

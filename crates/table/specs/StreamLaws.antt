@@ -1,23 +1,43 @@
 -- Streams: what holds of an accepted one (accepted-units, -size, -length, -cost, -most), by taking streamRefusal's tests apart.
--- In order: how pairsIn and costsGood grow; turns of the loops over sizes and costs; the answers of streamRefusal; an accepted stream.
+-- In order: a cost that passes check 7; how pairsIn and costsGood grow; turns of the loops over sizes and costs; the answers of streamRefusal; an accepted stream.
 -- Assumes nothing.
-use Prim.Native.Nat.{ℕ, zero, suc, _+_, _*_, _-_, _/_, _≤_, _<_, min, max}
+use Prim.Native.Nat.{ℕ, zero, suc, _+_, _*_, _-_, _/_, _%_, _≤_, _<_, min, max}
 use native.Mathlib.Nat.{mul-le-mul, zero-add, add-zero, add-assoc, le-of-suc-le-suc, not-suc-le-zero, mul-add, add-mul, le-refl, suc-mul, mul-suc}
 use native.Mathlib.Numerals.{add-one}
 use native.Mathlib.Omega.{arith}
-use mathlib.Core.Bool.{Bool, true, false, cond, _&&_}
+use mathlib.Core.Bool.{Bool, true, false, cond, _&&_, _||_}
 use mathlib.Core.List.{List, [], _∷_, _++_}
 use mathlib.Core.Path.{_≡_, refl, sym, ap, _∙_}
 use lib.Dec.{eqb, leb}
 use lib.ListN.{length, getD, take, drop, length-take, length-drop, List·getD-eq-default}
 use lib.Seq.{take-suc, length-take-le, getD-take, getD-drop}
-use borrow.Author.Tests.{eqb-true, leb-true, leb-false, eq-eqb, ne-eqb, le-leb, lt-leb}
-use Rattle.base.specs.Limits.{pairLimit, streamSize}
+use borrow.Author.Tests.{eqb-true, eqb-false, leb-true, leb-false, eq-eqb, ne-eqb, le-leb, lt-leb}
+use Rattle.base.specs.Limits.{pairLimit, forbiddenPair, streamSize}
 use Rattle.base.specs.Bytes.{u16At}
 use Rattle.base.specs.Bytes.Laws.{AllBytes, u16-past}
 use Rattle.base.specs.Shape.{allInSixteen, shapeGood}
 use Rattle.base.specs.Shape.Laws.{inSixteen, and-left, and-right, in-range, shape-n, shape-size, all-step, all-none}
-use Rattle.table.specs.Stream.{unitsOf, sizesOf, sumList, pairsIn, costsGood, streamRefusal, Accepted}
+use Rattle.table.specs.Stream.{unitsOf, sizesOf, sumList, pairsIn, costGood, costsGood, streamRefusal, Accepted}
+
+-- ---- a cost that passes check 7
+
+pub good-small : (x : ℕ) → x ≤ pairLimit → costGood x ≡ true
+unfolding costGood
+good-small x h = rw (le-leb x pairLimit h)
+
+pub good-forbidden : costGood forbiddenPair ≡ true
+unfolding costGood
+good-forbidden = refl
+
+-- one higher, the forbidden number comes round to 0 and one test is left
+cost-good-round : (x : ℕ) → x < 65536 → costGood x ≡ leb ((x + 1) % 65536) (pairLimit + 1)
+unfolding costGood
+cost-good-round x h = go (leb x pairLimit) refl (eqb x forbiddenPair) refl
+  where
+    go : (a : Bool) → leb x pairLimit ≡ a → (b : Bool) → eqb x forbiddenPair ≡ b → (a || b) ≡ leb ((x + 1) % 65536) (pairLimit + 1)
+    go true l b e = sym (le-leb ((x + 1) % 65536) (pairLimit + 1) (omega (arith, leb-true x pairLimit l)))
+    go false l true e = sym (le-leb ((x + 1) % 65536) (pairLimit + 1) (omega (arith, eqb-true x forbiddenPair e)))
+    go false l false e = sym (lt-leb ((x + 1) % 65536) (pairLimit + 1) (omega (arith, leb-false x pairLimit l, eqb-false x forbiddenPair e)))
 
 -- ---- how pairsIn and costsGood grow
 
@@ -70,17 +90,17 @@ abbrev pub streamCost : List ℕ → ℕ → ℕ
 streamCost s k = u16At s (1 + unitsOf s + 2 * k)
 
 -- where costs pass, each does
-pub costs-at : (s : List ℕ) (k m : ℕ) → costsGood s k m ≡ true → (j : ℕ) → j < m → u16At s (k + 2 * j) ≤ pairLimit
+pub costs-at : (s : List ℕ) (k m : ℕ) → costsGood s k m ≡ true → (j : ℕ) → j < m → costGood (u16At s (k + 2 * j)) ≡ true
 unfolding costsGood
 costs-at s k zero e j h = absurd (not-suc-le-zero h)
-costs-at s k (suc m) e zero h = rw add-zero (leb-true (u16At s k) pairLimit (and-left (leb (u16At s k) pairLimit) (costsGood s (k + 2) m) e))
+costs-at s k (suc m) e zero h = rw add-zero (and-left (costGood (u16At s k)) (costsGood s (k + 2) m) e)
 costs-at s k (suc m) e (suc j) h =
     let i : k + 2 * suc j ≡ k + 2 + 2 * j = omega arith in
-    rw i (costs-at s (k + 2) m (and-right (leb (u16At s k) pairLimit) (costsGood s (k + 2) m) e) j (le-of-suc-le-suc h))
+    rw i (costs-at s (k + 2) m (and-right (costGood (u16At s k)) (costsGood s (k + 2) m) e) j (le-of-suc-le-suc h))
 
 -- past the end there are only zeros
 pub costs-none : (s : List ℕ) (k m : ℕ) → length s ≤ k → costsGood s k m ≡ true
-unfolding costsGood
+unfolding costGood costsGood
 costs-none s k zero h = refl
 costs-none s k (suc m) h = rw (u16-past s k h) (costs-none s (k + 2) m (omega arith))
 
@@ -90,7 +110,7 @@ unfolding costsGood
 costs-short s k zero b h = refl
 costs-short s k (suc m) b h =
     let l : u16At s k ≤ pairLimit = omega (arith, b k, List·getD-eq-default s 0 {n = k + 1} h) in
-    rw (le-leb (u16At s k) pairLimit l) (costs-none s (k + 2) m (omega arith))
+    rw (good-small (u16At s k) l) (costs-none s (k + 2) m (omega arith))
 
 -- costs in two parts
 pub costs-split : (s : List ℕ) (k a b : ℕ) → costsGood s k (a + b) ≡ (costsGood s k a && costsGood s (k + 2 * a) b)
@@ -99,7 +119,7 @@ costs-split s k zero b = rw (zero-add b, add-zero k)
 costs-split s k (suc a) b =
     let e : suc a + b ≡ suc (a + b) = omega arith in
     let i : k + 2 * suc a ≡ k + 2 + 2 * a = omega arith in
-    rw (e, i, costs-split s (k + 2) a b) (sym (and-assoc (leb (u16At s k) pairLimit) (costsGood s (k + 2) a) (costsGood s (k + 2 + 2 * a) b)))
+    rw (e, i, costs-split s (k + 2) a b) (sym (and-assoc (costGood (u16At s k)) (costsGood s (k + 2) a) (costsGood s (k + 2 + 2 * a) b)))
 
 -- as many as there are bytes for
 pub costs-whole : (s : List ℕ) (k m a : ℕ) → AllBytes s → a ≡ min ((length s - k) / 2) m → costsGood s k m ≡ costsGood s k a
@@ -127,24 +147,26 @@ costs-same s t k j (suc m) e =
 pub costs-part : (s : List ℕ) (k m n : ℕ) → 2 * m ≤ n → costsGood (take n (drop k s)) 0 m ≡ costsGood s k m
 costs-part s k m n h = costs-same (take n (drop k s)) s 0 k m (λ i l. rw (zero-add i) (getD-take n (drop k s) i 0 (omega arith) ∙ getD-drop k s i 0))
 
--- a turn of a loop for the highest: the most so far, or the next, is within the limit
-both-within : (a b : ℕ) → leb (max a b) pairLimit ≡ (leb a pairLimit && leb b pairLimit)
-both-within a b = go (leb a pairLimit) (leb b pairLimit) refl refl
+-- the higher of two numbers is within a limit where both are
+both-within : (limit a b : ℕ) → leb (max a b) limit ≡ (leb a limit && leb b limit)
+both-within limit a b = go (leb a limit) (leb b limit) refl refl
   where
-    go : (x y : Bool) → leb a pairLimit ≡ x → leb b pairLimit ≡ y → leb (max a b) pairLimit ≡ (x && y)
-    go true true f g = le-leb (max a b) pairLimit (omega (arith, leb-true a pairLimit f, leb-true b pairLimit g))
-    go true false f g = lt-leb (max a b) pairLimit (omega (arith, leb-false b pairLimit g))
-    go false y f g = lt-leb (max a b) pairLimit (omega (arith, leb-false a pairLimit f))
+    go : (x y : Bool) → leb a limit ≡ x → leb b limit ≡ y → leb (max a b) limit ≡ (x && y)
+    go true true f g = le-leb (max a b) limit (omega (arith, leb-true a limit f, leb-true b limit g))
+    go true false f g = lt-leb (max a b) limit (omega (arith, leb-false b limit g))
+    go false y f g = lt-leb (max a b) limit (omega (arith, leb-false a limit f))
 
-pub highest-next : {w : Bool} (s : List ℕ) (k m most : ℕ) → w ≡ (leb most pairLimit && costsGood s k m) → 0 < m
-    → w ≡ (leb (max most (u16At s k)) pairLimit && costsGood s (k + 2) (m - 1))
+-- a turn of a loop for the highest, of costs one higher and come round, and its end
+pub highest-next : {w : Bool} (s : List ℕ) (k m most : ℕ) → w ≡ (leb most (pairLimit + 1) && costsGood s k m) → 0 < m → u16At s k < 65536
+    → w ≡ (leb (max most ((u16At s k + 1) % 65536)) (pairLimit + 1) && costsGood s (k + 2) (m - 1))
 unfolding costsGood
-highest-next s k m most inv h =
+highest-next s k m most inv h b =
     let e : m ≡ suc (m - 1) = omega arith in
-    inv ∙ ap (λ (j : ℕ). leb most pairLimit && costsGood s k j) e
-    ∙ sym (rw (both-within most (u16At s k)) (and-assoc (leb most pairLimit) (leb (u16At s k) pairLimit) (costsGood s (k + 2) (m - 1))))
+    let x : ℕ = (u16At s k + 1) % 65536 in
+    inv ∙ ap (λ (j : ℕ). leb most (pairLimit + 1) && costsGood s k j) e
+    ∙ sym (rw (both-within (pairLimit + 1) most x, cost-good-round (u16At s k) b) (and-assoc (leb most (pairLimit + 1)) (leb x (pairLimit + 1)) (costsGood s (k + 2) (m - 1))))
 
-pub highest-end : {w : Bool} (s : List ℕ) (k m most : ℕ) → w ≡ (leb most pairLimit && costsGood s k m) → m ≡ 0 → w ≡ leb most pairLimit
+pub highest-end : {w : Bool} (s : List ℕ) (k m most : ℕ) → w ≡ (leb most (pairLimit + 1) && costsGood s k m) → m ≡ 0 → w ≡ leb most (pairLimit + 1)
 unfolding costsGood
 highest-end s k m most inv e = inv ∙ rw (e, and-true)
 
@@ -275,8 +297,8 @@ module _ (s : List ℕ) (ok : Accepted s) where
       let l : unitsOf s ≤ length (drop 1 s) = simp length-drop (omega (arith, accepted-length)) in
       rw (← getD-drop 1 s k 0) (shape-size (unitsOf s) (drop 1 s) (tests .1) l k h)
 
-  -- each cost is at most 60,000
-  pub accepted-cost : (k : ℕ) → k < pairsIn (sizesOf s) → streamCost s k ≤ pairLimit
+  -- each cost passes check 7
+  pub accepted-cost : (k : ℕ) → k < pairsIn (sizesOf s) → costGood (streamCost s k) ≡ true
   accepted-cost k h = costs-at s (1 + unitsOf s) (pairsIn (sizesOf s)) (tests .3) k h
 
   -- 01: "At most 61,457 bytes"

@@ -100,7 +100,7 @@ pub fn stream_refusal(stream: &[u8]) -> u8
     view_refusal(stream, false, stream.len())
 }
 
-// Whether the `count` costs that stand in `bytes` from byte `from` on are within the limit; bytes past the end count as 0.
+// Whether the `count` costs that stand in `bytes` from byte `from` on pass check 7; bytes past the end count as 0.
 pub fn costs_good(bytes: &[u8], from: usize, count: usize) -> bool
     ensures { λ r. ⌜ r ≡ costsGood (now (bytes .entry)) from count ⌝ }
 {
@@ -109,19 +109,20 @@ pub fn costs_good(bytes: &[u8], from: usize, count: usize) -> bool
     }
     let whole = smaller((bytes.len() - from) / 2, count);
     let end = from + 2 * whole;
-    highest(&bytes[from..end], whole) <= PAIR_LIMIT
+    highest(&bytes[from..end], whole) <= PAIR_LIMIT + 1
 }
 
-// The highest of the costs that the bytes hold. No test ends the loop early, so that a compiler can compare many costs at once.
+// The highest of the costs that the bytes hold, each one higher, so that the forbidden one, the last of 16 bits, comes round to 0.
+// No test ends the loop early, so that a compiler can compare many costs at once.
 fn highest(costs: &[u8], count: usize) -> u32
     requires { ⌜ length (now costs) ≡ 2 * count ⌝ }
-    ensures { λ r. ⌜ costsGood (now (costs .entry)) 0 count ≡ leb r pairLimit ⌝ }
+    ensures { λ r. ⌜ costsGood (now (costs .entry)) 0 count ≡ leb r (pairLimit + 1) ⌝ }
 {
     let mut most: u32 = 0;
     let mut i = 0;
     while i < count {
         let cost = base::wide_u32(costs[2 * i]) + 256 * base::wide_u32(costs[2 * i + 1]);
-        most = larger(most, cost);
+        most = larger(most, (cost + 1) % 65536);
         i += 1;
     }
     most

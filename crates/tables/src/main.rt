@@ -6,8 +6,9 @@ use base::STREAM_SIZE;
 use libc::STDOUT_FILENO;
 
 fn main() {
-    // accepted: table T; two blocks; 16 units of 16 values, 122 blocks
+    // accepted: table T; T with a cost of 65,535; two blocks; 16 units of 16 values, 122 blocks
     show(b"t.table");
+    show(b"barred.table");
     show(b"eight.table");
     show(b"largest.table");
     // 1: no byte; one byte cut off; a block too many
@@ -28,8 +29,9 @@ fn main() {
     // 6: a byte less; a byte more
     show(b"short.table");
     show(b"long.table");
-    // 7: a cost of 60,001
+    // 7: a cost of 60,001; of 65,534
     show(b"cost.table");
+    show(b"unbarred.table");
     // 13: read into 61,456 bytes; written into 511
     show_cramped(b"t.table");
 }

@@ -1,4 +1,4 @@
--- `cost_number` meets its contract: the number stays below 2 ^ 25, and is the definition's.
+-- `cost_number` meets its contract: the number stays below 2 ^ 25, and is the definition's; `cost_of` says what is read there.
 -- Assumes nothing.
 use Prim.Native.Nat.{_≤_, _-_}
 use native.Mathlib.Nat.{mul-le-mul}
@@ -35,6 +35,9 @@ mul-u16-at-2 c =
     let d : a .d ≤ 255 = omega arith in
     omega (arith, mul-le-mul u d)
 
+returns : tie.Need-returns
+returns c = let n = c .before .u16-at .ensures .0 in (rw (← n) (c .cost-of .ensures .0), c .cost-of .ensures .1)
+
 pub cost-number-spec : {M : Type 1} → statement M
 cost-number-spec =
     tie.close
@@ -46,4 +49,5 @@ cost-number-spec =
     add-u16-at-2
     mul-u16-at-2
     (λ c κs. search needs)
-    (λ c. search needs))
+    (λ c κs. search needs)
+    returns)

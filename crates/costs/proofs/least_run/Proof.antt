@@ -1,38 +1,38 @@
--- `least_run` meets its contract. The loop's invariant: the best is the least of the first u costs.
+-- `least_run` meets its contract. The loop's invariant: the best stands for the least of the first u costs.
 -- Assumes nothing.
 use Prim.Native.Nat.{_≤_, _-_}
-use mathlib.Core.Path.{_≡_, sym, _∙_}
+use mathlib.Core.Path.{_≡_, refl}
 use native.Mathlib.Omega.{arith}
 use borrow.Author.Needs.{needs}
+use Rattle.costs.specs.Cost.{pairCost}
+use Rattle.costs.specs.Cost.Laws.{pair-lesser}
 use Rattle.costs.specs.Lent.Parts.{leastRun}
-use Rattle.costs.specs.Lent.Steps.{run-one, run-more}
+use Rattle.costs.specs.Lent.Steps.{run-more}
 use Rattle.costs.proofs.least_run.Statement.{statement}
 use Rattle.costs.proofs.least_run.Tie as tie
 
 abbrev Inv-loop : tie.InvT-loop
-Inv-loop costs start e best₀ u₀ best u = (1 ≤ u) × (u ≤ e) × (best ≡ leastRun costs start u) × (best ≤ 65535)
+Inv-loop costs start e best₀ u₀ best u = (u ≤ e) × (pairCost best ≡ leastRun costs start u) × (best ≤ 65535)
 
 abbrev μ-loop : tie.MeasureT-loop
 μ-loop costs start e best₀ u₀ best u = e - u
 
-returns : tie.Need-returns Inv-loop μ-loop
-returns c = let e : c .before .before .args .e ≡ 0 = c .if1 .taken in (rw e, omega arith)
-
 loop-holds : tie.Need-loop-holds Inv-loop μ-loop
-loop-holds c = let a = c .before .before .before .args in (omega arith, omega arith, c .u16-at .ensures .0 ∙ sym (run-one (a .costs .now) (a .start)), omega arith)
+loop-holds c = (omega arith, refl, omega arith)
 
 loop-again : tie.Need-loop-again Inv-loop μ-loop
 loop-again c =
-    let a = c .before .before .before .before .before .before .before .args in
-    let l = c .before .before .before .loop in
-    (omega arith, omega arith, rw (c .lesser .ensures, l .inv .2, c .before .u16-at2 .ensures .0, run-more (a .costs .now) (a .start) (l .u) (l .inv .0)), omega (arith, c .lesser .ensures))
-
-returns-2 : tie.Need-returns-2 Inv-loop μ-loop
-returns-2 c =
     let a = c .before .before .before .before .before .args in
+    let l = c .before .before .before .loop in
+    let n = c .before .u16-at in
+    (omega arith, rw (c .lesser .ensures, ← pair-lesser (l .best) (n .result) (l .inv .2) (omega arith), l .inv .1, n .ensures .0, run-more (a .costs .now) (a .start) (l .u)), omega (arith, c .lesser .ensures))
+
+returns : tie.Need-returns Inv-loop μ-loop
+returns c =
+    let a = c .before .before .before .args in
     let l = c .before .loop in
     let e : l .u ≡ a .e = omega arith in
-    (rw (← e) (l .inv .2), l .inv .3)
+    (rw (← e) (l .inv .1), l .inv .2)
 
 pub least-run-spec : {M : Type 1} → statement M
 least-run-spec =
@@ -40,9 +40,6 @@ least-run-spec =
     (tie.spec
     Inv-loop
     μ-loop
-    returns
-    (λ c. search needs)
-    (λ c κs. search needs)
     loop-holds
     (λ c. search needs)
     (λ c. search needs)
@@ -51,4 +48,4 @@ least-run-spec =
     (λ c. search needs)
     (λ c. search needs)
     loop-again
-    returns-2)
+    returns)

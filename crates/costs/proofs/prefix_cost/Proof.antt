@@ -1,18 +1,21 @@
 -- `prefix_cost` meets its contract. The loop's invariant: the sum is the cost with the units passed, and `before` counts the values of the others among them.
 -- Assumes nothing.
 use Prim.Native.Nat.{_≤_, _*_, _-_}
-use mathlib.Core.Path.{_≡_, refl, sym}
+use mathlib.Core.Path.{_≡_, refl, sym, _∙_}
 use native.Mathlib.Omega.{arith}
+use lib.ListN.{getD}
 use borrow.Author.Needs.{needs}
+use Rattle.costs.specs.Cost.{Of}
+use Rattle.costs.specs.Cost.Laws.{most-is}
 use Rattle.costs.specs.Instance.{viewFrom}
 use Rattle.costs.specs.Bounds.{costWith}
 use Rattle.costs.specs.Lent.Parts.{othersBefore}
-use Rattle.costs.specs.Lent.Steps.{sumTo-more, cost-none, cost-more, pair-from}
+use Rattle.costs.specs.Lent.Steps.{sumTo-more, cost-none, cost-more, cost-forbidden, pair-from}
 use Rattle.costs.proofs.prefix_cost.Statement.{statement}
 use Rattle.costs.proofs.prefix_cost.Tie as tie
 
 abbrev Inv-loop : tie.InvT-loop
-Inv-loop seat costs values k v place d sum₀ before₀ j₀ sum before j = (j ≤ k) × (sum ≡ costWith (viewFrom seat costs) values j v) × (sum ≤ 65535 * j) × (before ≡ othersBefore seat j) × (before ≤ 255 * j)
+Inv-loop seat costs values k v place d sum₀ before₀ j₀ sum before j = (j ≤ k) × (Of sum ≡ costWith (viewFrom seat costs) values j v) × (sum ≤ 65535 * j) × (before ≡ othersBefore seat j) × (before ≤ 255 * j)
 
 abbrev μ-loop : tie.MeasureT-loop
 μ-loop seat costs values k v place d sum₀ before₀ j₀ sum before j = k - j
@@ -20,29 +23,47 @@ abbrev μ-loop : tie.MeasureT-loop
 loop-holds : tie.Need-loop-holds Inv-loop μ-loop
 loop-holds c = let a = c .before .before .before .args in (omega arith, sym (cost-none (viewFrom (a .seat) (a .costs .now)) (a .values) (a .v)), omega arith, refl, omega arith)
 
+-- the cost of the pair; it is no more than 16 bits hold
+pair-is : (c : tie.After-pair-cost Inv-loop μ-loop)
+    → let a = c .before .before .before .before .before .before .before .before .args in
+    let j = c .before .before .before .before .loop .j in
+    c .pair-cost .result ≡ viewFrom (a .seat) (a .costs .now) .pair j (getD (a .values) j 0) (a .v)
+pair-is c =
+    rw (
+      c .pair-cost .ensures .0,
+      c .before .before .before .before .before .size-of .ensures .0,
+      c .before .before .before .before .before .before .place-of .ensures .0,
+      c .before .before .size-of2 .ensures .0,
+      c .before .value-at .ensures .0,
+      c .before .before .before .before .loop .inv .3,
+      pair-from,
+    )
+
+small : (c : tie.After-cost Inv-loop μ-loop) → c .cost .given .0 .0 ≤ 65535
+small c = let p = c .before .before .pair-cost in most-is 65535 (c .cost .given .0 .0) (p .result) (c .cost .given .1) (p .ensures .1)
+
+returns : tie.Need-returns Inv-loop μ-loop
+returns c =
+    let a = c .before .before .before .before .before .before .before .before .before .before .args in
+    let p = c .before .before in
+    (sym (cost-forbidden (viewFrom (a .seat) (a .costs .now)) (a .values) (p .before .before .before .before .loop .j) (a .k) (a .v) (p .before .before .before .loop-test .taken) (sym (pair-is p) ∙ c .enum-told .given .1)), tt)
+
+add-sum : tie.Need-add-sum Inv-loop μ-loop
+add-sum c = omega (arith, small (c .before))
+
 loop-again : tie.Need-loop-again Inv-loop μ-loop
 loop-again c =
-    let z = c .before .before .before .before .before .before in
-    let l = c .before .before .before .before .before .loop in (
+    let z = c .before .before in
+    let l = c .before .before .before .before .before .before .before .before .loop in (
       omega arith,
-      rw (
-        l .inv .1,
-        c .before .pair-cost .ensures .0,
-        z .size-of .ensures .0,
-        z .before .place-of .ensures .0,
-        c .before .before .before .size-of2 .ensures .0,
-        c .before .before .value-at .ensures .0,
-        l .inv .3,
-        cost-more,
-        pair-from,
-      ),
-      omega arith,
+      rw (cost-more, ← l .inv .1, ← pair-is (z .before .before), z .cost .given .1),
+      omega (arith, small z),
       rw (l .inv .3, c .other-size .ensures .0, sumTo-more),
       omega arith,
     )
 
-returns : tie.Need-returns Inv-loop μ-loop
-returns c =
+returns-2 : tie.Need-returns-2 Inv-loop μ-loop
+returns-2 c =
     let a = c .before .before .before .before .before .args in
     let l = c .before .loop in
     let e : l .j ≡ a .k = omega arith in
@@ -61,9 +82,12 @@ prefix-cost-spec =
     (λ c κs. search needs)
     (λ c κs. search needs)
     (λ c. search needs)
+    (λ c. search needs)
+    returns
+    add-sum
     (λ c κs. search needs)
     (λ c. search needs)
     (λ c. search needs)
     (λ c. search needs)
     loop-again
-    returns)
+    returns-2)

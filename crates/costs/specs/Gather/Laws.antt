@@ -11,14 +11,15 @@ use native.Mathlib.Nat.{mul-add, mul-comm, mul-le-mul, add-zero, zero-add}
 use lib.Dec.{ltb, eqb}
 use lib.ListN.{length, getD, take, drop, length-append, length-drop, List·getD-append}
 use lib.Seq.{getD-drop, getD-take, length-take-le, take-append-seam}
-use borrow.Author.Tests.{lt-ltb, le-ltb, ltb-true, ltb-false, eq-eqb, ne-eqb, le-leb}
-use Rattle.base.specs.Limits.{pairLimit, costsSize}
+use borrow.Author.Tests.{lt-ltb, le-ltb, ltb-true, ltb-false, eq-eqb, ne-eqb}
+use Rattle.base.specs.Limits.{costsSize}
 use Rattle.base.specs.Join.Laws.{join-byte}
 use Rattle.base.specs.Sums.{sumTo}
-use Rattle.table.specs.Stream.{unitsOf, sizesOf, costsGood, Accepted}
-use Rattle.table.specs.StreamLaws.{needed, streamCost, accepted-units, accepted-cost}
+use Rattle.table.specs.Stream.{unitsOf, sizesOf, costGood, costsGood, Accepted}
+use Rattle.table.specs.StreamLaws.{needed, streamCost, accepted-units, accepted-cost, good-small}
 use Rattle.base.specs.Shape.{isValue}
 use Rattle.base.specs.Shape.Laws.{range-value, value-range}
+use Rattle.costs.specs.Cost.{Cost, Of, pairCost}
 use Rattle.costs.specs.Instance.{View, viewOf, pairStart, inPair, costNumber, instanceOf, otherStart, lentCost, lentView, domOf}
 use Rattle.costs.specs.Laws.Stream.{costsOf, in-pair-lt, cost-number-at, pair-costs, accepted-fit, dom-most}
 use Rattle.costs.specs.Lent.{lentCount, lentRefusal}
@@ -58,13 +59,13 @@ same-number : (l m : List ℕ) (x y : ℕ) → getD l (2 * x) 0 ≡ getD m (2 * 
 same-number l m x y a b = rw (a, b)
 
 -- costs that agree where both values are values
-both-values : (a b : Bool) (x y : ℕ) → (a ≡ true → b ≡ true → x ≡ y) → cond (true && true && a && b) x 0 ≡ cond (true && true && a && b) y 0
-both-values true true x y e = e refl refl
+both-values : (a b : Bool) (x y : ℕ) → (a ≡ true → b ≡ true → x ≡ y) → cond (true && true && a && b) (pairCost x) (Of 0) ≡ cond (true && true && a && b) (pairCost y) (Of 0)
+both-values true true x y e = ap pairCost (e refl refl)
 both-values true false x y e = refl
 both-values false b x y e = refl
 
-both-swapped : (t a b : Bool) (x y : ℕ) → (t ≡ true → a ≡ true → b ≡ true → x ≡ y) → cond (true && t && a && b) x 0 ≡ cond (true && t && b && a) y 0
-both-swapped true true true x y e = e refl refl refl
+both-swapped : (t a b : Bool) (x y : ℕ) → (t ≡ true → a ≡ true → b ≡ true → x ≡ y) → cond (true && t && a && b) (pairCost x) (Of 0) ≡ cond (true && t && b && a) (pairCost y) (Of 0)
+both-swapped true true true x y e = ap pairCost (e refl refl refl)
 both-swapped true true false x y e = refl
 both-swapped true false true x y e = refl
 both-swapped true false false x y e = refl
@@ -188,44 +189,44 @@ gathered-view s ok own lo hi sizes e = same-sizes ∙ same-pairs
 
     same-pairs : seen (sizesOf s) ≡ viewOf (instanceOf s) (pred own)
     same-pairs =
-        ap (λ (p : ℕ → ℕ → ℕ → ℕ). record { place = pred own; n = unitsOf s; dom = domOf s; pair = p })
+        ap (λ (p : ℕ → ℕ → ℕ → Cost). record { place = pred own; n = unitsOf s; dom = domOf s; pair = p })
         (fun-ext (λ j. fun-ext (λ u. fun-ext (λ v. pair-seen s (accepted-fit s ok) (pred own) (omega arith) j u v))))
 
 -- ---- and they pass the checks of lent costs
 
-all-good : (costs : List ℕ) (k m : ℕ) → ((x : ℕ) → x < m → costNumber costs (k + x) ≤ pairLimit) → costsGood costs (2 * k) m ≡ true
+all-good : (costs : List ℕ) (k m : ℕ) → ((x : ℕ) → x < m → costGood (costNumber costs (k + x)) ≡ true) → costsGood costs (2 * k) m ≡ true
 unfolding costsGood
 all-good costs k zero e = refl
 all-good costs k (suc m) e =
-    let a : costNumber costs k ≤ pairLimit = subst (λ p. costNumber costs p ≤ pairLimit) (add-zero k) (e 0 (omega arith)) in
+    let a : costGood (costNumber costs k) ≡ true = subst (λ p. costGood (costNumber costs p) ≡ true) (add-zero k) (e 0 (omega arith)) in
     let n : 2 * k + 2 ≡ 2 * suc k = omega arith in
     let r : costsGood costs (2 * suc k) m ≡ true =
-    all-good costs (suc k) m (λ x h. let q : k + suc x ≡ suc k + x = omega arith in subst (λ p. costNumber costs p ≤ pairLimit) q (e (suc x) (omega arith))) in
-    rw (le-leb (costNumber costs k) pairLimit a, n, r)
+    all-good costs (suc k) m (λ x h. let q : k + suc x ≡ suc k + x = omega arith in subst (λ p. costGood (costNumber costs p) ≡ true) q (e (suc x) (omega arith))) in
+    rw (a, n, r)
 
 module _ (s : List ℕ) (ok : Accepted s) (k : ℕ) (in-n : k < unitsOf s) where
-  pair-small : (i j x : ℕ) → i < j → j < unitsOf s → x < domOf s i * domOf s j → costNumber (pairBytes s i j) x ≤ pairLimit
+  pair-small : (i j x : ℕ) → i < j → j < unitsOf s → x < domOf s i * domOf s j → costGood (costNumber (pairBytes s i j) x) ≡ true
   pair-small i j x l h b =
       rw (pair-number s (accepted-fit s ok) i j x b) (accepted-cost s ok (pairStart (domOf s) (unitsOf s) i j + x) (omega (arith, pair-costs s (there s (accepted-fit s ok)) i j l h)))
 
-  with-small : (j x : ℕ) → j < unitsOf s → x < domOf s k * cond (eqb j k) 0 (domOf s j) → costNumber (withOther s k j) x ≤ pairLimit
+  with-small : (j x : ℕ) → j < unitsOf s → x < domOf s k * cond (eqb j k) 0 (domOf s j) → costGood (costNumber (withOther s k j) x) ≡ true
   with-small j x h b =
       by-order j k
       (λ l. rw (with-before s k j l) (pair-small j k x l in-n (omega (arith, rw (other-size (domOf s) k j (λ e. omega arith)) at b, mul-comm (domOf s j) (domOf s k)))))
-      (λ e. rw (e, with-own s k) (omega arith))
+      (λ e. rw (e, with-own s k) (good-small 0 (omega arith)))
       (λ l. rw (with-after s k j l) (pair-small k j x l h (rw (other-size (domOf s) k j (λ e. omega arith)) at b)))
 
-  gathered-small : (m x : ℕ) → m ≤ unitsOf s → x < otherStart (domOf s) k m → costNumber (gatherTo s k m) x ≤ pairLimit
+  gathered-small : (m x : ℕ) → m ≤ unitsOf s → x < otherStart (domOf s) k m → costGood (costNumber (gatherTo s k m) x) ≡ true
   gathered-small zero x h b = absurd (omega arith)
   gathered-small (suc m) x h b = go (ltb x (otherStart (domOf s) k m)) refl (λ l. gathered-small m x (omega arith) l)
     where
       len : length (gatherTo s k m) ≡ 2 * otherStart (domOf s) k m
       len = length-gather s (accepted-fit s ok) k in-n m (omega arith)
 
-      go : (t : Bool) → ltb x (otherStart (domOf s) k m) ≡ t → (x < otherStart (domOf s) k m → costNumber (gatherTo s k m) x ≤ pairLimit) → costNumber (gatherTo s k (suc m)) x ≤ pairLimit
+      go : (t : Bool) → ltb x (otherStart (domOf s) k m) ≡ t → (x < otherStart (domOf s) k m → costGood (costNumber (gatherTo s k m) x) ≡ true) → costGood (costNumber (gatherTo s k (suc m)) x) ≡ true
       go true e ih =
           let l = ltb-true x (otherStart (domOf s) k m) e in
-          subst (λ c. c ≤ pairLimit)
+          subst (λ c. costGood c ≡ true)
           (same-number (gatherTo s k m) (gatherTo s k (suc m)) x x
           (sym (List·getD-append (gatherTo s k m) (withOther s k m) 0 (2 * x) (omega (arith, len))))
           (sym (List·getD-append (gatherTo s k m) (withOther s k m) 0 (2 * x + 1) (omega (arith, len)))))
@@ -235,7 +236,7 @@ module _ (s : List ℕ) (ok : Accepted s) (k : ℕ) (in-n : k < unitsOf s) where
           let q : otherStart (domOf s) k m + y ≡ x = omega (arith, ltb-false x (otherStart (domOf s) k m) e) in
           let small : y < domOf s k * cond (eqb m k) 0 (domOf s m) =
           omega (arith, mul-add (domOf s k) (sumTo (λ b. cond (eqb b k) 0 (domOf s b)) m) (cond (eqb m k) 0 (domOf s m))) in
-          subst (λ c. costNumber (gatherTo s k (suc m)) c ≤ pairLimit) q
+          subst (λ c. costGood (costNumber (gatherTo s k (suc m)) c) ≡ true) q
           (rw (gather-number s (accepted-fit s ok) k in-n m (suc m) y (omega arith) h small) (with-small m y h small))
 
 pub gathered-good : (s : List ℕ) → Accepted s → (own : ℕ) → 1 ≤ own → own ≤ unitsOf s → (sizes : List ℕ) → take (unitsOf s) sizes ≡ sizesOf s

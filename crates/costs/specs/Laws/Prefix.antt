@@ -1,8 +1,9 @@
 -- The functions of a prefix (a list, last unit first) are specs/Bounds' functions of an array of values (first unit first):
 -- `pre k l` is the prefix that the first k places of l are. By induction on k; the view's test on the units falls to one side.
 -- Assumes nothing.
-use Prim.Native.Nat.{ℕ, zero, suc, _+_, _-_, _≤_, _<_}
-use mathlib.Core.Path.{_≡_, refl, ap, _∙_, subst}
+use Prim.Native.Nat.{ℕ, zero, suc, _-_, _≤_, _<_}
+use mathlib.Core.Path.{_≡_, refl, sym, ap, _∙_, subst}
+use mathlib.Core.Logic.{_≢_, inl, inr}
 use mathlib.Core.Bool.{Bool, true, false}
 use mathlib.Core.List.{List, [], _∷_}
 use native.Mathlib.Omega.{arith}
@@ -10,13 +11,13 @@ use lib.Dec.{eqb}
 use lib.ListN.{length, getD, set}
 use lib.Seq.{getD-set-same, getD-set-other}
 use borrow.Author.Tests.{lt-ltb, le-ltb, eqb-true, eqb-false}
-use Rattle.base.specs.Limits.{totalLimit}
-use Rattle.base.specs.Sums.{sumTo, least}
+use Rattle.base.specs.Limits.{NONE, totalLimit}
+use Rattle.costs.specs.Cost.{Cost, Of, Forbidden, _⊕_, sumTo, least, asNumber}
 use Rattle.costs.specs.Instance.{Instance, viewOf}
-use Rattle.costs.specs.Bounds.{costWith, h, estimate, Assignment, total}
+use Rattle.costs.specs.Bounds.{costWith, h, estimate, Permitted, Assignment, total, Reported}
 use Rattle.costs.specs.Problem.{InDomains, Full, Closed, closed-least}
-use Rattle.base.specs.Sums.Laws.{sumFrom-cong, sumTo-cong, least-cong}
-use Rattle.costs.specs.Laws.{Sound, against, costOf, hOf, lookaheadOf, estimateOf, problemOf, full-limit}
+use Rattle.costs.specs.Cost.Laws.{add-comm, sumFrom-cong, sumTo-cong, least-cong, sums-number, sums-part, AtMost, number-below, number-is}
+use Rattle.costs.specs.Laws.{Sound, against, costOf, hOf, lookaheadOf, estimateOf, problemOf, full-limit, permitted-below}
 
 -- ---- the first k places, the last first
 
@@ -64,7 +65,9 @@ module _ (I : Instance) (k : ℕ) where
   -- against an array, unit by unit
   against-sum : (v m : ℕ) (l : List ℕ) → sumTo (λ j. I .cost j (getD l j 0) k v) m ≡ against I k v (pre m l)
   against-sum v zero l = refl
-  against-sum v (suc m) l = rw (length-pre m l) (omega (arith, against-sum v m l))
+  against-sum v (suc m) l =
+      rw (length-pre m l)
+      (ap (λ (x : Cost). x ⊕ I .cost m (getD l m 0) k v) (against-sum v m l) ∙ add-comm (against I k v (pre m l)) (I .cost m (getD l m 0) k v))
 
   pub cost-with-prefix : (values : List ℕ) (m v : ℕ) → m ≤ k → costWith (viewOf I k) values m v ≡ against I k v (pre m values)
   unfolding costWith
@@ -80,26 +83,39 @@ module _ (I : Instance) (k : ℕ) where
   pub estimate-prefix : (values : List ℕ) (m : ℕ) → m ≤ k → estimate (viewOf I k) values m ≡ estimateOf I k (pre m values)
   unfolding estimate
   estimate-prefix values m le =
-      least-cong (λ v. costWith (viewOf I k) values m v + h (viewOf I k) v) (λ v. against I k v (pre m values) + hOf I k v) (I .dom k)
-      (λ v. omega (arith, cost-with-prefix values m v le, h-of-view v))
+      least-cong (λ v. costWith (viewOf I k) values m v ⊕ h (viewOf I k) v) (λ v. against I k v (pre m values) ⊕ hOf I k v) (I .dom k)
+      (λ v. rw (cost-with-prefix values m v le, h-of-view v))
 
   -- the cost and the lower bound of the prefix that value v makes of the first k values
-  pub cost-next : (values : List ℕ) (v : ℕ) → costOf I (pre k values) + costWith (viewOf I k) values k v ≡ costOf I (v ∷ pre k values)
-  cost-next values v = rw (length-pre k values) (omega (arith, cost-with-prefix values k v (omega arith)))
+  pub cost-next : (values : List ℕ) (v : ℕ) → costOf I (pre k values) ⊕ costWith (viewOf I k) values k v ≡ costOf I (v ∷ pre k values)
+  cost-next values v = rw (length-pre k values, cost-with-prefix values k v (omega arith))
 
-  pub lookahead-next : (values : List ℕ) (v : ℕ) → costOf I (pre k values) + costWith (viewOf I k) values k v + h (viewOf I k) v ≡ lookaheadOf I (v ∷ pre k values)
-  lookahead-next values v = rw (length-pre k values) (omega (arith, cost-with-prefix values k v (omega arith), h-of-view v))
+  pub lookahead-next : (values : List ℕ) (v : ℕ) → costOf I (pre k values) ⊕ costWith (viewOf I k) values k v ⊕ h (viewOf I k) v ≡ lookaheadOf I (v ∷ pre k values)
+  lookahead-next values v = rw (length-pre k values, cost-with-prefix values k v (omega arith), h-of-view v)
 
 -- ---- assignments
 
 module _ (I : Instance) where
   sum-of-prefix : (k : ℕ) (l : List ℕ) → sumTo (λ j. sumTo (λ i. I .cost i (getD l i 0) j (getD l j 0)) j) k ≡ costOf I (pre k l)
   sum-of-prefix zero l = refl
-  sum-of-prefix (suc k) l = rw (length-pre k l) (omega (arith, sum-of-prefix k l, against-sum I k (getD l k 0) k l))
+  sum-of-prefix (suc k) l = rw (length-pre k l, sum-of-prefix k l, against-sum I k (getD l k 0) k l)
 
   pub total-prefix : (l : List ℕ) → total I l ≡ costOf I (pre (I .n) l)
   unfolding total
   total-prefix l = sum-of-prefix (I .n) l
+
+  -- a total is a number just where no pair is forbidden
+  pub permitted-total : (l : List ℕ) → Permitted I l → total I l ≢ Forbidden
+  unfolding total
+  permitted-total l p =
+      sums-number (λ k. sumTo (λ i. I .cost i (getD l i 0) k (getD l k 0)) k) (I .n)
+      (λ k b. sums-number (λ i. I .cost i (getD l i 0) k (getD l k 0)) k (λ i a. p i k a b))
+
+  pub total-permitted : (l : List ℕ) → total I l ≢ Forbidden → Permitted I l
+  unfolding total
+  total-permitted l t i j a b =
+      sums-part (λ i. I .cost i (getD l i 0) j (getD l j 0)) j
+      (sums-part (λ k. sumTo (λ i. I .cost i (getD l i 0) k (getD l k 0)) k) (I .n) t j b) i a
 
   pub prefix-in-dom : (k : ℕ) (l : List ℕ) → ((i : ℕ) → i < k → (1 ≤ getD l i 0) × (getD l i 0 ≤ I .dom i)) → InDomains (problemOf I) (pre k l)
   prefix-in-dom zero l a = tt
@@ -113,18 +129,40 @@ module _ (I : Instance) where
       go true e ih = let q : getD l k 0 ≤ I .dom k = subst (λ m. getD l k 0 ≤ I .dom m) (length-pre k l) (d .1) in rw (eqb-true i k e) (d .0, q)
       go false e ih = let q : i ≡ k → ⊥ = eqb-false i k e in ih (omega arith)
 
-  pub assignment-full : (l : List ℕ) → Assignment I l → Full (problemOf I) (pre (I .n) l)
-  assignment-full l a = (length-pre (I .n) l, prefix-in-dom (I .n) l a)
-
   pub full-assignment : (l : List ℕ) → Full (problemOf I) (pre (I .n) l) → Assignment I l
-  full-assignment l f = in-dom-prefix (I .n) l (f .1)
+  full-assignment l f = (in-dom-prefix (I .n) l (f .1), total-permitted l (subst (λ (x : Cost). x ≢ Forbidden) (sym (total-prefix l)) (number-below (costOf I (pre (I .n) l)) (f .2))))
+
+module _ (I : Instance) (s : Sound I) where
+  pub assignment-full : (l : List ℕ) → Assignment I l → Full (problemOf I) (pre (I .n) l)
+  assignment-full l a = (
+    length-pre (I .n) l,
+    prefix-in-dom I (I .n) l (a .0),
+    permitted-below I s (pre (I .n) l) (omega (arith, length-pre (I .n) l)) (subst (λ (x : Cost). x ≢ Forbidden) (total-prefix I l) (permitted-total I l (a .1))),
+  )
 
   -- once the empty prefix is closed, every assignment totals at least that
-  pub closed-total : (B : ℕ) → Closed (problemOf I) [] B → (l : List ℕ) → Assignment I l → B ≤ total I l
-  closed-total B c l a = rw (total-prefix l) (closed-least (problemOf I) B c (pre (I .n) l) (assignment-full l a))
+  pub closed-total : (B : ℕ) → Closed (problemOf I) [] B → (l : List ℕ) → Assignment I l → B ≤ asNumber (total I l)
+  closed-total B c l a = rw (total-prefix I l) (closed-least (problemOf I) B c (pre (I .n) l) (assignment-full l a))
+
+  -- ---- what is reported: NONE where the empty prefix is closed by it, or the cost of a full prefix that closes the empty one
+
+  pub none-reported : (best : List ℕ) → ((k : ℕ) → getD best k 0 ≡ 0) → Closed (problemOf I) [] NONE → Reported I NONE best
+  none-reported best z c = inl (refl, z, λ l a. let f = assignment-full l a in omega (arith, closed-least (problemOf I) NONE c (pre (I .n) l) f, f .2))
+
+  pub full-reported : (B : ℕ) (best : List ℕ) → B ≡ asNumber (costOf I (pre (I .n) best)) → Full (problemOf I) (pre (I .n) best) → Closed (problemOf I) [] B → Reported I B best
+  full-reported B best e f c =
+      let number : costOf I (pre (I .n) best) ≡ Of B = number-is (costOf I (pre (I .n) best)) (number-below (costOf I (pre (I .n) best)) (f .2)) ∙ ap Of (sym e) in
+      inr (full-assignment I best f, total-prefix I best ∙ number, closed-total B c)
+
+-- what two reports share
+pub reported-same : (I : Instance) (B C : ℕ) (l m : List ℕ) → Reported I B l → Reported I C m → B ≡ C
+reported-same I B C l m (inl p) (inl q) = p .0 ∙ sym (q .0)
+reported-same I B C l m (inl p) (inr q) = absurd (p .2 m (q .0))
+reported-same I B C l m (inr p) (inl q) = absurd (q .2 l (p .0))
+reported-same I B C l m (inr p) (inr q) = omega (arith, p .2 m (q .0), q .2 l (p .0), ap asNumber (p .1), ap asNumber (q .1))
 
 -- ---- the limit, of arrays
 
 module _ (I : Instance) (s : Sound I) where
-  pub total-limit : (l : List ℕ) → total I l ≤ totalLimit
+  pub total-limit : (l : List ℕ) → AtMost totalLimit (total I l)
   total-limit l = rw (total-prefix I l) (full-limit I s (pre (I .n) l) (omega (arith, length-pre (I .n) l)))

@@ -1,5 +1,5 @@
 -- The instance of an accepted stream is sound. How many costs stand before a pair's is counted unit by unit, as the stream's length is,
--- so each cost of a pair of values is one of the stream's, and those are at most 60,000.
+-- so each cost of a pair of values is one of the stream's, and those that are numbers are within the limit.
 -- Assumes nothing.
 use Prim.Native.Nat.{ℕ, suc, _+_, _*_, _-_, _≤_, _<_}
 use mathlib.Core.Path.{_≡_, refl, ap, _∙_, subst}
@@ -17,6 +17,8 @@ use Rattle.table.specs.Stream.{unitsOf, sizesOf, sumList, pairsIn, Accepted}
 use Rattle.table.specs.StreamLaws.{needed, streamCost, accepted-units, accepted-size, accepted-length, accepted-cost}
 use Rattle.base.specs.Shape.{isValue}
 use Rattle.base.specs.Shape.Laws.{value-range}
+use Rattle.costs.specs.Cost.{Of, pairCost}
+use Rattle.costs.specs.Cost.Laws.{AtMost, good-cost}
 use Rattle.costs.specs.Instance.{pairStart, inPair, costNumber, tableCost, instanceOf, domOf}
 use Rattle.base.specs.Sums.Laws.{sumTo-mono, sumTo-sumFrom, sumFrom-last, sumFrom-split}
 use Rattle.costs.specs.Lent.Steps.{dom-past-count}
@@ -130,10 +132,11 @@ module _ (s : List ℕ) (ok : Accepted s) where
       go true e = dom-inside k (ltb-true k (unitsOf s) e) .1
       go false e = omega (arith, dom-past-count (unitsOf s) (drop 1 s) k (ltb-false k (unitsOf s) e))
 
-  table-cost-small : (i u j v : ℕ) → tableCost (unitsOf s) (domOf s) (costsOf s) i u j v ≤ pairLimit
+  table-cost-small : (i u j v : ℕ) → AtMost pairLimit (tableCost (unitsOf s) (domOf s) (costsOf s) i u j v)
   table-cost-small i u j v = go (ltb i j && ltb j (unitsOf s) && isValue (domOf s i) u && isValue (domOf s j) v) refl
     where
-      go : (t : Bool) → (ltb i j && ltb j (unitsOf s) && isValue (domOf s i) u && isValue (domOf s j) v) ≡ t → cond t (costNumber (costsOf s) (pairStart (domOf s) (unitsOf s) i j + inPair (domOf s j) u v)) 0 ≤ pairLimit
+      go : (t : Bool) → (ltb i j && ltb j (unitsOf s) && isValue (domOf s i) u && isValue (domOf s j) v) ≡ t
+          → AtMost pairLimit (cond t (pairCost (costNumber (costsOf s) (pairStart (domOf s) (unitsOf s) i j + inPair (domOf s j) u v))) (Of 0))
       go true e =
           let q = all-four (ltb i j) (ltb j (unitsOf s)) (isValue (domOf s i) u) (isValue (domOf s j) v) e in
           let hu = value-range (domOf s i) u (q .2) in
@@ -141,7 +144,8 @@ module _ (s : List ℕ) (ok : Accepted s) where
           let there : 1 + unitsOf s ≤ length s = omega (arith, accepted-length s ok) in
           let p = pair-costs s there i j (ltb-true i j (q .0)) (ltb-true j (unitsOf s) (q .1)) in
           let r = in-pair-lt (domOf s i) (domOf s j) u v (hu .0) (hu .1) (hv .0) (hv .1) in
-          rw (cost-number-at s (pairStart (domOf s) (unitsOf s) i j + inPair (domOf s j) u v)) (accepted-cost s ok (pairStart (domOf s) (unitsOf s) i j + inPair (domOf s j) u v) (omega arith))
+          let x : ℕ = pairStart (domOf s) (unitsOf s) i j + inPair (domOf s j) u v in
+          good-cost (costNumber (costsOf s) x) (rw (cost-number-at s x) (accepted-cost s ok x (omega arith)))
       go false e = omega arith
 
   pub sound-of : Sound (instanceOf s)

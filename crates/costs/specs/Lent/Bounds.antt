@@ -1,5 +1,5 @@
--- What the limit of 60,000 gives of the sums over a view: first for any view whose pair costs keep it, then for costs that were not refused.
--- Each sum has at most so many terms, each at most 60,000; a cost number past the end is 0.
+-- What check 7 gives of the sums over a view: first for any view whose pair costs keep it, then for costs that were not refused.
+-- Each sum has at most so many terms, and each that is a number is within the limit; a cost number past the end is 0.
 -- Assumes nothing.
 use Prim.Native.Nat.{ℕ, suc, _+_, _*_, _-_, _≤_, pred}
 use mathlib.Core.Path.{_≡_, refl}
@@ -12,33 +12,33 @@ use lib.ListN.{length, getD}
 use borrow.Author.Tests.{ltb-true, ltb-false, eqb-true}
 use Rattle.base.specs.Limits.{pairLimit}
 use Rattle.base.specs.Bytes.Laws.{u16-past}
-use Rattle.base.specs.Sums.{least}
 use Rattle.base.specs.Shape.{isValue}
-use Rattle.table.specs.Stream.{costsGood}
-use Rattle.table.specs.StreamLaws.{costs-at}
+use Rattle.table.specs.Stream.{costGood, costsGood}
+use Rattle.table.specs.StreamLaws.{costs-at, good-small}
+use Rattle.costs.specs.Cost.{Cost, Of, _⊕_, least}
+use Rattle.costs.specs.Cost.Laws.{AtMost, good-cost, most-add, most-least, most-sumFrom, most-sumTo}
 use Rattle.costs.specs.Instance.{View, domIn, costNumber, lentView}
 use Rattle.costs.specs.Bounds.{costWith, h, estimate}
-use Rattle.base.specs.Sums.Laws.{sumFrom-le, sumTo-le, least-bound}
 use Rattle.costs.specs.Lent.{lentCount, lentRefusal}
 
 -- ---- any view
 
-module _ (w : View) (small : (j u v : ℕ) → w .pair j u v ≤ pairLimit) where
-  pub cost-most : (values : List ℕ) (k v : ℕ) → costWith w values k v ≤ pairLimit * k
+module _ (w : View) (small : (j u v : ℕ) → AtMost pairLimit (w .pair j u v)) where
+  pub cost-most : (values : List ℕ) (k v : ℕ) → AtMost (pairLimit * k) (costWith w values k v)
   unfolding costWith
-  cost-most values k v = sumTo-le (λ j. w .pair j (getD values j 0) v) pairLimit k (λ j. small j (getD values j 0) v)
+  cost-most values k v = most-sumTo pairLimit (λ j. w .pair j (getD values j 0) v) k (λ j. small j (getD values j 0) v)
 
-  pub h-most : (v : ℕ) → h w v ≤ pairLimit * (w .n - suc (w .place))
+  pub h-most : (v : ℕ) → AtMost (pairLimit * (w .n - suc (w .place))) (h w v)
   unfolding h
   h-most v =
-      sumFrom-le (λ j. least (λ u. w .pair j u v) (w .dom j)) pairLimit (suc (w .place)) (w .n - suc (w .place))
-      (λ j. least-bound (λ u. w .pair j u v) (w .dom j) pairLimit (λ u. small j u v))
+      most-sumFrom pairLimit (λ j. least (λ u. w .pair j u v) (w .dom j)) (suc (w .place)) (w .n - suc (w .place))
+      (λ j. most-least pairLimit (λ u. w .pair j u v) (w .dom j) (λ u. small j u v))
 
-  pub estimate-most : (values : List ℕ) (k : ℕ) → estimate w values k ≤ pairLimit * k + pairLimit * (w .n - suc (w .place))
+  pub estimate-most : (values : List ℕ) (k : ℕ) → AtMost (pairLimit * k + pairLimit * (w .n - suc (w .place))) (estimate w values k)
   unfolding estimate
   estimate-most values k =
-      least-bound (λ v. costWith w values k v + h w v) (w .dom (w .place)) (pairLimit * k + pairLimit * (w .n - suc (w .place)))
-      (λ v. omega (arith, cost-most values k v, h-most v))
+      most-least (pairLimit * k + pairLimit * (w .n - suc (w .place))) (λ v. costWith w values k v ⊕ h w v) (w .dom (w .place))
+      (λ v. most-add (pairLimit * k) (pairLimit * (w .n - suc (w .place))) (costWith w values k v) (h w v) (cost-most values k v) (h-most v))
 
 -- ---- costs that were not refused
 
@@ -48,9 +48,9 @@ passed false b e = absurd (omega arith)
 passed true false e = absurd (omega arith)
 passed true true e = (refl, refl)
 
-cond-most : (t : Bool) (x M : ℕ) → x ≤ M → cond t x 0 ≤ M
-cond-most true x M l = l
-cond-most false x M l = omega arith
+cond-most : (t : Bool) (M : ℕ) (c : Cost) → AtMost M c → AtMost M (cond t c (Of 0))
+cond-most true M c l = l
+cond-most false M c l = omega arith
 
 module _ (own n : ℕ) (sizes costs : List ℕ) (ok : lentRefusal own n sizes costs ≡ 0) where
   tests : (eqb (length costs) (2 * lentCount own n sizes) ≡ true) × (costsGood costs 0 (lentCount own n sizes) ≡ true)
@@ -61,18 +61,18 @@ module _ (own n : ℕ) (sizes costs : List ℕ) (ok : lentRefusal own n sizes co
   pub lent-length : length costs ≡ 2 * lentCount own n sizes
   lent-length = eqb-true (length costs) (2 * lentCount own n sizes) (tests .0)
 
-  pub lent-number-most : (i : ℕ) → costNumber costs i ≤ pairLimit
-  lent-number-most i = go (ltb i (lentCount own n sizes)) refl
+  lent-number-good : (i : ℕ) → costGood (costNumber costs i) ≡ true
+  lent-number-good i = go (ltb i (lentCount own n sizes)) refl
     where
-      go : (t : Bool) → ltb i (lentCount own n sizes) ≡ t → costNumber costs i ≤ pairLimit
+      go : (t : Bool) → ltb i (lentCount own n sizes) ≡ t → costGood (costNumber costs i) ≡ true
       go true e = rw zero-add at (costs-at costs 0 (lentCount own n sizes) (tests .1) i (ltb-true i (lentCount own n sizes) e))
       go false e =
           let l : length costs ≤ 2 * i = omega (arith, lent-length, ltb-false i (lentCount own n sizes) e) in
           let z : costNumber costs i ≡ 0 = u16-past costs (2 * i) l in
-          omega (arith, z)
+          rw z (good-small 0 (omega arith))
 
-  pub lent-pair-most : (j u v : ℕ) → lentView own n sizes costs .pair j u v ≤ pairLimit
+  pub lent-pair-most : (j u v : ℕ) → AtMost pairLimit (lentView own n sizes costs .pair j u v)
   unfolding lentView
   lent-pair-most j u v =
-      cond-most (not (eqb j (pred own)) && ltb j n && isValue (domIn n sizes j) u && isValue (domIn n sizes (pred own)) v) _ pairLimit
-      (lent-number-most _)
+      cond-most (not (eqb j (pred own)) && ltb j n && isValue (domIn n sizes j) u && isValue (domIn n sizes (pred own)) v) pairLimit _
+      (good-cost _ (lent-number-good _))

@@ -4,8 +4,9 @@ use Prim.Native.Nat.{ℕ, _+_, _*_, _-_, pred}
 use mathlib.Core.Bool.{cond, not, _&&_}
 use mathlib.Core.List.{List}
 use lib.Dec.{ltb, eqb}
-use Rattle.base.specs.Sums.{sumFrom, sumTo, least}
+use Rattle.base.specs.Sums as Number
 use Rattle.base.specs.Shape.{isValue}
+use Rattle.costs.specs.Cost.{Cost, Of, _⊕_, sumFrom, least, pairCost}
 use Rattle.costs.specs.Instance.{View, domIn, inPair, costNumber}
 use Rattle.costs.specs.declared.Seat.{Seat}
 use Rattle.costs.specs.Bounds.{costWith, h}
@@ -16,22 +17,23 @@ domFrom seat = domIn (seat .n) (seat .sizes)
 
 -- how many values the other units before place j have together
 abbrev pub othersBefore : Seat → ℕ → ℕ
-othersBefore seat j = sumTo (λ b. cond (eqb b (pred (seat .own))) 0 (domFrom seat b)) j
+othersBefore seat j = Number.sumTo (λ b. cond (eqb b (pred (seat .own))) 0 (domFrom seat b)) j
 
 -- the cost of own value v with value u of unit j, where the own unit, at place k, has d values and unit j has e,
 -- and the others before unit j have `before` values together
-abbrev pub pairFrom : List ℕ → ℕ → ℕ → ℕ → ℕ → ℕ → ℕ → ℕ → ℕ
+abbrev pub pairFrom : List ℕ → ℕ → ℕ → ℕ → ℕ → ℕ → ℕ → ℕ → Cost
 pairFrom costs k j d e before u v =
-    cond (not (eqb j k) && isValue e u && isValue d v) (costNumber costs (d * before + cond (ltb j k) (inPair d u v) (inPair e v u))) 0
+    cond (not (eqb j k) && isValue e u && isValue d v) (pairCost (costNumber costs (d * before + cond (ltb j k) (inPair d u v) (inPair e v u)))) (Of 0)
 
 -- the least of the e costs from number `start` on
-abbrev pub leastRun : List ℕ → ℕ → ℕ → ℕ
-leastRun costs start e = least (λ u. costNumber costs (start + (u - 1))) e
+abbrev pub leastRun : List ℕ → ℕ → ℕ → Cost
+leastRun costs start e = least (λ u. pairCost (costNumber costs (start + (u - 1)))) e
 
--- the part of h(v) that comes from the units at place j and after
-unfoldable pub laterFrom : View → ℕ → ℕ → ℕ
-laterFrom w v j = sumFrom (λ i. least (λ u. w .pair i u v) (w .dom i)) j (w .n - j)
+-- the runs of own value v with the units at place j and after, the least of each added up
+unfoldable pub runsFrom : Seat → List ℕ → ℕ → ℕ → Cost
+runsFrom seat costs v j =
+    sumFrom (λ i. leastRun costs (domFrom seat (pred (seat .own)) * othersBefore seat i + (v - 1) * domFrom seat i) (domFrom seat i)) j (seat .n - j)
 
 -- the least, over own values up to d, of the cost with a prefix of k units and h
-unfoldable pub leastCost : View → List ℕ → ℕ → ℕ → ℕ
-leastCost w values k d = least (λ v. costWith w values k v + h w v) d
+unfoldable pub leastCost : View → List ℕ → ℕ → ℕ → Cost
+leastCost w values k d = least (λ v. costWith w values k v ⊕ h w v) d

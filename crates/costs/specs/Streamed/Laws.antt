@@ -1,6 +1,6 @@
 -- The stream of an instance is accepted, and its instance is that one. By where each cost stands among the joined lists; that it is within its
 -- limit goes list by list.
--- In order: lengths; the place of a cost; tests of joined lists; `stream-accepted`; `stream-dom`, `stream-cost`.
+-- In order: a cost as a number; lengths; the place of a cost; tests of joined lists; `stream-accepted`; `stream-dom`, `stream-cost`.
 -- Assumes nothing.
 use Prim.Native.Nat.{ℕ, zero, suc, _+_, _*_, _-_, _≤_, _<_}
 use mathlib.Core.Path.{_≡_, refl, sym, ap, _∙_, fun-ext}
@@ -11,7 +11,7 @@ use native.Mathlib.Nat.{mul-comm, mul-assoc, suc-mul, zero-add, add-zero, le-ref
 use lib.Dec.{ltb, eqb}
 use lib.ListN.{length, getD, take, drop, length-append, List·getD-append, List·getD-eq-default}
 use lib.Seq.{getD-drop, getD-append-add, take-at, drop-at}
-use borrow.Author.Tests.{lt-ltb, ltb-true, ltb-false, le-leb, ne-eqb}
+use borrow.Author.Tests.{lt-ltb, ltb-true, ltb-false, ne-eqb}
 use Rattle.base.specs.Limits.{pairLimit}
 use Rattle.base.specs.Bytes.{le16}
 use Rattle.base.specs.Bytes.Laws.{u16-of-le16}
@@ -21,12 +21,30 @@ use Rattle.base.specs.Shape.{isValue, allInSixteen}
 use Rattle.base.specs.Shape.Laws.{inSixteen, and-left, and-right, value-range, range-value}
 use Rattle.base.specs.Sums.{sumFrom, sumTo}
 use Rattle.base.specs.Sums.Laws.{sumTo-same, sumTo-scaled, sumTo-shifted}
-use Rattle.table.specs.Stream.{unitsOf, pairsIn, costsGood, Accepted}
-use Rattle.table.specs.StreamLaws.{costs-same, costs-split, accepted-by-tests}
+use Rattle.table.specs.Stream.{unitsOf, pairsIn, costGood, costsGood, Accepted}
+use Rattle.table.specs.StreamLaws.{costs-same, costs-split, good-small, good-forbidden, accepted-by-tests}
+use Rattle.costs.specs.Cost.{Cost, Of, Forbidden, pairCost}
+use Rattle.costs.specs.Cost.Laws.{AtMost, pair-forbidden, pair-number}
 use Rattle.costs.specs.Instance.{Instance, pairStart, costNumber, tableCost, instanceOf, domOf}
-use Rattle.costs.specs.Streamed.{rowCosts, pairCosts, laterCosts, sizesFor, streamFor}
+use Rattle.costs.specs.Streamed.{pairNumber, rowCosts, pairCosts, laterCosts, sizesFor, streamFor}
 use Rattle.costs.specs.Laws.{Sound}
 use Rattle.costs.specs.Laws.Stream.{rowStart, pair-end, costs-count}
+
+-- ---- a cost as a number of a table
+
+number-small : (c : Cost) → AtMost pairLimit c → pairNumber c < 65536
+number-small (Of x) h = omega arith
+number-small Forbidden h = omega arith
+
+-- it passes check 7
+number-good : (c : Cost) → AtMost pairLimit c → costGood (pairNumber c) ≡ true
+number-good (Of x) h = good-small x h
+number-good Forbidden h = good-forbidden
+
+-- and stands for that cost
+number-cost : (c : Cost) → AtMost pairLimit c → pairCost (pairNumber c) ≡ c
+number-cost (Of x) h = pair-number x (omega arith)
+number-cost Forbidden h = pair-forbidden
 
 -- ---- lengths
 
@@ -62,7 +80,7 @@ module _ (I : Instance) where
 
 module _ (I : Instance) (i j u v : ℕ) (order : i < j) (inside : j < I .n) (lower : u < I .dom i) (higher : v < I .dom j) where
   -- among the costs of its pair, byte by byte
-  row-byte : (b : ℕ) → b < 2 → getD (rowCosts I i j u) (2 * v + b) 0 ≡ getD (le16 (I .cost i (suc u) j (suc v))) b 0
+  row-byte : (b : ℕ) → b < 2 → getD (rowCosts I i j u) (2 * v + b) 0 ≡ getD (le16 (pairNumber (I .cost i (suc u) j (suc v)))) b 0
   row-byte b h =
       let p : 2 * v + b ≡ sumTo (λ w. 2) v + b = omega (arith, sumTo-same 2 v) in
       ap (λ x. getD (rowCosts I i j u) x 0) p ∙ join-at _ (λ w. 2) (λ w. refl) (I .dom j) v b higher h
@@ -83,7 +101,7 @@ module _ (I : Instance) (i j u v : ℕ) (order : i < j) (inside : j < I .n) (low
   all-byte : (x : ℕ) → x < 2 * (I .dom i * sumFrom (I .dom) (suc i) (I .n - suc i)) → getD (joinTo (laterCosts I) (I .n)) (2 * rowStart (I .dom) (I .n) i + x) 0 ≡ getD (laterCosts I i) x 0
   all-byte x h = rw (← all-sum I i) (join-at (laterCosts I) (λ k. 2 * (I .dom k * sumFrom (I .dom) (suc k) (I .n - suc k))) (later-length I) (I .n) i x (omega arith) h)
 
-  cost-byte : (b : ℕ) → b < 2 → getD (joinTo (laterCosts I) (I .n)) (2 * (pairStart (I .dom) (I .n) i j + (u * I .dom j + v)) + b) 0 ≡ getD (le16 (I .cost i (suc u) j (suc v))) b 0
+  cost-byte : (b : ℕ) → b < 2 → getD (joinTo (laterCosts I) (I .n)) (2 * (pairStart (I .dom) (I .n) i j + (u * I .dom j + v)) + b) 0 ≡ getD (le16 (pairNumber (I .cost i (suc u) j (suc v)))) b 0
   cost-byte b h =
       let e : I .dom j ≡ I .dom j = refl in
       let in-row : 2 * v + b < 2 * I .dom j = omega arith in
@@ -94,11 +112,12 @@ module _ (I : Instance) (i j u v : ℕ) (order : i < j) (inside : j < I .n) (low
       let p : 2 * (pairStart (I .dom) (I .n) i j + (u * I .dom j + v)) + b ≡ 2 * rowStart (I .dom) (I .n) i + (start + (2 * (u * I .dom j) + (2 * v + b))) = omega arith in
       ap (λ x. getD (joinTo (laterCosts I) (I .n)) x 0) p ∙ all-byte (start + (2 * (u * I .dom j) + (2 * v + b))) in-later ∙ later-byte (2 * (u * I .dom j) + (2 * v + b)) in-pair ∙ pair-byte (2 * v + b) in-row ∙ row-byte b h
 
-  pub cost-there : I .cost i (suc u) j (suc v) < 65536 → costNumber (joinTo (laterCosts I) (I .n)) (pairStart (I .dom) (I .n) i j + (u * I .dom j + v)) ≡ I .cost i (suc u) j (suc v)
+  pub cost-there : pairNumber (I .cost i (suc u) j (suc v)) < 65536
+      → costNumber (joinTo (laterCosts I) (I .n)) (pairStart (I .dom) (I .n) i j + (u * I .dom j + v)) ≡ pairNumber (I .cost i (suc u) j (suc v))
   cost-there small =
       let x : ℕ = 2 * (pairStart (I .dom) (I .n) i j + (u * I .dom j + v)) in
-      let a : getD (joinTo (laterCosts I) (I .n)) x 0 ≡ getD (le16 (I .cost i (suc u) j (suc v))) 0 0 = ap (λ y. getD (joinTo (laterCosts I) (I .n)) y 0) (sym (add-zero x)) ∙ cost-byte 0 (omega arith) in
-      rw (a, cost-byte 1 (omega arith)) (u16-of-le16 (I .cost i (suc u) j (suc v)) small)
+      let a : getD (joinTo (laterCosts I) (I .n)) x 0 ≡ getD (le16 (pairNumber (I .cost i (suc u) j (suc v)))) 0 0 = ap (λ y. getD (joinTo (laterCosts I) (I .n)) y 0) (sym (add-zero x)) ∙ cost-byte 0 (omega arith) in
+      rw (a, cost-byte 1 (omega arith)) (u16-of-le16 (pairNumber (I .cost i (suc u) j (suc v))) small)
 
 -- ---- tests of joined lists
 
@@ -115,15 +134,15 @@ good-join f count sized good zero = refl
 good-join f count sized good (suc m) =
     good-append (joinTo f m) (f m) (sumTo count m) (count m) (length-join f (λ k. 2 * count k) sized m ∙ sumTo-scaled 2 count m) (good-join f count sized good m) (good m)
 
-good-one : (x : ℕ) → x ≤ pairLimit → costsGood (le16 x) 0 1 ≡ true
+good-one : (c : Cost) → AtMost pairLimit c → costsGood (le16 (pairNumber c)) 0 1 ≡ true
 unfolding costsGood
-good-one x h = rw (u16-of-le16 x (omega arith), le-leb x pairLimit h)
+good-one c h = rw (u16-of-le16 (pairNumber c) (number-small c h), number-good c h)
 
-module _ (I : Instance) (small : (i u j v : ℕ) → I .cost i u j v ≤ pairLimit) where
+module _ (I : Instance) (small : (i u j v : ℕ) → AtMost pairLimit (I .cost i u j v)) where
   row-good : (i j u : ℕ) → costsGood (rowCosts I i j u) 0 (I .dom j) ≡ true
   row-good i j u =
       let e : sumTo (λ v. 1) (I .dom j) ≡ I .dom j = sumTo-same 1 (I .dom j) ∙ omega arith in
-      rw e at (good-join (λ v. le16 (I .cost i (suc u) j (suc v))) (λ v. 1) (λ v. refl) (λ v. good-one _ (small i (suc u) j (suc v))) (I .dom j))
+      rw e at (good-join (λ v. le16 (pairNumber (I .cost i (suc u) j (suc v)))) (λ v. 1) (λ v. refl) (λ v. good-one (I .cost i (suc u) j (suc v)) (small i (suc u) j (suc v))) (I .dom j))
 
   pair-good : (i j : ℕ) → costsGood (pairCosts I i j) 0 (I .dom i * I .dom j) ≡ true
   pair-good i j = rw (sumTo-same (I .dom j) (I .dom i)) at (good-join (rowCosts I i j) (λ u. I .dom j) (row-length I i j) (row-good i j) (I .dom i))
@@ -209,8 +228,8 @@ module _ (I : Instance) (s : Sound I) (past : (k : ℕ) → I .n ≤ k → I .do
       let b = value-range (I .dom j) v q in
       let x : suc (u - 1) ≡ u = omega arith in
       let y : suc (v - 1) ≡ v = omega arith in
-      let small : I .cost i (suc (u - 1)) j (suc (v - 1)) < 65536 = omega (arith, s .small i (suc (u - 1)) j (suc (v - 1))) in
+      let small : pairNumber (I .cost i (suc (u - 1)) j (suc (v - 1))) < 65536 = number-small (I .cost i (suc (u - 1)) j (suc (v - 1))) (s .small i (suc (u - 1)) j (suc (v - 1))) in
       let there = cost-there I i j (u - 1) (v - 1) order inside (omega arith) (omega arith) small in
       ap (λ (f : ℕ → ℕ). tableCost (unitsOf (streamFor I)) f (drop (1 + unitsOf (streamFor I)) (streamFor I)) i u j v) stream-dom
       ∙ ap (λ (m : ℕ). tableCost m (I .dom) (drop (1 + m) (streamFor I)) i u j v) stream-units ∙ ap (λ (l : List ℕ). tableCost (I .n) (I .dom) l i u j v) costs-there
-      ∙ rw (lt-ltb i j order, lt-ltb j (I .n) inside, p, q) (rw (x, y) at there)
+      ∙ rw (lt-ltb i j order, lt-ltb j (I .n) inside, p, q) (ap pairCost (rw (x, y) at there) ∙ number-cost (I .cost i u j v) (s .small i u j v))

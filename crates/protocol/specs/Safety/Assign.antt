@@ -119,8 +119,7 @@ module _ (P : Problem) (laws : Laws P) (k : ℕ) (k<n : k < P .n) (Past : Histor
       record {
         valid = inr (
           refl,
-          (omega (arith, prefix-length u h), (omega arith, subst (λ x. suc (u .own) ≤ P .size x) (sym (prefix-length u h)) (omega (arith, h .left)), bf .domains _ _ (h .past))),
-          omega (arith, less, valid-le-none P (u .best) (h .valid)),
+          (omega (arith, prefix-length u h), (omega arith, subst (λ x. suc (u .own) ≤ P .size x) (sym (prefix-length u h)) (omega (arith, h .left)), bf .domains _ _ (h .past)), omega (arith, less, valid-le-none P (u .best) (h .valid))),
         );
         sorted = written-sorted m u h;
         past = h .past;
@@ -133,7 +132,7 @@ module _ (P : Problem) (laws : Laws P) (k : ℕ) (k<n : k < P .n) (Past : Histor
       }
     where
       less : P .cost (values (skip u)) < u .bound
-      less = omega (arith, low, laws .cost-le-lookahead (values (skip u)))
+      less = omega (arith, low, laws .cost-le-lookahead (values (skip u)) (omega (arith, low, valid-le-none P (u .best) (h .valid))))
 
   pub try-post : (m : ℕ) (better : Bool) (u : Agent) → Ready P k Past m u → Post P k Past X (tryFrom P k m better u)
   try-post =

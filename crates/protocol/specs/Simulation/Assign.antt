@@ -4,17 +4,21 @@
 -- Assumes nothing.
 use Prim.Native.Nat.{ℕ, zero, suc, _+_, _*_, _-_, _≤_, _<_, pred}
 use mathlib.Core.Path.{_≡_, refl, sym, ap, _∙_, subst}
-use mathlib.Core.Logic.{inr}
+use mathlib.Core.Logic.{_≢_, inr}
 use mathlib.Core.Bool.{Bool, true, false, _||_}
 use mathlib.Core.List.{List, _∷_, reverse}
 use native.Mathlib.Omega.{arith}
 use lib.Dec.{ltb, leb, eqb, eqb·suc-zero}
 use lib.ListN.{length, getD, set, take, length-set}
 use lib.Seq.{getD-set-same, getD-take}
-use borrow.Author.Tests.{eqb-true}
+use borrow.Author.Tests.{eqb-true, ltb-true}
+use Rattle.costs.specs.declared.Cost.{Cost}
+use Rattle.costs.specs.declared.Cost.the-variants.{Of, Forbidden}
+use Rattle.costs.specs.Cost.{_⊕_, asNumber}
+use Rattle.costs.specs.Cost.Laws.{sum-left, taken-off, number-below, number-is, number-mono, below-number}
 use Rattle.costs.specs.Instance.{Instance, viewOf}
 use Rattle.costs.specs.Bounds.{costWith, h}
-use Rattle.costs.specs.Laws.{against, costOf, lookaheadOf, problemOf}
+use Rattle.costs.specs.Laws.{against, costOf, hOf, lookaheadOf, problemOf, cost-le-lookahead}
 use Rattle.costs.specs.Laws.Prefix.{pre, pre-set, pre-set-next, cost-with-prefix, cost-next, lookahead-next}
 use Rattle.message.specs.declared.Kind.the-variants.{Cpa, Request, Solution, Stop}
 use Rattle.message.specs.Message.{Packet}
@@ -23,6 +27,7 @@ use Rattle.rules.specs.State.{zeros, withBest}
 use Rattle.rules.specs.Step as U
 use Rattle.rules.specs.Tests.{tryValue}
 use Rattle.rules.specs.Step.{takeOff, carried}
+use Rattle.protocol.specs.Problem.{NONE}
 use Rattle.rules.specs.Send.{packets, each, sentTo, withoutBound, boundOnly, handBack, solutions}
 use Rattle.protocol.specs.Machine as M
 use Rattle.protocol.specs.Machine.{Msg, Agent}
@@ -101,17 +106,17 @@ module _ (I : Instance) where
   -- ---- a value written
 
   module _ (k : ℕ) (k16 : k < 16) where
-    next-cost : (v : ℕ) (s : UnitState) (u : Agent) → OwnOff I k v s u → s .cost + costWith (viewOf I k) (s .values) k (suc v) ≡ costOf I (suc (u .own) ∷ u .prefix)
+    next-cost : (v : ℕ) (s : UnitState) (u : Agent) → OwnOff I k v s u → Of (s .cost) ⊕ costWith (viewOf I k) (s .values) k (suc v) ≡ costOf I (suc (u .own) ∷ u .prefix)
     next-cost v s u b =
-        ap (λ z. z + costWith (viewOf I k) (s .values) k (suc v)) (b .cost)
-        ∙ subst (λ z. costOf I z + costWith (viewOf I k) (s .values) k (suc v) ≡ costOf I (suc v ∷ z)) (b .values .are) (cost-next I k (s .values) (suc v))
+        ap (λ (z : Cost). z ⊕ costWith (viewOf I k) (s .values) k (suc v)) (b .cost)
+        ∙ subst (λ z. costOf I z ⊕ costWith (viewOf I k) (s .values) k (suc v) ≡ costOf I (suc v ∷ z)) (b .values .are) (cost-next I k (s .values) (suc v))
         ∙ ap (λ z. costOf I (suc z ∷ u .prefix)) (b .tried)
 
     next-lookahead : (v : ℕ) (s : UnitState) (u : Agent) → OwnOff I k v s u
-        → s .cost + costWith (viewOf I k) (s .values) k (suc v) + h (viewOf I k) (suc v) ≡ lookaheadOf I (suc (u .own) ∷ u .prefix)
+        → Of (s .cost) ⊕ costWith (viewOf I k) (s .values) k (suc v) ⊕ h (viewOf I k) (suc v) ≡ lookaheadOf I (suc (u .own) ∷ u .prefix)
     next-lookahead v s u b =
-        ap (λ z. z + costWith (viewOf I k) (s .values) k (suc v) + h (viewOf I k) (suc v)) (b .cost)
-        ∙ subst (λ z. costOf I z + costWith (viewOf I k) (s .values) k (suc v) + h (viewOf I k) (suc v) ≡ lookaheadOf I (suc v ∷ z)) (b .values .are) (lookahead-next I k (s .values) (suc v))
+        ap (λ (z : Cost). z ⊕ costWith (viewOf I k) (s .values) k (suc v) ⊕ h (viewOf I k) (suc v)) (b .cost)
+        ∙ subst (λ z. costOf I z ⊕ costWith (viewOf I k) (s .values) k (suc v) ⊕ h (viewOf I k) (suc v) ≡ lookaheadOf I (suc v ∷ z)) (b .values .are) (lookahead-next I k (s .values) (suc v))
         ∙ ap (λ z. lookaheadOf I (suc z ∷ u .prefix)) (b .tried)
 
     written-values : (v : ℕ) (s : UnitState) (u : Agent) → OwnOff I k v s u → ValuesAre (suc k) (set (s .values) k (suc v)) (suc (u .own) ∷ u .prefix)
@@ -137,7 +142,7 @@ module _ (I : Instance) where
               );
         }
 
-    write-at-rest : (v c : ℕ) (s : UnitState) (u : Agent) → OwnOff I k v s u → s .estimates ≡ zeros → u .counter ≤ 30 → c ≡ costOf I (suc (u .own) ∷ u .prefix)
+    write-at-rest : (v c : ℕ) (s : UnitState) (u : Agent) → OwnOff I k v s u → s .estimates ≡ zeros → u .counter ≤ 30 → Of c ≡ costOf I (suc (u .own) ∷ u .prefix)
         → AtRest I k (U.write (viewOf I k) (suc v) c s) (M.write u)
     write-at-rest v c s u b z hc ec =
         record {
@@ -167,7 +172,7 @@ module _ (I : Instance) where
         st : StampIs (suc k) (set (s .stamp) k (suc (s .counter))) (u .prefixStamp * 32 + suc (u .counter))
         st = written-stamp v s u b hc
 
-    forward-read : (v c : ℕ) (s : UnitState) (u : Agent) → OwnOff I k v s u → u .counter ≤ 30 → c ≡ costOf I (suc (u .own) ∷ u .prefix)
+    forward-read : (v c : ℕ) (s : UnitState) (u : Agent) → OwnOff I k v s u → u .counter ≤ 30 → Of c ≡ costOf I (suc (u .own) ∷ u .prefix)
         → ReadAll I (sentTo Cpa (carried (viewOf I k) (U.write (viewOf I k) (suc v) c s)) (suc k)
         ∷ each (sentTo Request (withoutBound (carried (viewOf I k) (U.write (viewOf I k) (suc v) c s)))) (suc k) (I .n - suc k))
         (M.sendDown (problemOf I) k (M.write u))
@@ -192,31 +197,24 @@ module _ (I : Instance) where
     )
 
     -- unit n: the new best, and the value taken off again
-    solved-cost : (v : ℕ) (s : UnitState) (u : Agent) → OwnOff I k v s u
-        → s .cost + costWith (viewOf I k) (s .values) k (suc v)
-        - costWith (viewOf I k) (set (s .values) k (suc v)) k (getD (set (s .values) k (suc v)) k 0)
-        ≡ costOf I (u .prefix)
-    solved-cost v s u b =
+    solved-cost : (v c : ℕ) (s : UnitState) (u : Agent) → OwnOff I k v s u → Of c ≡ Of (s .cost) ⊕ costWith (viewOf I k) (s .values) k (suc v)
+        → Of (c - asNumber (costWith (viewOf I k) (set (s .values) k (suc v)) k (getD (set (s .values) k (suc v)) k 0))) ≡ costOf I (u .prefix)
+    solved-cost v c s u b ec =
         let e : getD (set (s .values) k (suc v)) k 0 ≡ suc v = getD-set-same (s .values) k (suc v) 0 (omega (arith, b .values .filled .size)) in
         let a : costWith (viewOf I k) (set (s .values) k (suc v)) k (suc v) ≡ costWith (viewOf I k) (s .values) k (suc v) =
         cost-with-prefix I k (set (s .values) k (suc v)) k (suc v) (omega arith) ∙ ap (against I k (suc v)) (pre-set k k (s .values) (suc v) (omega arith))
         ∙ sym (cost-with-prefix I k (s .values) k (suc v) (omega arith)) in
-        subst (λ x. s .cost + costWith (viewOf I k) (s .values) k (suc v) - costWith (viewOf I k) (set (s .values) k (suc v)) k x ≡ costOf I (u .prefix)) (sym e)
-        (omega (arith, a, b .cost))
+        rw (e, a) (taken-off c (Of (s .cost)) (costWith (viewOf I k) (s .values) k (suc v)) ec ∙ b .cost)
 
-    solved-off : (v : ℕ) (s : UnitState) (u : Agent) → OwnOff I k v s u → u .counter ≤ 30 → suc k ≡ I .n
-        → OwnOff I k (suc v)
-        (takeOff (viewOf I k)
-        (withBest (s .cost + costWith (viewOf I k) (s .values) k (suc v)) (set (s .values) k (suc v))
-        (U.write (viewOf I k) (suc v) (s .cost + costWith (viewOf I k) (s .values) k (suc v)) s)))
-        (M.solved (problemOf I) (M.write u))
-    solved-off v s u b hc last =
+    solved-off : (v c : ℕ) (s : UnitState) (u : Agent) → OwnOff I k v s u → Of c ≡ Of (s .cost) ⊕ costWith (viewOf I k) (s .values) k (suc v) → u .counter ≤ 30 → suc k ≡ I .n
+        → OwnOff I k (suc v) (takeOff (viewOf I k) (withBest c (set (s .values) k (suc v)) (U.write (viewOf I k) (suc v) c s))) (M.solved (problemOf I) (M.write u))
+    solved-off v c s u b ec hc last =
         record {
           common = record {
             size = st .filled .size;
             digits = st .digits;
             threshold-is = st .is;
-            bound-is = next-cost v s u b;
+            bound-is = ap asNumber (ec ∙ next-cost v s u b);
             best-is = inr (subst (λ x. pre x (set (s .values) k (suc v)) ≡ suc (u .own) ∷ u .prefix) last (written-values v s u b .are));
             counter-is = ap suc (b .common .counter-is);
             stopped-is = b .common .stopped-is;
@@ -231,7 +229,7 @@ module _ (I : Instance) where
             filled = filled-off (set (s .values) k (suc v)) k k16 (filled-next (s .values) k (suc v) (b .values .filled));
             are = pre-set k k (set (s .values) k (suc v)) 0 (omega arith) ∙ pre-set k k (s .values) (suc v) (omega arith) ∙ b .values .are;
           };
-          cost = solved-cost v s u b;
+          cost = solved-cost v c s u b ec;
         }
       where
         st : StampIs (suc k) (set (s .stamp) k (suc (s .counter))) (u .prefixStamp * 32 + suc (u .counter))
@@ -240,44 +238,59 @@ module _ (I : Instance) where
     -- ---- the values tried, m of them left
 
     pub try-agrees : (m v : ℕ) (better : Bool) (s : UnitState) (u : Agent) → OwnOff I k v s u → s .estimates ≡ zeros
-        → u .threshold ≡ u .prefixStamp * 32 + u .counter → u .counter + m ≤ 30
+        → u .threshold ≡ u .prefixStamp * 32 + u .counter → u .counter + m ≤ 30 → u .bound ≤ NONE
         → Agrees I k (u .log) (U.tryAfter (viewOf I k) m v better s) (M.tryFrom (problemOf I) k m better u)
     unfolding U.tryAfter packets
-    try-agrees zero v better s u b z e hc = backtrack-agrees k k16 v better s u b (omega (arith, b .common .threshold-is, b .common .digits k))
-    try-agrees (suc m) v better s u b z e hc =
+    try-agrees zero v better s u b z e hc most = backtrack-agrees k k16 v better s u b (omega (arith, b .common .threshold-is, b .common .digits k))
+    try-agrees (suc m) v better s u b z e hc most =
         subst (λ t. Agrees I k (u .log) (tryValue (viewOf I k) t (suc v) c better s (λ (x : Bool) (t : UnitState). U.tryAfter (viewOf I k) m (suc v) x t))
-        (M.tryNext (problemOf I) k (ltb (lookaheadOf I (suc (u .own) ∷ u .prefix)) (u .bound)) better u (λ x t. M.tryFrom (problemOf I) k m x t)))
-        (sym (less-test (next-lookahead v s u b) (b .common .bound-is)))
-        (next (ltb (lookaheadOf I (suc (u .own) ∷ u .prefix)) (u .bound)) (λ x t q y f. try-agrees m (suc v) x t q y f))
+        (M.tryNext (problemOf I) k (ltb (asNumber (lookaheadOf I b′)) (u .bound)) better u (λ x t. M.tryFrom (problemOf I) k m x t)))
+        (sym (below-number (next-at ⊕ h (viewOf I k) (suc v)) (s .bound) (omega (arith, b .common .bound-is)) ∙ less-test (ap asNumber (next-lookahead v s u b)) (b .common .bound-is)))
+        (next (ltb (asNumber (lookaheadOf I b′)) (u .bound)) refl (λ x t q y f. try-agrees m (suc v) x t q y f))
       where
         IH : Type 0
-        IH = (x : Bool) (t : UnitState) (q : Agent) → OwnOff I k (suc v) t q → t .estimates ≡ zeros → q .threshold ≡ q .prefixStamp * 32 + q .counter → q .counter + m ≤ 30
+        IH = (x : Bool) (t : UnitState) (q : Agent) → OwnOff I k (suc v) t q → t .estimates ≡ zeros → q .threshold ≡ q .prefixStamp * 32 + q .counter → q .counter + m ≤ 30 → q .bound ≤ NONE
             → Agrees I k (q .log) (U.tryAfter (viewOf I k) m (suc v) x t) (M.tryFrom (problemOf I) k m x q)
 
-        c : ℕ
-        c = s .cost + costWith (viewOf I k) (s .values) k (suc v)
+        next-at : Cost
+        next-at = Of (s .cost) ⊕ costWith (viewOf I k) (s .values) k (suc v)
 
-        last : (t : Bool) → eqb (suc k) (I .n) ≡ t → IH
+        c : ℕ
+        c = asNumber (Of (s .cost) ⊕ costWith (viewOf I k) (s .values) k (suc v))
+
+        b′ : List ℕ
+        b′ = suc (u .own) ∷ u .prefix
+
+        -- with a lookahead below the bound, the value's cost is a number, and at most NONE
+        paid : asNumber (lookaheadOf I b′) < u .bound → Of c ≡ next-at
+        paid low =
+            sym (number-is next-at
+            (subst (λ (x : Cost). x ≢ Forbidden) (sym (next-cost v s u b)) (sum-left (costOf I b′) (hOf I (length (u .prefix)) (suc (u .own))) (number-below (lookaheadOf I b′) (omega arith)))))
+
+        few : asNumber (lookaheadOf I b′) < u .bound → asNumber (costOf I b′) ≤ NONE
+        few low = omega (arith, number-mono (costOf I b′) (lookaheadOf I b′) (cost-le-lookahead I b′) (omega arith))
+
+        last : (t : Bool) → eqb (suc k) (I .n) ≡ t → asNumber (lookaheadOf I b′) < u .bound → IH
             → Agrees I k (u .log) (U.afterWrite (viewOf I k) t (U.write (viewOf I k) (suc v) c s) (λ (x : Bool) (t : UnitState). U.tryAfter (viewOf I k) m (suc v) x t))
             (M.afterWrite (problemOf I) k t (M.write u) (λ x t. M.tryFrom (problemOf I) k m x t))
-        last true q ih =
+        last true q low ih =
             agrees-after I k (u .log) (U.recordOf (viewOf I k) (U.write (viewOf I k) (suc v) c s)) (M.nextRecord u)
             (U.tryAfter (viewOf I k) m (suc v) true (takeOff (viewOf I k) (withBest c (set (s .values) k (suc v)) (U.write (viewOf I k) (suc v) c s))))
             (M.tryFrom (problemOf I) k m true (M.solved (problemOf I) (M.write u)))
             (record-read v c s u b (omega arith))
             (ih true (takeOff (viewOf I k) (withBest c (set (s .values) k (suc v)) (U.write (viewOf I k) (suc v) c s))) (M.solved (problemOf I) (M.write u))
-            (solved-off v s u b (omega arith) (eqb-true (suc k) (I .n) q)) z refl (omega arith))
-        last false q ih = (
-          write-at-rest v c s u b z (omega arith) (next-cost v s u b),
-          forward-read v c s u b (omega arith) (next-cost v s u b),
+            (solved-off v c s u b (paid low) (omega arith) (eqb-true (suc k) (I .n) q)) z refl (omega arith) (few low))
+        last false q low ih = (
+          write-at-rest v c s u b z (omega arith) (paid low ∙ next-cost v s u b),
+          forward-read v c s u b (omega arith) (paid low ∙ next-cost v s u b),
           (M.nextRecord u, record-read v c s u b (omega arith), refl),
         )
 
-        next : (t : Bool) → IH
+        next : (t : Bool) → ltb (asNumber (lookaheadOf I b′)) (u .bound) ≡ t → IH
             → Agrees I k (u .log) (tryValue (viewOf I k) t (suc v) c better s (λ (x : Bool) (t : UnitState). U.tryAfter (viewOf I k) m (suc v) x t))
             (M.tryNext (problemOf I) k t better u (λ x t. M.tryFrom (problemOf I) k m x t))
-        next true ih = last (eqb (suc k) (I .n)) refl ih
-        next false ih =
+        next true low ih = last (eqb (suc k) (I .n)) refl (ltb-true (asNumber (lookaheadOf I b′)) (u .bound) low) ih
+        next false low ih =
             ih better s (M.skip u)
             (record {
               common = b .common;
@@ -285,4 +298,4 @@ module _ (I : Instance) where
               stamp = b .stamp;
               values = b .values;
               cost = b .cost;
-            }) z e (omega arith)
+            }) z e (omega arith) most

@@ -9,6 +9,7 @@ use mathlib.Core.Bool.{Bool}
 use mathlib.Core.List.{List, [], _∷_, _++_, reverse}
 use native.Mathlib.Omega.{arith}
 use lib.ListN.{length, getD}
+use Rattle.costs.specs.declared.Cost.the-variants.{Of}
 use Rattle.costs.specs.Instance.{Instance, viewOf}
 use Rattle.costs.specs.Laws.{costOf}
 use Rattle.costs.specs.Laws.Prefix.{pre}
@@ -34,19 +35,19 @@ pub record ValuesAre (f : ℕ) (l b : List ℕ) : Type 0 where
   pub are : pre f l ≡ b
 
 module _ (I : Instance) where
-  -- the machine's best is empty, or read off the array
+  -- the machine's best is empty and the array all zero, or it is read off the array
   abbrev pub BestIs : List ℕ → List ℕ → Type 0
-  BestIs a l = (l ≡ []) ⊎ (pre (I .n) a ≡ l)
+  BestIs a l = ((l ≡ []) × (a ≡ zeros)) ⊎ (pre (I .n) a ≡ l)
 
   -- ---- packets
 
   abbrev pub Reads : Packet → Msg → Type 0
   Reads p (M.down k s b B l) =
       (p .kind ≡ Cpa) × (p .message .receiver ≡ suc k) × (p .message .sender < suc k) × StampIs k (p .message .stamp) s × ValuesAre k (p .message .values) b
-      × (p .message .cost ≡ costOf I b) × (p .message .bound ≡ B) × BestIs (p .message .best) l
+      × (Of (p .message .cost) ≡ costOf I b) × (p .message .bound ≡ B) × BestIs (p .message .best) l
   Reads p (M.back k s b B l) =
       (p .kind ≡ Cpa) × (p .message .receiver ≡ suc k) × (suc k < p .message .sender) × StampIs (suc k) (p .message .stamp) s × ValuesAre (suc k) (p .message .values) b
-      × (p .message .cost ≡ costOf I b) × (p .message .bound ≡ B) × BestIs (p .message .best) l
+      × (Of (p .message .cost) ≡ costOf I b) × (p .message .bound ≡ B) × BestIs (p .message .best) l
   Reads p (M.request k j s b) =
       (p .kind ≡ Request) × (p .message .receiver ≡ suc k) × (p .message .sender ≡ suc j) × StampIs (suc j) (p .message .stamp) s × ValuesAre (suc j) (p .message .values) b
   Reads p (M.estimate k j s e) =
@@ -96,7 +97,7 @@ pub record CpaOf (I : Instance) (k : ℕ) (stamp values : List ℕ) (cost : ℕ)
   pub prefixStamp : 1 ≤ v → rank k stamp ≡ s
   pub own-stamp : 1 ≤ v → getD stamp k 0 ≡ c
   pub prefix : 1 ≤ v → pre k values ≡ b
-  pub cost-is : 1 ≤ v → cost ≡ costOf I (v ∷ b)
+  pub cost-is : 1 ≤ v → Of cost ≡ costOf I (v ∷ b)
 
 pub no-cpa : (I : Instance) (k : ℕ) {c s d : ℕ} {b : List ℕ} → CpaOf I k zeros zeros c 0 s b d
 no-cpa I k =
@@ -126,7 +127,7 @@ pub record HandOf (I : Instance) (k : ℕ) (stamp values : List ℕ) (bare v s :
   pub prefixStamp : rank k stamp ≡ s
   pub values-filled : FilledTo (suc k) values
   pub prefix : pre k values ≡ b
-  pub cost-is : bare ≡ costOf I b
+  pub cost-is : Of bare ≡ costOf I b
 
 pub record InHand (I : Instance) (k : ℕ) (s : UnitState) (u : Agent) : Type 0 where
   pub common : Common I k s u
@@ -138,7 +139,7 @@ pub record OwnOff (I : Instance) (k v : ℕ) (s : UnitState) (u : Agent) : Type 
   pub tried : v ≡ u .own
   pub stamp : StampIs k (s .stamp) (u .prefixStamp)
   pub values : ValuesAre k (s .values) (u .prefix)
-  pub cost : s .cost ≡ costOf I (u .prefix)
+  pub cost : Of (s .cost) ≡ costOf I (u .prefix)
 
 -- ---- decisions
 

@@ -1,41 +1,41 @@
--- What unit 1 reports once it has stopped, said of the instance: its bound is the least total, and its best assignment totals just that. A bound that is
--- closed below the empty prefix is no more than any total, and is not none; the assignment is read off the unit's array. Whatever pool there is.
+-- What unit 1 reports once it has stopped, said of the instance: the least total over its assignments, or NONE where there is none. The report that
+-- Demand3 speaks of is over prefixes and numbers; that these are the table's assignments and totals is from `costs`, and that the unit's array holds
+-- the machine's best is in what corresponds. Whatever pool there is.
 -- Assumes nothing.
-use Prim.Native.Nat.{ℕ, _≤_, _<_}
+use Prim.Native.Nat.{ℕ}
 use mathlib.Core.Path.{_≡_, sym, ap, _∙_, subst}
 use mathlib.Core.Logic.{inl, inr}
 use mathlib.Core.List.{List, []}
 use native.Mathlib.Omega.{arith}
-use lib.ListN.{length}
+use lib.ListN.{length, getD}
+use Rattle.costs.specs.Cost.{asNumber}
 use Rattle.costs.specs.Instance.{Instance}
-use Rattle.costs.specs.Bounds.{Assignment, total}
-use Rattle.costs.specs.Laws.{Sound, costOf, problemOf, closed-limit}
-use Rattle.costs.specs.Laws.Prefix.{pre, total-prefix, full-assignment, closed-total}
+use Rattle.costs.specs.Bounds.{Reported}
+use Rattle.costs.specs.Laws.{Sound, costOf, problemOf}
+use Rattle.costs.specs.Laws.Prefix.{pre, length-pre, none-reported, full-reported}
 use Rattle.rules.specs.declared.Unit.{Unit as UnitState}
-use Rattle.protocol.specs.Problem.{Full, Closed, ValidBound, NONE}
+use Rattle.protocol.specs.Problem.{Full, Closed, ValidBound}
 use Rattle.protocol.specs.Machine.{Agent}
+use Rattle.protocol.specs.Simulation.Stamps.{zero-place}
 use Rattle.protocol.specs.Simulation.Relations.{BestIs, AtRest}
 
-pub record Reports (I : Instance) (s : UnitState) : Type 0 where
-  pub full : Assignment I (s .best)
-  pub sum : total I (s .best) ≡ s .bound
-  pub least : (l : List ℕ) → Assignment I l → s .bound ≤ total I l
+module _ (I : Instance) (snd : Sound I) where
+  -- an array that holds no best is zero
+  empty-zeros : (l a : List ℕ) → l ≡ [] → BestIs I a l → (k : ℕ) → getD a k 0 ≡ 0
+  empty-zeros l a e (inl q) k = ap (λ (z : List ℕ). getD z k 0) (q .1) ∙ zero-place k
+  empty-zeros l a e (inr q) k = absurd (omega (arith, snd .n1, length-pre (I .n) a, ap length (q ∙ e)))
 
-pub reports : (I : Instance) → Sound I → (s : UnitState) (u : Agent) → AtRest I 0 s u → ValidBound (problemOf I) (u .bound) (u .best) → Closed (problemOf I) [] (u .bound) → Reports I s
-reports I snd s u r valid closed =
-    record {
-      full = full-assignment I (s .best) (subst (λ z. Full (problemOf I) z) (sym (read .1)) (read .0 .1));
-      sum = total-prefix I (s .best) ∙ ap (costOf I) (read .1) ∙ sym (read .0 .0) ∙ sym (r .common .bound-is);
-      least = λ l a. subst (λ B. B ≤ total I l) (sym (r .common .bound-is)) (closed-total I (u .bound) closed l a);
-    }
-  where
-    Read : Type 0
-    Read = ((u .bound ≡ costOf I (u .best)) × Full (problemOf I) (u .best) × (u .bound < NONE)) × (pre (I .n) (s .best) ≡ u .best)
+  -- and a full one is read off it
+  full-read : (l a : List ℕ) → length l ≡ I .n → BestIs I a l → pre (I .n) a ≡ l
+  full-read l a e (inl q) = absurd (omega (arith, snd .n1, e, ap length (q .0)))
+  full-read l a e (inr q) = q
 
-    go : ValidBound (problemOf I) (u .bound) (u .best) → BestIs I (s .best) (u .best) → Read
-    go (inl q) b = absurd (omega (arith, q .0, closed-limit I snd (u .bound) closed))
-    go (inr q) (inl z) = absurd (omega (arith, q .1 .0, ap length z, snd .n1))
-    go (inr q) (inr z) = (q, z)
+  -- a valid bound that closes the empty prefix is what is to be reported
+  valid-reported : (B : ℕ) (l a : List ℕ) → ValidBound (problemOf I) B l → Closed (problemOf I) [] B → BestIs I a l → Reported I B a
+  valid-reported B l a (inl q) c b = rw (q .0) (none-reported I snd a (empty-zeros l a (q .1) b) (subst (λ x. Closed (problemOf I) [] x) (q .0) c))
+  valid-reported B l a (inr q) c b =
+      let e : pre (I .n) a ≡ l = full-read l a (q .1 .0) b in
+      full-reported I snd B a (q .0 ∙ ap (λ (z : List ℕ). asNumber (costOf I z)) (sym e)) (subst (λ z. Full (problemOf I) z) (sym e) (q .1)) c
 
-    read : Read
-    read = go valid (r .common .best-is)
+  pub reports : (s : UnitState) (u : Agent) → AtRest I 0 s u → ValidBound (problemOf I) (u .bound) (u .best) → Closed (problemOf I) [] (u .bound) → Reported I (s .bound) (s .best)
+  reports s u r valid closed = rw (r .common .bound-is) (valid-reported (u .bound) (u .best) (s .best) valid closed (r .common .best-is))

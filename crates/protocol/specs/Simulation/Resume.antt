@@ -8,6 +8,8 @@ use mathlib.Core.List.{List}
 use native.Mathlib.Omega.{arith}
 use lib.Dec.{ltb, leb, eqb, eqb·suc-zero}
 use Rattle.costs.specs.Instance.{Instance, viewOf}
+use borrow.Author.Tests.{ltb-true}
+use Rattle.costs.specs.Cost.{asNumber}
 use Rattle.costs.specs.Laws.{costOf, problemOf}
 use Rattle.costs.specs.Laws.Prefix.{pre-set}
 use Rattle.message.specs.declared.Message.{Message}
@@ -16,6 +18,7 @@ use Rattle.rules.specs.State.{ownValue}
 use Rattle.rules.specs.Step as U
 use Rattle.rules.specs.Step.{takeOff, begun, takeBound}
 use Rattle.rules.specs.Tests.{takeLower, reachedBound}
+use Rattle.protocol.specs.Problem.{NONE}
 use Rattle.protocol.specs.Machine as M
 use Rattle.protocol.specs.Machine.{Agent}
 use Rattle.protocol.specs.Simulation.Stamps.{rank-set, digits-set, filled-off}
@@ -30,10 +33,10 @@ counter-begun v w c d p q = go v ∙ (λ i. M.recount (p i) (q i))
     go (suc x) = ap (λ t. cond t 0 c) (eqb·suc-zero x)
 
 module _ (I : Instance) (k : ℕ) (k16 : k < 16) where
-  -- what assigning needs: the threshold is the CPA's stamp, and the counter has room for the values left
+  -- what assigning needs: the threshold is the CPA's stamp, the counter has room for the values left, and the bound is at most NONE
   abbrev pub ReadyToAssign : Agent → Type 0
   ReadyToAssign u =
-      (u .threshold ≡ u .prefixStamp * 32 + M.recount (u .own) (u .counter)) × (M.recount (u .own) (u .counter) + (I .dom k - u .own) ≤ 30)
+      (u .threshold ≡ u .prefixStamp * 32 + M.recount (u .own) (u .counter)) × (M.recount (u .own) (u .counter) + (I .dom k - u .own) ≤ 30) × (u .bound ≤ NONE)
 
   own-off : (s : UnitState) (u : Agent) → InHand I k s u → OwnOff I k (u .own) (takeOff (viewOf I k) s) u
   own-off s u a =
@@ -72,13 +75,13 @@ module _ (I : Instance) (k : ℕ) (k16 : k < 16) where
   unfolding U.assign
   assign-agrees s u a r =
       subst (λ x. Agrees I k (u .log) (U.tryAfter (viewOf I k) (I .dom k - x) x false (begun (viewOf I k) s)) (M.assign (problemOf I) k u)) (sym (a .hand .own))
-      (try-agrees I k k16 (I .dom k - u .own) (u .own) false (begun (viewOf I k) s) (M.counted u) (begun-off s u a) refl (r .0) (r .1))
+      (try-agrees I k k16 (I .dom k - u .own) (u .own) false (begun (viewOf I k) s) (M.counted u) (begun-off s u a) refl (r .0) (r .1) (r .2))
 
   resume-agrees : (s : UnitState) (u : Agent) → InHand I k s u → ReadyToAssign u → Agrees I k (u .log) (U.resume (viewOf I k) s) (M.resume (problemOf I) k u)
   unfolding U.resume
   resume-agrees s u a r =
-      subst (λ x. Agrees I k (u .log) (reachedBound (viewOf I k) x s) (M.resume (problemOf I) k u)) (sym (most-test (a .common .bound-is) (a .hand .cost-is)))
-      (go (leb (u .bound) (costOf I (u .prefix))))
+      subst (λ x. Agrees I k (u .log) (reachedBound (viewOf I k) x s) (M.resume (problemOf I) k u)) (sym (most-test (a .common .bound-is) (ap asNumber (a .hand .cost-is))))
+      (go (leb (u .bound) (asNumber (costOf I (u .prefix)))))
     where
       room : M.recount (u .own) (u .counter) ≤ 30
       room = omega (arith, r .1)
@@ -111,9 +114,9 @@ module _ (I : Instance) (k : ℕ) (k16 : k < 16) where
           }
       go false = a
 
-  lower-ready : (t : Bool) (B : ℕ) (l : List ℕ) (u : Agent) → ReadyToAssign u → ReadyToAssign (M.lower t B l u)
-  lower-ready true B l u r = r
-  lower-ready false B l u r = r
+  lower-ready : (t : Bool) (B : ℕ) (l : List ℕ) (u : Agent) → ltb B (u .bound) ≡ t → ReadyToAssign u → ReadyToAssign (M.lower t B l u)
+  lower-ready true B l u e r = (r .0, r .1, omega (arith, r .2, ltb-true B (u .bound) e))
+  lower-ready false B l u e r = r
 
   pub lower-log : (t : Bool) (B : ℕ) (l : List ℕ) (u : Agent) → M.lower t B l u .log ≡ u .log
   lower-log true B l u = refl
@@ -123,4 +126,4 @@ module _ (I : Instance) (k : ℕ) (k16 : k < 16) where
       → Agrees I k (u .log) (U.resume (viewOf I k) (takeBound m s)) (M.resume (problemOf I) k (M.takeBound B l u))
   resume-lower s u m B l e r a ready =
       subst (λ L. Agrees I k L (U.resume (viewOf I k) (takeBound m s)) (M.resume (problemOf I) k (M.takeBound B l u))) (lower-log (ltb B (u .bound)) B l u)
-      (resume-agrees (takeBound m s) (M.takeBound B l u) (lower-in-hand s u m B l e r a) (lower-ready (ltb B (u .bound)) B l u ready))
+      (resume-agrees (takeBound m s) (M.takeBound B l u) (lower-in-hand s u m B l e r a) (lower-ready (ltb B (u .bound)) B l u refl ready))

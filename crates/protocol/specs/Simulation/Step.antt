@@ -6,12 +6,16 @@ use Prim.Native.Nat.{ℕ, zero, suc, _+_, _*_, _-_, _/_, _^_, _≤_, _<_}
 use mathlib.Core.Path.{_≡_, refl, sym, ap, _∙_, subst}
 use mathlib.Core.Bool.{Bool, true, false, cond, _&&_}
 use mathlib.Core.List.{List, [], _∷_}
+use native.Mathlib.Nat.{sub-zero}
 use native.Mathlib.Omega.{arith}
 use lib.Dec.{ltb, leb, eqb}
 use lib.ListN.{length, getD, set, length-set}
 use lib.Seq.{getD-set-same, getD-set-other}
 use borrow.Author.Tests.{ltb-true, ltb-false, eqb-true, eqb-false, lt-ltb, le-ltb}
 use Rattle.base.specs.Sums.{sumFrom}
+use Rattle.costs.specs.declared.Cost.the-variants.{Of}
+use Rattle.costs.specs.Cost.{asNumber}
+use Rattle.costs.specs.Cost.Laws.{number-eq, taken-off}
 use Rattle.costs.specs.Instance.{Instance, viewOf}
 use Rattle.costs.specs.Bounds.{costWith, estimate}
 use Rattle.costs.specs.Problem.{Laws}
@@ -28,6 +32,7 @@ use Rattle.rules.specs.Step as U
 use Rattle.rules.specs.Step.{accepted, takeBound, reply}
 use Rattle.rules.specs.Tests.{stored, sumLater, takeLower, onEither, reachedByEstimates, unlessStopped, onOwn}
 use Rattle.rules.specs.Send.{packets}
+use Rattle.protocol.specs.Problem.{NONE, valid-le-none}
 use Rattle.protocol.specs.Machine as M
 use Rattle.protocol.specs.Machine.{Msg, Agent}
 use Rattle.protocol.specs.Tests.{eqb-same, and-true, same-refl}
@@ -41,11 +46,11 @@ use Rattle.protocol.specs.Simulation.Resume.{ReadyToAssign, assign-agree
 
 -- A unit without a value costs nothing.
 abbrev pub FreeWhenUnassigned : Instance → Type 0
-FreeWhenUnassigned I = (i u j : ℕ) → I .cost i u j 0 ≡ 0
+FreeWhenUnassigned I = (i u j : ℕ) → I .cost i u j 0 ≡ Of 0
 
-against-unassigned : (I : Instance) → FreeWhenUnassigned I → (j : ℕ) (b : List ℕ) → against I j 0 b ≡ 0
+against-unassigned : (I : Instance) → FreeWhenUnassigned I → (j : ℕ) (b : List ℕ) → against I j 0 b ≡ Of 0
 against-unassigned I free j [] = refl
-against-unassigned I free j (u ∷ b) = omega (arith, free (length b) u j, against-unassigned I free j b)
+against-unassigned I free j (u ∷ b) = rw (free (length b) u j, against-unassigned I free j b)
 
 -- What the theory knows of its unit: it is good, and the message is valid.
 module _ (I : Instance) (free : FreeWhenUnassigned I) (laws : Laws (problemOf I)) (n16 : I .n ≤ 16) (k : ℕ) (k<n : k < I .n) (Past : History) (X : ℕ)
@@ -53,6 +58,10 @@ module _ (I : Instance) (free : FreeWhenUnassigned I) (laws : Laws (problemOf I)
     (own : (x : ℕ) (b : List ℕ) → Past (suc k) x b → OnLog (u .log) x b) where
   k16 : k < 16
   k16 = omega (arith, k<n, n16)
+
+  -- its bound is none or less
+  most : u .bound ≤ NONE
+  most = valid-le-none (problemOf I) (u .best) (g .valid)
 
   -- ---- the unit
 
@@ -73,9 +82,9 @@ module _ (I : Instance) (free : FreeWhenUnassigned I) (laws : Laws (problemOf I)
           values-filled = r .cpa .values-filled;
           prefix = r .cpa .prefix o;
           cost-is =
-              let a : costOf I (ownValue (viewOf I k) s ∷ pre k (s .values)) ≡ s .cost = (λ i. costOf I (r .cpa .own i ∷ r .cpa .prefix o i)) ∙ sym (r .cpa .cost-is o) in
+              let a : costOf I (ownValue (viewOf I k) s ∷ pre k (s .values)) ≡ Of (s .cost) = (λ i. costOf I (r .cpa .own i ∷ r .cpa .prefix o i)) ∙ sym (r .cpa .cost-is o) in
               let b : costOf I (pre k (s .values)) ≡ costOf I (u .prefix) = ap (costOf I) (r .cpa .prefix o) in
-              omega (arith, a, b, cost-next I k (s .values) (ownValue (viewOf I k) s));
+              taken-off (s .cost) (costOf I (pre k (s .values))) (costWith (viewOf I k) (s .values) k (ownValue (viewOf I k) s)) (sym a ∙ sym (cost-next I k (s .values) (ownValue (viewOf I k) s))) ∙ b;
         };
       }
 
@@ -83,7 +92,7 @@ module _ (I : Instance) (free : FreeWhenUnassigned I) (laws : Laws (problemOf I)
   out-ready o e =
       let p = g .cpa o in
       let c = recount-out (u .own) (u .counter) o in
-      (omega (arith, e, c), omega (arith, c, p .counter, p .own, laws .size-le-16 k))
+      (omega (arith, e, c), omega (arith, c, p .counter, p .own, laws .size-le-16 k), most)
 
   -- a message's stamp against the threshold
   against-threshold : (l : List ℕ) (x : ℕ) → Digits l → rank (suc k) l ≡ x → Compared (compareOn (suc k) l (s .threshold)) x (u .threshold)
@@ -94,7 +103,7 @@ module _ (I : Instance) (free : FreeWhenUnassigned I) (laws : Laws (problemOf I)
   -- ---- a CPA going down
 
   received-in-hand : (m : Message) (t : List ℕ) (x : ℕ) (b : List ℕ) → length t ≡ 16 → Digits t → rank (suc k) t ≡ x * 32 → StampIs k (m .stamp) x → ValuesAre k (m .values) b
-      → m .cost ≡ costOf I b → InHand I k (withCpa (m .stamp) (m .values) (m .cost) (withThreshold t s)) (M.received x b u)
+      → Of (m .cost) ≡ costOf I b → InHand I k (withCpa (m .stamp) (m .values) (m .cost) (withThreshold t s)) (M.received x b u)
   received-in-hand m t x b len d e st vs ec =
       record {
         common = record { size = len; digits = d; threshold-is = e; bound-is = r .common .bound-is; best-is = r .common .best-is; counter-is = r .common .counter-is; stopped-is = r .common .stopped-is };
@@ -106,8 +115,7 @@ module _ (I : Instance) (free : FreeWhenUnassigned I) (laws : Laws (problemOf I)
           values-filled = filled-more (m .values) k (suc k) (omega arith) (vs .filled);
           prefix = vs .are;
           cost-is =
-              subst (λ z. m .cost - costWith (viewOf I k) (m .values) k z ≡ costOf I b) (sym none)
-              (omega (arith, ec, cost-with-prefix I k (m .values) k 0 (omega arith), against-unassigned I free k (pre k (m .values))));
+              rw (none, cost-with-prefix I k (m .values) k 0 (omega arith), against-unassigned I free k (pre k (m .values)), sub-zero) ec;
         };
       }
     where
@@ -131,7 +139,7 @@ module _ (I : Instance) (free : FreeWhenUnassigned I) (laws : Laws (problemOf I)
       goes-down = (λ i. U.byKind (viewOf I k) (h .0 i) s (p .message)) ∙ (λ i. onEither (viewOf I k) (lt-ltb (p .message .sender) (suc k) (h .2) i) s (p .message))
 
       ready : ReadyToAssign I k k16 (M.received x b u)
-      ready = (omega arith, omega (arith, laws .size-le-16 k))
+      ready = (omega arith, omega (arith, laws .size-le-16 k), most)
 
       go : (o : Ordering) (t : Bool) → Compared o (x * 32) (u .threshold) → ltb (x * 32) (u .threshold) ≡ t
           → Agrees I k (u .log) (U.onDown (viewOf I k) o s (p .message)) (M.onDown (problemOf I) k t u x b B l)
@@ -184,7 +192,7 @@ module _ (I : Instance) (free : FreeWhenUnassigned I) (laws : Laws (problemOf I)
               (and-true (is-out (sm .0))
               (same-ranks (suc k) (p .message .stamp) (s .stamp) (h .3 .digits) (r .cpa .stamp-digits) (h .3 .is ∙ sm .1 ∙ sym (out-places (sm .0)))))
               (same-prefixes (suc k) (p .message .values) (s .values) (h .4 .are ∙ sm .2 ∙ sym (out-values (sm .0)))))
-              (subst (λ z. eqb (p .message .cost) z ≡ true) (h .5 ∙ ap (costOf I) (sm .2) ∙ sym (r .cpa .cost-is (sm .0))) (eqb-same (p .message .cost)))
+              (subst (λ z. eqb (p .message .cost) z ≡ true) (number-eq (p .message .cost) (s .cost) (h .5 ∙ ap (costOf I) (sm .2) ∙ sym (r .cpa .cost-is (sm .0)))) (eqb-same (p .message .cost)))
 
           machines : M.isCpaOut u x b ≡ true
           machines =
@@ -202,13 +210,13 @@ module _ (I : Instance) (free : FreeWhenUnassigned I) (laws : Laws (problemOf I)
   -- ---- a request
 
   reply-reads : (p : Packet) (j x : ℕ) (b : List ℕ) → Reads I p (M.request k j x b) → j < k
-      → Reads I (record { kind = Estimate; message = reply (viewOf I k) (p .message) .message }) (M.estimate j k x (estimateOf I k b))
+      → Reads I (record { kind = Estimate; message = reply (viewOf I k) (p .message) .message }) (M.estimate j k x (asNumber (estimateOf I k b)))
   reply-reads p j x b h lt = (
     refl,
     h .2,
     refl,
     h .3,
-    ap (λ i. estimate (viewOf I k) (p .message .values) i) (h .2) ∙ estimate-prefix I k (p .message .values) (suc j) lt ∙ ap (estimateOf I k) (h .4 .are),
+    ap asNumber (ap (λ i. estimate (viewOf I k) (p .message .values) i) (h .2) ∙ estimate-prefix I k (p .message .values) (suc j) lt ∙ ap (estimateOf I k) (h .4 .are)),
   )
 
   request-agrees : (p : Packet) (j x : ℕ) (b : List ℕ) → Reads I p (M.request k j x b) → j < k
@@ -259,11 +267,11 @@ module _ (I : Instance) (free : FreeWhenUnassigned I) (laws : Laws (problemOf I)
       go Greater true q c e f = absurd (omega (arith, c, ltb-true t (u .threshold / 32) e))
       go Equal false true c e f = absurd (omega (arith, c, ltb-true (u .threshold / 32) t f))
       go Equal false false c e f =
-          subst (λ z. Agrees I k (u .log) (accepted s (reply (viewOf I k) (p .message)) []) (M.done (M.raise z t u) (M.estimate j k x (estimateOf I k b) ∷ []))) (sym f)
+          subst (λ z. Agrees I k (u .log) (accepted s (reply (viewOf I k) (p .message)) []) (M.done (M.raise z t u) (M.estimate j k x (asNumber (estimateOf I k b)) ∷ []))) (sym f)
           (r, (reply-reads p j x b h lt, tt), refl)
       go Greater false false c e f = absurd (omega (arith, c, ltb-false (u .threshold / 32) t f))
       go Greater false true c e f =
-          subst (λ z. Agrees I k (u .log) (accepted (withThreshold (p .message .stamp) s) (reply (viewOf I k) (p .message)) []) (M.done (M.raise z t u) (M.estimate j k x (estimateOf I k b) ∷ []))) (sym f)
+          subst (λ z. Agrees I k (u .log) (accepted (withThreshold (p .message .stamp) s) (reply (viewOf I k) (p .message)) []) (M.done (M.raise z t u) (M.estimate j k x (asNumber (estimateOf I k b)) ∷ []))) (sym f)
           (raised, (reply-reads p j x b h lt, tt), refl)
 
   -- ---- an estimate
@@ -321,7 +329,7 @@ module _ (I : Instance) (free : FreeWhenUnassigned I) (laws : Laws (problemOf I)
           (subst (λ t. Agrees I k (u .log) (U.onOwnEstimate (viewOf I k) true (stored (p .message) s)) (M.onEstimateSame (problemOf I) k t (M.store j e u))) (sym machines)
           (subst (λ z. Agrees I k (u .log) (U.onOwnEstimate (viewOf I k) true z) (M.onEstimateSame (problemOf I) k true (M.store j e u))) (sym stored-is)
           (subst (λ t. Agrees I k (u .log) (reachedByEstimates (viewOf I k) t s′) (M.onEstimateSame (problemOf I) k true (M.store j e u))) (sym test)
-          (reached (sm .0) (sm .3 ∙ sm .1) (leb (u .bound) (costOf I (M.values u) + sumFrom (M.store j e u .estimates) (suc k) (I .n - suc k)))))))
+          (reached (sm .0) (sm .3 ∙ sm .1) (leb (u .bound) (asNumber (costOf I (M.values u)) + sumFrom (M.store j e u .estimates) (suc k) (I .n - suc k)))))))
         where
           sm : (1 ≤ u .own) × (x ≡ M.stamp u) × (ok .2 .0 ≡ M.values u) × (u .threshold ≡ x)
           sm = the-cpa-out (problemOf I) laws k k<n Past X bf u x (ok .2 .0) g (own x (ok .2 .0) (ok .2 .1)) le
@@ -332,10 +340,10 @@ module _ (I : Instance) (free : FreeWhenUnassigned I) (laws : Laws (problemOf I)
           machines : M.isForCpaOut u x ≡ true
           machines = and-true (lt-ltb 0 (u .own) (sm .0)) (and-true (subst (λ z. eqb x z ≡ true) (sym (sm .3)) (eqb-same x)) (subst (λ z. eqb x z ≡ true) (sm .1) (eqb-same x)))
 
-          test : leb (s .bound) (s .cost + sumLater (viewOf I k) (set (s .estimates) j e)) ≡ leb (u .bound) (costOf I (M.values u) + sumFrom (M.store j e u .estimates) (suc k) (I .n - suc k))
+          test : leb (s .bound) (s .cost + sumLater (viewOf I k) (set (s .estimates) j e)) ≡ leb (u .bound) (asNumber (costOf I (M.values u)) + sumFrom (M.store j e u .estimates) (suc k) (I .n - suc k))
           test =
               most-test (r .common .bound-is)
-              (omega (arith, r .cpa .cost-is (sm .0), sum-of-places (set (s .estimates) j e) (M.store j e u .estimates) (kept .estimates) (suc k) (I .n - suc k) (omega (arith, n16, k<n))))
+              (omega (arith, ap asNumber (r .cpa .cost-is (sm .0)), sum-of-places (set (s .estimates) j e) (M.store j e u .estimates) (kept .estimates) (suc k) (I .n - suc k) (omega (arith, n16, k<n))))
 
       go : (o : Ordering) (t : Bool) → Compared o x (u .threshold) → ltb x (u .threshold) ≡ t → Agrees I k (u .log) (U.onTimely (viewOf I k) o s (p .message)) (M.onEstimate (problemOf I) k t u x j e)
       go Less true c q = unchanged

@@ -12,6 +12,7 @@ use lib.ListN.{length, set, replicate, length-append, length-set, getD-replicate
 use Rattle.base.specs.Sums.{sumTo}
 use Rattle.base.specs.Members.{In, Every}
 use Rattle.base.specs.Members.Laws.{in-left, in-right, every-nil, every-append}
+use Rattle.costs.specs.declared.Cost.the-variants.{Of}
 use Rattle.costs.specs.Instance.{Instance, viewOf}
 use Rattle.costs.specs.Laws.{Sound, laws-of, problemOf}
 use Rattle.message.specs.Message.{Packet}
@@ -160,7 +161,7 @@ module _ (I : Instance) (snd : Sound I) (free : FreeWhenUnassigned I) where
   fresh-at-rest : (k : ℕ) → AtRest I k fresh M.fresh
   fresh-at-rest k =
       record {
-        common = record { size = refl; digits = zeros-digits; threshold-is = omega (arith, rank-zeros k, zero-place k); bound-is = refl; best-is = inl refl; counter-is = refl; stopped-is = refl };
+        common = record { size = refl; digits = zeros-digits; threshold-is = omega (arith, rank-zeros k, zero-place k); bound-is = refl; best-is = inl (refl, refl); counter-is = refl; stopped-is = refl };
         estimates-size = refl;
         estimates = λ j lt. zero-place j;
         cpa = no-cpa I k;
@@ -187,9 +188,9 @@ module _ (I : Instance) (snd : Sound I) (free : FreeWhenUnassigned I) where
       (assign-agrees I 0 (omega arith) fresh M.fresh
       (record {
         common = fresh-at-rest 0 .common;
-        hand = record { own = refl; stamp-filled = zeros-filled 1; stamp-digits = zeros-digits; prefixStamp = refl; values-filled = zeros-filled 1; prefix = refl; cost-is = omega arith };
+        hand = record { own = refl; stamp-filled = zeros-filled 1; stamp-digits = zeros-digits; prefixStamp = refl; values-filled = zeros-filled 1; prefix = refl; cost-is = ap Of (omega arith) };
       })
-      (omega arith, omega (arith, snd .dom16 0)))
+      (omega arith, omega (arith, snd .dom16 0), omega arith))
       (make-step-safe (problemOf I) laws (snd .n1))
 
   -- ---- a step on a packet

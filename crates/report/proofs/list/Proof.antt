@@ -6,10 +6,10 @@ use Rattle.report.proofs.list.Statement.{statement}
 use Rattle.report.proofs.list.Tie as tie
 
 abbrev Inv-loop : tie.InvT-loop
-Inv-loop values k₀ k = k ≤ 16
+Inv-loop n values count k₀ k = k ≤ 16
 
 abbrev μ-loop : tie.MeasureT-loop
-μ-loop values k₀ k = 16 - k
+μ-loop n values count k₀ k = 16 - k
 
 pub list-spec : {M : Type 1} → statement M
 list-spec =
@@ -17,7 +17,7 @@ list-spec =
     (tie.spec
     Inv-loop
     μ-loop
-    (λ c. search needs)
+    (λ c κs. search needs)
     (λ c. search needs)
     (λ c. search needs)
     (λ c. search needs)

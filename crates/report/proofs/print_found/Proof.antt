@@ -10,7 +10,7 @@ returns c = found-refusal (c .before .before .before .before .args .stream .now)
 
 returns-2 : tie.Need-returns-2
 returns-2 c =
-    let x = c .before .before .before .before .before .before .before .before .before in
+    let x = c .before .before .before .before .before in
     found-refusal (x .before .before .args .stream .now) (x .exhaustive .result) (x .exhaustive .ensures)
 
 pub print-found-spec : {M : Type 1} → statement M
@@ -20,11 +20,7 @@ print-found-spec =
     (λ c κs. search needs)
     (λ c κs. search needs)
     returns
-    (λ c. search needs)
     (λ c κs. search needs)
-    (λ c. search needs)
-    (λ c κs. search needs)
-    (λ c. search needs)
     (λ c κs. search needs)
     (λ c κs. search needs)
     returns-2)

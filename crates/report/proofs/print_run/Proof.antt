@@ -9,7 +9,7 @@ returns : tie.Need-returns
 returns c = let x = c .before .before .before .settle in settled-refusal (c .before .before .before .before .before .before .args .stream .now) (x .result) (x .ensures .0)
 
 returns-2 : tie.Need-returns-2
-returns-2 c = let x = c .before .before .before .before .settle in settled-refusal (c .before .before .before .before .before .before .before .args .stream .now) (x .result) (x .ensures .0)
+returns-2 c = let x = c .before .before .before .before .before .settle in settled-refusal (c .before .before .before .before .before .before .before .before .args .stream .now) (x .result) (x .ensures .0)
 
 pub print-run-spec : {M : Type 1} → statement M
 print-run-spec =
@@ -19,5 +19,6 @@ print-run-spec =
     (λ c κs. search needs)
     (λ c κs. search needs)
     returns
+    (λ c κs. search needs)
     (λ c κs. search needs)
     returns-2)

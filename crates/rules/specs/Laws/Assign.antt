@@ -1,18 +1,21 @@
 -- Assigning and backtracking keep a state in range and send what can be written, from a CPA in hand whose own value is off.
 -- The threshold's own place is at most 16 before, so at most 17 after backtracking; the counter is at most the value tried. By recursion over
 -- the values left. In order: what is kept; backtrack; a value written; the values left; assign and resume. Assumes nothing.
-use Prim.Native.Nat.{ℕ, zero, suc, _+_, _-_, _≤_, _<_}
-use mathlib.Core.Path.{_≡_, refl, sym, ap, _∙_}
+use Prim.Native.Nat.{ℕ, zero, suc, _+_, _*_, _-_, _≤_, _<_}
+use mathlib.Core.Path.{_≡_, refl, sym, ap, _∙_, subst}
 use mathlib.Core.Bool.{Bool, true, false, cond, false≢true}
 use mathlib.Core.List.{List, [], _∷_}
 use native.Mathlib.Omega.{arith}
-use lib.Dec.{ltb, leb, eqb}
+use lib.Dec.{leb, eqb}
 use lib.ListN.{length, getD, set, length-set}
 use lib.Seq.{getD-set-same, getD-set-other}
 use borrow.Author.Tests.{eqb-true, eqb-false}
-use Rattle.base.specs.Limits.{estimateLimit, prefixLimit}
-use Rattle.base.specs.Sums.{sumTo}
+use Rattle.base.specs.Limits.{estimateLimit, pairLimit, prefixLimit}
 use Rattle.base.specs.Members.{Every}
+use Rattle.costs.specs.declared.Cost.{Cost}
+use Rattle.costs.specs.declared.Cost.the-variants.{Of}
+use Rattle.costs.specs.Cost.{_⊕_, sumTo, below, asNumber}
+use Rattle.costs.specs.Cost.Laws.{AtMost, below-numbers, number-behind}
 use Rattle.costs.specs.Instance.{View}
 use Rattle.costs.specs.Bounds.{costWith, h}
 use Rattle.costs.specs.Lent.Bounds.{cost-most}
@@ -21,9 +24,9 @@ use Rattle.message.specs.Laws.{blank-filled, bound-by}
 use Rattle.rules.specs.declared.Unit.{Unit as State}
 use Rattle.rules.specs.declared.Sending.{Sending}
 use Rattle.rules.specs.declared.Plan.the-variants.{Forward}
-use Rattle.rules.specs.State.{withBest, ownValue, notLess, inRange}
+use Rattle.rules.specs.State.{withBest, ownValue, ownCost, notLess, inRange}
 use Rattle.rules.specs.Step.{Decision, refused, accepted, Written, recorded, bareCost, takeOff, carried, backedUp, backtrack, write, recordOf, afterWrite, tryAfter, begun, assign, resume}
-use Rattle.rules.specs.Tests.{isLast, tryValue, reachedBound}
+use Rattle.rules.specs.Tests.{isLast, costAt, tryValue, reachedBound}
 use Rattle.rules.specs.Send.{packets}
 use Rattle.rules.specs.Laws.Views.{GoodView, units-most, place-16, size-most}
 use Rattle.rules.specs.Laws.Stamps.{places-equal}
@@ -116,9 +119,13 @@ module _ (n : ℕ) (sizes : List ℕ) (w : View) (g : GoodView n sizes w) where
   unfolding costWith
   cost-set l a x = sum-set l a x (w .place) (w .place) (omega arith)
 
-  module _ (u : State) (v : ℕ) (i : InHand n sizes w u) (tried : u .counter ≤ v) (left : v < getD sizes (w .place) 0) where
+  module _ (u : State) (v : ℕ) (i : InHand n sizes w u) (tried : u .counter ≤ v) (left : v < getD sizes (w .place) 0)
+      (number : costWith w (u .values) (w .place) (suc v) ≡ Of (asNumber (costWith w (u .values) (w .place) (suc v)))) where
     abbrev next-cost : ℕ
-    next-cost = u .cost + costWith w (u .values) (w .place) (suc v)
+    next-cost = asNumber (costAt w (suc v) u)
+
+    next-is : next-cost ≡ u .cost + asNumber (costWith w (u .values) (w .place) (suc v))
+    next-is = ap (λ (c : Cost). asNumber (Of (u .cost) ⊕ c)) number
 
     abbrev written : State
     written = write w (suc v) next-cost u
@@ -135,14 +142,17 @@ module _ (n : ℕ) (sizes : List ℕ) (w : View) (g : GoodView n sizes w) where
     own-stamp : getD (written .stamp) (w .place) 0 ≡ suc (u .counter)
     own-stamp = getD-set-same (u .stamp) (w .place) (suc (u .counter)) 0 (omega (arith, i .arrays .stamp, k16))
 
-    paid-is : costWith w (written .values) (w .place) (ownValue w written) ≡ costWith w (u .values) (w .place) (suc v)
-    paid-is = rw own-is (cost-set (u .values) (suc v) (suc v))
+    paid-is : ownCost w written ≡ asNumber (costWith w (u .values) (w .place) (suc v))
+    paid-is = rw own-is (ap asNumber (cost-set (u .values) (suc v) (suc v)))
 
     bare-is : bareCost w written ≡ u .cost
-    bare-is = omega (arith, paid-is)
+    bare-is = omega (arith, paid-is, next-is)
 
     cost-limit : next-cost ≤ prefixLimit (suc (w .place))
-    cost-limit = omega (arith, i .cost, cost-most w (g .small) (u .values) (w .place) (suc v), limit-next (w .place))
+    cost-limit =
+        let paid : asNumber (costWith w (u .values) (w .place) (suc v)) ≤ pairLimit * w .place =
+        subst (λ c. AtMost (pairLimit * w .place) c) number (cost-most w (g .small) (u .values) (w .place) (suc v)) in
+        omega (arith, i .cost, paid, next-is, limit-next (w .place))
 
     stamp-most : (j : ℕ) → j < 16 → getD (written .stamp) j 0 ≤ 16
     stamp-most = filled-most n (suc (w .place)) sizes (written .stamp) (g .place) (size-most n sizes w g) stamp-filled
@@ -172,7 +182,7 @@ module _ (n : ℕ) (sizes : List ℕ) (w : View) (g : GoodView n sizes w) where
                 counter = sym own-stamp;
                 tried = omega (arith, own-is);
                 threshold = ap notLess (places-equal (suc (w .place)) (written .stamp) (written .stamp) (λ j b. refl));
-                paid = omega (arith, paid-is);
+                paid = omega (arith, paid-is, next-is);
                 bare = omega (arith, bare-is, i .cost);
               };
         }
@@ -227,18 +237,22 @@ module _ (n : ℕ) (sizes : List ℕ) (w : View) (g : GoodView n sizes w) where
   -- one value tried, where those after it keep what is to be kept
   module _ (m : ℕ) (again : Bool → State → Decision) (x : ℕ)
       (next : (b : Bool) (u : State) → InHand n sizes w u → u .counter ≤ x → Improved n sizes (w .place) (u .bound) (u .best) b → Whenever (GoodDecision n sizes w m) (again b u)) where
-    after-write-kept : (v : ℕ) → x ≡ suc v → (u : State) (i : InHand n sizes w u) (tried : u .counter ≤ v) (left : v < getD sizes (w .place) 0) (b : Bool) → isLast w ≡ b
-        → Whenever (GoodDecision n sizes w (suc m)) (afterWrite w b (write w (suc v) (u .cost + costWith w (u .values) (w .place) (suc v)) u) again)
-    after-write-kept v q u i tried left true e =
+    after-write-kept : (v : ℕ) → x ≡ suc v → (u : State) (i : InHand n sizes w u) (tried : u .counter ≤ v) (left : v < getD sizes (w .place) 0)
+        (number : costWith w (u .values) (w .place) (suc v) ≡ Of (asNumber (costWith w (u .values) (w .place) (suc v)))) (b : Bool) → isLast w ≡ b
+        → Whenever (GoodDecision n sizes w (suc m)) (afterWrite w b (write w (suc v) (asNumber (costAt w (suc v) u)) u) again)
+    after-write-kept v q u i tried left number true e =
         let l : suc (w .place) ≡ n = last-or-not true e .0 refl in
-        kept-after n sizes w m (recordOf w (written u v i tried left)) (again true (taken u v i tried left))
-        (next true (taken u v i tried left) (taken-in-hand u v i tried left l) (omega arith) (λ z. (l, best-good u v i tried left l)))
-    after-write-kept v q u i tried left false e = kept-more n sizes w 1 (suc m) (omega arith) (accepted _ _ _) (forward-kept u v i tried left (last-or-not false e .1 refl))
+        kept-after n sizes w m (recordOf w (written u v i tried left number)) (again true (taken u v i tried left number))
+        (next true (taken u v i tried left number) (taken-in-hand u v i tried left number l) (omega arith) (λ z. (l, best-good u v i tried left number l)))
+    after-write-kept v q u i tried left number false e =
+        kept-more n sizes w 1 (suc m) (omega arith) (accepted _ _ _) (forward-kept u v i tried left number (last-or-not false e .1 refl))
 
-    try-kept : (v : ℕ) → x ≡ suc v → (u : State) → InHand n sizes w u → u .counter ≤ v → v < getD sizes (w .place) 0 → (b : Bool) → Improved n sizes (w .place) (u .bound) (u .best) b → (t : Bool)
-        → Whenever (GoodDecision n sizes w (suc m)) (tryValue w t (suc v) (u .cost + costWith w (u .values) (w .place) (suc v)) b u again)
-    try-kept v q u i tried left b imp true = after-write-kept v q u i tried left (isLast w) refl
-    try-kept v q u i tried left b imp false = kept-more n sizes w m (suc m) (omega arith) (again b u) (next b u i (omega arith) imp)
+    try-kept : (v : ℕ) → x ≡ suc v → (u : State) → InHand n sizes w u → u .counter ≤ v → v < getD sizes (w .place) 0 → (b : Bool) → Improved n sizes (w .place) (u .bound) (u .best) b
+        → (t : Bool) → below (costAt w (suc v) u ⊕ h w (suc v)) (u .bound) ≡ t
+        → Whenever (GoodDecision n sizes w (suc m)) (tryValue w t (suc v) (asNumber (costAt w (suc v) u)) b u again)
+    try-kept v q u i tried left b imp true e =
+        after-write-kept v q u i tried left (number-behind (u .cost) (costWith w (u .values) (w .place) (suc v)) (below-numbers (costAt w (suc v) u) (h w (suc v)) (u .bound) e)) (isLast w) refl
+    try-kept v q u i tried left b imp false e = kept-more n sizes w m (suc m) (omega arith) (again b u) (next b u i (omega arith) imp)
 
   pub values-kept : (m v : ℕ) → m + v ≡ getD sizes (w .place) 0 → (b : Bool) (u : State) → InHand n sizes w u → u .counter ≤ v → Improved n sizes (w .place) (u .bound) (u .best) b
       → Whenever (GoodDecision n sizes w m) (tryAfter w m v b u)
@@ -246,7 +260,7 @@ module _ (n : ℕ) (sizes : List ℕ) (w : View) (g : GoodView n sizes w) where
   values-kept zero v e b u i tried imp = backtrack-kept u i b imp
   values-kept (suc m) v e b u i tried imp =
       try-kept m (λ (b : Bool) (t : State). tryAfter w m (suc v) b t) (suc v) (λ b u i tried imp. values-kept m (suc v) (omega arith) b u i tried imp) v refl u i tried (omega arith) b imp
-      (ltb (u .cost + costWith w (u .values) (w .place) (suc v) + h w (suc v)) (u .bound))
+      (below (costAt w (suc v) u ⊕ h w (suc v)) (u .bound)) refl
 
 -- ---- assign and resume
 

@@ -10,7 +10,10 @@ use lib.ListN.{getD, replicate}
 use borrow.Author.Tests.{ltb-true}
 use Rattle.base.specs.Shape.Laws.{and-left}
 use Rattle.costs.specs.Instance.{View}
-use Rattle.costs.specs.Bounds.{costWith, h}
+use Rattle.costs.specs.declared.Cost.{Cost}
+use Rattle.costs.specs.Cost.{_⊕_, below, asNumber}
+use Rattle.costs.specs.Cost.Laws.{below-part}
+use Rattle.costs.specs.Bounds.{h}
 use Rattle.message.specs.declared.Message.{Message}
 use Rattle.message.specs.declared.Kind.{Kind}
 use Rattle.message.specs.declared.Kind.the-variants.{Cpa, Request, Estimate, Solution, Stop}
@@ -20,7 +23,7 @@ use Rattle.rules.specs.declared.Ordering.the-variants.{Less, Equal, Grea
 use Rattle.rules.specs.declared.Sending.{Sending}
 use Rattle.rules.specs.State.{withThreshold, withBest, withCpa, left, ownValue, compareOn, sameOn}
 use Rattle.rules.specs.Step.{Decision, refused, accepted, Written, recorded, quiet, takeBound, bareCost, takeOff, backtrack, write, recordOf, afterWrite, tryAfter, begun, assign, resume, onDown, isOut, isCpaOut, onBack, onCpa, onFresh, onRequest, onOwnEstimate, onTimely, onEstimate, onSolution, onStop, byKind, respond}
-use Rattle.rules.specs.Tests.{sumLater, stored, silent, isLast, tryValue, onOwn, takeLower, reachedBound, onEither, reachedByEstimates, unlessStopped}
+use Rattle.rules.specs.Tests.{costAt, sumLater, stored, silent, isLast, tryValue, onOwn, takeLower, reachedBound, onEither, reachedByEstimates, unlessStopped}
 use Rattle.rules.specs.Send.{packets}
 use Rattle.rules.specs.Laws.Assign.{Whenever}
 
@@ -109,16 +112,16 @@ module _ (w : View) where
         most-after B (recordOf w u) (again true t) (most-of (u .cost) B c (again true t) (next true t))
     after-write-lowers false B u l c = l
 
-    try-lowers : (t : Bool) (v c : ℕ) (b : Bool) (u : State) → ltb (c + h w v) (u .bound) ≡ t → Whenever (BoundAtMost (u .bound)) (tryValue w t v c b u again)
-    try-lowers true v c b u e = after-write-lowers (isLast w) (u .bound) (write w v c u) (omega arith) (omega (arith, ltb-true (c + h w v) (u .bound) e))
+    try-lowers : (t : Bool) (v : ℕ) (c : Cost) (b : Bool) (u : State) → below (c ⊕ h w v) (u .bound) ≡ t → Whenever (BoundAtMost (u .bound)) (tryValue w t v (asNumber c) b u again)
+    try-lowers true v c b u e = after-write-lowers (isLast w) (u .bound) (write w v (asNumber c) u) (omega arith) (omega (arith, below-part c (h w v) (u .bound) e))
     try-lowers false v c b u e = next b u
 
   values-lower : (m v : ℕ) (b : Bool) (u : State) → Whenever (BoundAtMost (u .bound)) (tryAfter w m v b u)
   unfolding tryAfter
   values-lower zero v b u = backtrack-lowers b u
   values-lower (suc m) v b u =
-      let c : ℕ = u .cost + costWith w (u .values) (w .place) (suc v) in
-      try-lowers (λ (b : Bool) (t : State). tryAfter w m (suc v) b t) (λ b t. values-lower m (suc v) b t) (ltb (c + h w (suc v)) (u .bound)) (suc v) c b u refl
+      let c : Cost = costAt w (suc v) u in
+      try-lowers (λ (b : Bool) (t : State). tryAfter w m (suc v) b t) (λ b t. values-lower m (suc v) b t) (below (c ⊕ h w (suc v)) (u .bound)) (suc v) c b u refl
 
   pub assign-lowers : (u : State) → Whenever (BoundAtMost (u .bound)) (assign w u)
   unfolding assign
@@ -229,8 +232,8 @@ module _ (w : View) (last : isLast w ≡ true) where
   unfolding tryAfter
   values-none zero v b u = backtrack-none b u
   values-none (suc m) v b u =
-      let c : ℕ = u .cost + costWith w (u .values) (w .place) (suc v) in
-      try-none (λ (b : Bool) (t : State). tryAfter w m (suc v) b t) (λ b t. values-none m (suc v) b t) (ltb (c + h w (suc v)) (u .bound)) (suc v) c b u
+      let c : Cost = costAt w (suc v) u in
+      try-none (λ (b : Bool) (t : State). tryAfter w m (suc v) b t) (λ b t. values-none m (suc v) b t) (below (c ⊕ h w (suc v)) (u .bound)) (suc v) (asNumber c) b u
 
   resume-none : (u : State) → Whenever (NoneOut w) (resume w u)
   unfolding resume assign

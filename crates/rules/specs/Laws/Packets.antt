@@ -14,7 +14,7 @@ use Rattle.message.specs.declared.Message.{Message}
 use Rattle.message.specs.declared.Kind.{Kind}
 use Rattle.message.specs.declared.Kind.the-variants.{Cpa, Request, Estimate, Solution, Stop}
 use Rattle.message.specs.Message.{Packet, filledTo, boundGood, noneOrBound, carriedOf, boundFits, directionGood, addressGood, wellFormed}
-use Rattle.message.specs.Laws.{cpaCount, blank-filled, no-bound-by, address-by, formed-by}
+use Rattle.message.specs.Laws.{cost-by, cpaCount, blank-filled, no-bound-by, address-by, formed-by}
 use Rattle.message.specs.Sized.{Sized}
 use Rattle.rules.specs.declared.Plan.the-variants.{Forward, Back, Reply}
 use Rattle.rules.specs.State.{zeros}
@@ -64,7 +64,7 @@ module _ (n : ℕ) (sizes : List ℕ) (k c : ℕ) (m : Message) (k<n : k < n) (h
         address = address-by n (sentTo Cpa m j .message) (omega (arith, h .sender)) (omega (arith, h .sender)) (omega arith) (omega arith);
         form =
             formed-by n sizes Cpa (sentTo Cpa m j .message)
-            record { direction = rw (h .sender) d; stamps = rw (h .sender, e) (h .stamp); values = rw (h .sender, e) (h .values); cost = rw (h .sender, e) (h .cost); bound = h .bound };
+            record { direction = rw (h .sender) d; stamps = rw (h .sender, e) (h .stamp); values = rw (h .sender, e) (h .values); cost = cost-by (carriedOf Cpa (sentTo Cpa m j .message)) (m .cost) (rw (h .sender, e) (h .cost)); bound = h .bound };
         arrays = record { stamp = h .arrays .stamp; values = h .arrays .values; best = h .arrays .best; cost = h .arrays .cost; bound = h .arrays .bound };
       }
 
@@ -79,7 +79,7 @@ module _ (n : ℕ) (sizes : List ℕ) (k c : ℕ) (m : Message) (k<n : k < n) (h
               direction = lt-ltb (m .sender) (suc j) (omega (arith, h .sender));
               stamps = rw (h .sender, ← e) (h .stamp);
               values = rw (h .sender, ← e) (h .values);
-              cost = rw (h .sender, ← e) (h .cost);
+              cost = cost-by (carriedOf Request (sentTo Request (withoutBound m) j .message)) (m .cost) (rw (h .sender, ← e) (h .cost));
               bound = no-bound-by sizes 0 zeros refl (blank-filled sizes);
             };
         arrays = record { stamp = h .arrays .stamp; values = h .arrays .values; best = zero-arrays; cost = h .arrays .cost; bound = omega arith };
@@ -91,7 +91,7 @@ module _ (n : ℕ) (sizes : List ℕ) (k c : ℕ) (m : Message) (k<n : k < n) (h
   bound-sendable t j l d e f b =
       record {
         address = address-by n (sentTo t (boundOnly m) j .message) (omega (arith, h .sender)) (omega (arith, h .sender)) (omega arith) (omega arith);
-        form = formed-by n sizes t (sentTo t (boundOnly m) j .message) record { direction = rw (h .sender) d; stamps = rw e (blank-filled sizes); values = rw f (blank-filled sizes); cost = omega arith; bound = b };
+        form = formed-by n sizes t (sentTo t (boundOnly m) j .message) record { direction = rw (h .sender) d; stamps = rw e (blank-filled sizes); values = rw f (blank-filled sizes); cost = cost-by (carriedOf t (sentTo t (boundOnly m) j .message)) 0 (omega arith); bound = b };
         arrays = record { stamp = zero-arrays; values = zero-arrays; best = h .arrays .best; cost = omega arith; bound = h .arrays .bound };
       }
 

@@ -12,10 +12,9 @@ use borrow.Author.Tests.{leb-true, le-leb, eqb-true, eqb-false, eq-eqb, ne-eqb}
 use Rattle.base.specs.Limits.{estimateLimit, prefixLimit}
 use Rattle.base.specs.Shape.Laws.{and-left, and-right}
 use Rattle.costs.specs.Instance.{View}
-use Rattle.costs.specs.Bounds.{costWith}
 use Rattle.message.specs.Message.{filledTo, noneOrBound}
 use Rattle.rules.specs.declared.Unit.{Unit}
-use Rattle.rules.specs.State.{ownValue, compareOn, notLess, cpaZero, cpaOutInRange, paidInRange, inRangePaid, inRange}
+use Rattle.rules.specs.State.{ownValue, ownCost, compareOn, notLess, cpaZero, cpaOutInRange, paidInRange, inRangePaid, inRange}
 use Rattle.rules.specs.Laws.Filled.{most-at, at-most}
 
 -- what the types of the code say of a state: arrays of 16 places
@@ -40,8 +39,8 @@ pub record CpaOut (sizes : List ℕ) (w : View) (u : Unit) : Type 0 where
   pub counter : u .counter ≡ getD (u .stamp) (w .place) 0
   pub tried : u .counter ≤ ownValue w u
   pub threshold : notLess (compareOn (suc (w .place)) (u .threshold) (u .stamp)) ≡ true
-  pub paid : costWith w (u .values) (w .place) (ownValue w u) ≤ u .cost
-  pub bare : u .cost - costWith w (u .values) (w .place) (ownValue w u) ≤ prefixLimit (w .place)
+  pub paid : ownCost w u ≤ u .cost
+  pub bare : u .cost - ownCost w u ≤ prefixLimit (w .place)
 
 pub record InRange (sizes : List ℕ) (w : View) (u : Unit) : Type 0 where
   pub threshold : (j : ℕ) → j < 16 → getD (u .threshold) j 0 ≤ 17
@@ -70,7 +69,7 @@ module _ (sizes : List ℕ) (w : View) (u : Unit) where
   unfolding cpaZero
   none-tests f = both _ _ (both _ _ (f .stamp) (f .values)) (eq-eqb (u .cost) 0 (f .cost))
 
-  out-facts : cpaOutInRange sizes (suc (w .place)) (costWith w (u .values) (w .place) (ownValue w u)) u ≡ true → CpaOut sizes w u
+  out-facts : cpaOutInRange sizes (suc (w .place)) (ownCost w u) u ≡ true → CpaOut sizes w u
   unfolding cpaOutInRange
   out-facts e =
       let b = split _ _ e in
@@ -91,7 +90,7 @@ module _ (sizes : List ℕ) (w : View) (u : Unit) where
         bare = leb-true _ _ (b .1);
       }
 
-  out-tests : CpaOut sizes w u → cpaOutInRange sizes (suc (w .place)) (costWith w (u .values) (w .place) (ownValue w u)) u ≡ true
+  out-tests : CpaOut sizes w u → cpaOutInRange sizes (suc (w .place)) (ownCost w u) u ≡ true
   unfolding cpaOutInRange
   out-tests f =
       both _ _
@@ -120,7 +119,7 @@ module _ (sizes : List ℕ) (w : View) (u : Unit) where
   range-tests f =
       both _ _ (both _ _ (both _ _ (at-most 17 (u .threshold) (f .threshold)) (at-most estimateLimit (u .estimates) (f .estimates))) (f .bound)) (go (eqb (ownValue w u) 0) refl)
     where
-      go : (t : Bool) → eqb (ownValue w u) 0 ≡ t → cond t (cpaZero sizes u) (cpaOutInRange sizes (suc (w .place)) (costWith w (u .values) (w .place) (ownValue w u)) u) ≡ true
+      go : (t : Bool) → eqb (ownValue w u) 0 ≡ t → cond t (cpaZero sizes u) (cpaOutInRange sizes (suc (w .place)) (ownCost w u) u) ≡ true
       go true e = none-tests (f .none (eqb-true (ownValue w u) 0 e))
       go false e = out-tests (f .out (nonzero (ownValue w u) (eqb-false (ownValue w u) 0 e)))
         where

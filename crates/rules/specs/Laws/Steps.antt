@@ -4,38 +4,54 @@
 -- Assumes nothing.
 use Prim.Native.Nat.{ℕ, zero, suc, _+_, _-_, _≤_, _<_}
 use mathlib.Core.Path.{_≡_, refl, sym, ap}
+use mathlib.Core.Logic.{⊎-elim}
 use mathlib.Core.Bool.{Bool, true, false, _&&_}
 use mathlib.Core.List.{List, []}
 use native.Mathlib.Omega.{arith}
 use lib.Dec.{ltb, leb}
 use lib.ListN.{length, getD, set, length-set}
-use borrow.Author.Tests.{ltb-true, lt-ltb}
-use Rattle.base.specs.Limits.{estimateLimit, prefixLimit}
+use borrow.Author.Tests.{ltb-true, lt-ltb, leb-false}
+use Rattle.base.specs.Limits.{NONE, estimateLimit, prefixLimit}
 use Rattle.base.specs.Shape.Laws.{and-left, and-right}
 use Rattle.base.specs.Members.Laws.{every-nil}
+use Rattle.costs.specs.declared.Cost.{Cost}
+use Rattle.costs.specs.declared.Cost.the-variants.{Of, Forbidden}
+use Rattle.costs.specs.Cost.{asNumber}
+use Rattle.costs.specs.Cost.Laws.{AtMost, most-mono}
 use Rattle.costs.specs.Instance.{View}
 use Rattle.costs.specs.Bounds.{estimate}
 use Rattle.costs.specs.Lent.Bounds.{estimate-most}
 use Rattle.message.specs.declared.Message.{Message}
 use Rattle.message.specs.declared.Kind.{Kind}
 use Rattle.message.specs.declared.Kind.the-variants.{Cpa, Request, Estimate, Solution, Stop}
-use Rattle.message.specs.Message.{filledTo, noneOrBound}
-use Rattle.message.specs.Laws.{cpaCount, blank-filled, no-bound-by, address-by, Addressed, addressed, Formed, formed-by, formed, filled-at, filled-past}
+use Rattle.message.specs.Message.{filledTo, noneOrBound, carriedOf, costFits}
+use Rattle.message.specs.Laws.{cpaCount, cost-by, none-by, cost-most, cost-or-none, blank-filled, no-bound-by, address-by, Addressed, addressed, Formed, formed-by, formed, filled-at, filled-past}
 use Rattle.message.specs.Sized.{Sized}
 use Rattle.rules.specs.declared.Unit.{Unit as State}
 use Rattle.rules.specs.declared.Ordering.{Ordering}
 use Rattle.rules.specs.declared.Ordering.the-variants.{Less, Equal, Greater}
 use Rattle.rules.specs.State.{zeros, fresh, withThreshold, withCpa, ownValue, compareOn, sameOn, notLess, inRange}
-use Rattle.rules.specs.Step.{takeBound, onDown, isOut, isCpaOut, onBack, onCpa, reply, onFresh, onRequest, onOwnEstimate, onTimely, onEstimate, onSolution, onStop, respond}
+use Rattle.rules.specs.Step.{takeBound, assign, onDown, isOut, isCpaOut, onBack, onCpa, reply, onFresh, onRequest, onOwnEstimate, onTimely, onEstimate, onSolution, onStop, respond}
 use Rattle.rules.specs.Tests.{sumLater, stored, silent, onOwn, takeLower, onEither, reachedByEstimates, unlessStopped}
 use Rattle.rules.specs.Send.{packet, packets}
 use Rattle.rules.specs.Calls.{start}
 use Rattle.rules.specs.Laws.Views.{GoodView, units-most, place-16, size-most}
 use Rattle.rules.specs.Laws.Stamps.{SamePlaces, same-places, equal-places, places-compare, both-ways, bigger-than, bigger-more, fewer-not-smaller}
-use Rattle.rules.specs.Laws.Filled.{filled-off, filled-most, zeros-at, set-most, good-or-none}
+use Rattle.rules.specs.Laws.Filled.{filled-off, filled-most, zeros-at, set-most, good-or-none, bound-32}
+use Rattle.rules.specs.Laws.Forbidden.{none-reaches}
 use Rattle.rules.specs.Laws.Range.{SizedUnit, InRange, range-facts, range-tests}
 use Rattle.rules.specs.Laws.Packets.{Sendable, reply-sendable}
 use Rattle.rules.specs.Laws.Assign.{Whenever, GoodDecision, Ready, assign-kept, resume-kept}
+
+-- ---- an estimate, as a message carries it
+
+estimate-fits : (m : Message) (c : Cost) → AtMost estimateLimit c → costFits (carriedOf Estimate m) (asNumber c) ≡ true
+estimate-fits m (Of x) h = cost-by (carriedOf Estimate m) x h
+estimate-fits m Forbidden h = none-by (carriedOf Estimate m) refl
+
+estimate-32 : (c : Cost) → AtMost estimateLimit c → asNumber c < 4294967296
+estimate-32 (Of x) h = omega arith
+estimate-32 Forbidden h = omega arith
 
 -- ---- states with the same CPA out
 
@@ -140,7 +156,7 @@ module _ (n : ℕ) (sizes : List ℕ) (w : View) (g : GoodView n sizes w) where
       down-ready e t len most own =
           let s : filledTo (w .place) sizes (m .stamp) ≡ true = rw (down-count e) at (f .stamps) in
           let v : filledTo (w .place) sizes (m .values) ≡ true = rw (down-count e) at (f .values) in
-          let c : m .cost ≤ prefixLimit (w .place) = rw (down-count e) at (f .cost) in
+          let c : m .cost ≤ prefixLimit (w .place) = rw (down-count e) at (cost-most (carriedOf Cpa m) refl (m .cost) (f .cost)) in
           let z : getD (m .values) (w .place) 0 ≡ 0 = filled-past (w .place) sizes (m .values) v (w .place) (omega arith) k16 in
           record {
             arrays = record { threshold = len; best = a .best; estimates = a .estimates; stamp = q .stamp; values = q .values };
@@ -204,13 +220,14 @@ module _ (n : ℕ) (sizes : List ℕ) (w : View) (g : GoodView n sizes w) where
 
       reply-good : Sendable n sizes (packet Estimate (reply w m .message))
       reply-good =
-          let cost-most : estimate w (m .values) (m .sender) ≤ estimateLimit = omega (arith, estimate-most w (g .small) (m .values) (m .sender), earlier, g .units, g .place, units-most n sizes w g) in
+          let limit : AtMost estimateLimit (estimate w (m .values) (m .sender)) =
+          most-mono _ estimateLimit (estimate w (m .values) (m .sender)) (omega (arith, earlier, g .units, g .place, units-most n sizes w g)) (estimate-most w (g .small) (m .values) (m .sender)) in
           record {
             address = address-by n (reply w m .message) (omega arith) (g .place) (from .from) (from .fromMost);
             form =
                 formed-by n sizes Estimate (reply w m .message)
-                record { direction = lt-ltb (m .sender) (suc (w .place)) earlier; stamps = f .stamps; values = blank-filled sizes; cost = cost-most; bound = no-bound-by sizes 0 zeros refl (blank-filled sizes) };
-            arrays = record { stamp = q .stamp; values = refl; best = refl; cost = omega arith; bound = omega arith };
+                record { direction = lt-ltb (m .sender) (suc (w .place)) earlier; stamps = f .stamps; values = blank-filled sizes; cost = estimate-fits (reply w m .message) (estimate w (m .values) (m .sender)) limit; bound = no-bound-by sizes 0 zeros refl (blank-filled sizes) };
+            arrays = record { stamp = q .stamp; values = refl; best = refl; cost = estimate-32 (estimate w (m .values) (m .sender)) limit; bound = omega arith };
           }
 
       reply-kept : (x : State) → InRange sizes w x → SizedUnit x → GoodDecision n sizes w 16 x (reply w m) []
@@ -241,17 +258,29 @@ module _ (n : ℕ) (sizes : List ℕ) (w : View) (g : GoodView n sizes w) where
     -- ---- estimates
 
     module _ (f : Formed n sizes Estimate m) (from : Addressed n m) where
-      stored-range : InRange sizes w (stored m u)
-      stored-range =
+      -- an estimate of NONE reaches every bound
+      small-below : u .cost + sumLater w (stored m u .estimates) < u .bound → m .cost ≤ estimateLimit
+      small-below l =
+          let later : suc (w .place) < m .sender = ltb-true (suc (w .place)) (m .sender) (rw to at (f .direction)) in
+          let most : u .bound ≤ NONE = omega (arith, bound-32 n sizes (u .bound) (u .best) (own-bound u r a)) in
+          ⊎-elim (λ (h : m .cost ≤ estimateLimit). h)
+          (λ h. absurd (omega (arith, none-reaches w u m (a .estimates) (omega (arith, from, units-most n sizes w g)) later (omega (arith, from, g .units)) (h .1) most)))
+          (cost-or-none (carriedOf Estimate m) (m .cost) (f .cost))
+
+      stored-range : m .cost ≤ estimateLimit → InRange sizes w (stored m u)
+      stored-range h =
           same-cpa-range u r a (u .threshold) (u .bound) (u .best) (set (u .estimates) (m .sender - 1) (m .cost)) (u .stopped) (r .threshold) (own-bound u r a)
-          (set-most estimateLimit (u .estimates) (m .sender - 1) (m .cost) (a .estimates) (omega (arith, from, units-most n sizes w g)) (f .cost) (r .estimates)) (λ o. r .out o .threshold)
+          (set-most estimateLimit (u .estimates) (m .sender - 1) (m .cost) (a .estimates) (omega (arith, from, units-most n sizes w g)) h (r .estimates)) (λ o. r .out o .threshold)
 
       stored-arrays : SizedUnit (stored m u)
       stored-arrays = same-cpa-arrays u r a (u .threshold) (u .bound) (u .best) (set (u .estimates) (m .sender - 1) (m .cost)) (u .stopped) (a .threshold) (a .best) (rw length-set (a .estimates))
 
-      reached-kept : 1 ≤ ownValue w u → getD (u .threshold) (w .place) 0 ≤ 16 → (t : Bool) → Whenever (GoodDecision n sizes w 16) (reachedByEstimates w t (stored m u))
-      reached-kept o l true = assign-kept n sizes w g (stored m u) (out-ready (stored m u) stored-range stored-arrays o l)
-      reached-kept o l false = quiet-kept (stored m u) stored-range stored-arrays
+      -- assigning clears the estimates, the one just stored too
+      reached-kept : 1 ≤ ownValue w u → getD (u .threshold) (w .place) 0 ≤ 16 → (t : Bool) → leb (u .bound) (u .cost + sumLater w (stored m u .estimates)) ≡ t
+          → Whenever (GoodDecision n sizes w 16) (reachedByEstimates w t (stored m u))
+      unfolding assign
+      reached-kept o l true e = assign-kept n sizes w g u (out-ready u r a o l)
+      reached-kept o l false e = quiet-kept (stored m u) (stored-range (small-below (leb-false (u .bound) (u .cost + sumLater w (stored m u .estimates)) e))) stored-arrays
 
       own-estimate-kept : compareOn (suc (w .place)) (m .stamp) (u .threshold) ≡ Equal → (t : Bool) → (isOut w u && sameOn (suc (w .place)) (m .stamp) (u .stamp)) ≡ t
           → Whenever (GoodDecision n sizes w 16) (onOwnEstimate w t (stored m u))
@@ -260,7 +289,7 @@ module _ (n : ℕ) (sizes : List ℕ) (w : View) (g : GoodView n sizes w) where
           let o : 1 ≤ ownValue w u = ltb-true 0 (ownValue w u) (and-left _ _ p) in
           let same : getD (m .stamp) (w .place) 0 ≡ getD (u .stamp) (w .place) 0 = same-places (suc (w .place)) (m .stamp) (u .stamp) (and-right (isOut w u) _ p) (w .place) (omega arith) in
           let also : getD (m .stamp) (w .place) 0 ≡ getD (u .threshold) (w .place) 0 = equal-places (suc (w .place)) (m .stamp) (u .threshold) e (w .place) (omega arith) in
-          reached-kept o (omega (arith, own-stamp-most u r a o)) (leb (u .bound) (u .cost + sumLater w (stored m u .estimates)))
+          reached-kept o (omega (arith, own-stamp-most u r a o)) (leb (u .bound) (u .cost + sumLater w (stored m u .estimates))) refl
 
       timely-kept : (o : Ordering) → compareOn (suc (w .place)) (m .stamp) (u .threshold) ≡ o → Whenever (GoodDecision n sizes w 16) (onTimely w o u m)
       timely-kept Less p = quiet-kept u r a

@@ -12,6 +12,7 @@ use borrow.Author.Tests.{leb-true}
 use Rattle.base.specs.Limits.{pairLimit}
 use Rattle.base.specs.Shape.{shapeGood}
 use Rattle.base.specs.Shape.Laws.{shape-n, shape-size, and-left, and-right}
+use Rattle.costs.specs.Cost.Laws.{AtMost}
 use Rattle.costs.specs.Instance.{Instance, View, viewOf, lentView}
 use Rattle.costs.specs.Laws.{Sound}
 use Rattle.costs.specs.Lent.{lentRefusal}
@@ -24,7 +25,7 @@ pub record GoodView (n : ℕ) (sizes : List ℕ) (w : View) : Type 0 where
   pub units : w .n ≡ n
   pub place : w .place < n
   pub dom : w .dom (w .place) ≡ getD sizes (w .place) 0
-  pub small : (j u v : ℕ) → w .pair j u v ≤ pairLimit
+  pub small : (j u v : ℕ) → AtMost pairLimit (w .pair j u v)
 
 module _ (n : ℕ) (sizes : List ℕ) (w : View) (g : GoodView n sizes w) where
   pub units-most : n ≤ 16
@@ -60,6 +61,6 @@ lent-good own n sizes costs s l i r =
 pub view-good : (I : Instance) (sizes : List ℕ) (k : ℕ) → Sound I → shapeGood (I .n) sizes ≡ true → I .n ≤ length sizes → k < I .n → I .dom k ≡ getD sizes k 0 → GoodView (I .n) sizes (viewOf I k)
 view-good I sizes k s g l b d = record { shape = g; long = l; units = refl; place = b; dom = d; small = λ j u v. go (ltb j k) j u v }
   where
-    go : (t : Bool) (j u v : ℕ) → cond t (I .cost j u k v) (I .cost k v j u) ≤ pairLimit
+    go : (t : Bool) (j u v : ℕ) → AtMost pairLimit (cond t (I .cost j u k v) (I .cost k v j u))
     go true j u v = s .small j u k v
     go false j u v = s .small k v j u

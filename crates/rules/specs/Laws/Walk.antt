@@ -6,6 +6,7 @@ use mathlib.Core.Bool.{Bool, true, false, _&&_}
 use mathlib.Core.List.{[], _∷_}
 use native.Mathlib.Omega.{arith}
 use lib.Dec.{ltb, leb}
+use Rattle.costs.specs.Cost.{_⊕_, below, asNumber}
 use Rattle.costs.specs.Instance.{View}
 use Rattle.costs.specs.Bounds.{h}
 use Rattle.message.specs.declared.Message.{Message}
@@ -37,7 +38,7 @@ module _ (w : View) (P : Decision → Type 0) (goes : (u : State) → P (accepte
   unfolding tryAfter
   try-by zero v b u l = backs b u l
   try-by (suc m) v b u l =
-      value-by (ltb (costAt w (next v) u + h w (next v)) (u .bound)) (next v) (costAt w (next v) u) b u (λ (b : Bool) (t : State). tryAfter w m (next v) b t) l (λ b t k. try-by m (next v) b t k)
+      value-by (below (costAt w (next v) u ⊕ h w (next v)) (u .bound)) (next v) (asNumber (costAt w (next v) u)) b u (λ (b : Bool) (t : State). tryAfter w m (next v) b t) l (λ b t k. try-by m (next v) b t k)
 
   no-improvement : false ≡ true → isLast w ≡ true
   no-improvement e = let c : _≡_ {A = ℕ} 0 1 = cc in absurd (omega arith)

@@ -13,6 +13,8 @@ use lib.ListN.{length, getD, set, take, drop, replicate, length-append}
 use Rattle.table.specs.Stream.{unitsOf, Accepted}
 use Rattle.table.specs.StreamLaws.{accepted-units}
 use Rattle.base.specs.Shape.{isValue}
+use Rattle.costs.specs.declared.Cost.{Cost}
+use Rattle.costs.specs.declared.Cost.the-variants.{Of}
 use Rattle.costs.specs.Instance.{viewOf, instanceOf}
 use Rattle.costs.specs.Laws.{laws-of, problemOf}
 use Rattle.costs.specs.Laws.Stream.{sound-of}
@@ -58,7 +60,7 @@ pub stream-free : (s : List ℕ) → FreeWhenUnassigned (instanceOf s)
 unfolding instanceOf
 stream-free s i u j = never _ (ltb i j) (ltb j (getD s 0 0)) (isValue (getD (take (getD s 0 0) (drop 1 s)) i 0) u)
   where
-    never : (x : ℕ) (a b c : Bool) → cond (a && b && c && false) x 0 ≡ 0
+    never : (x : Cost) (a b c : Bool) → cond (a && b && c && false) x (Of 0) ≡ Of 0
     never x true true true = refl
     never x true true false = refl
     never x true false c = refl

@@ -1,13 +1,18 @@
--- `extend` meets its contract, and ends as the units left fall. The loop's invariant: the search is what is kept so far with the values from v on.
+-- `extend` meets its contract, and ends as the units left fall. The loop's invariant: the search is what is kept so far with the values from v on;
+-- a value that is forbidden with those before it keeps nothing.
 -- Assumes nothing.
 use Prim.Native.Nat.{ℕ, _+_, _-_, _≤_, _<_}
 use mathlib.Core.Path.{_≡_, sym, _∙_}
+use mathlib.Core.Logic.{⊎-elim}
 use native.Mathlib.Omega.{arith}
 use lib.ListN.{length, getD}
 use borrow.Author.Needs.{needs}
-use Rattle.costs.specs.Instance.{instanceOf}
+use Rattle.base.specs.Limits.{NONE}
+use Rattle.costs.specs.Cost.Laws.{most-is}
+use Rattle.costs.specs.Instance.{instanceOf, viewOf}
+use Rattle.costs.specs.Bounds.{costWith}
 use Rattle.search.specs.Best.{inTurn, bestFrom}
-use Rattle.search.specs.Steps.{withValue, in-turn-next, in-turn-done, best-of-values, best-full, cost-is-total, size-is-dom, extending-next}
+use Rattle.search.specs.Steps.{withValue, in-turn-next, in-turn-done, best-of-values, best-full, cost-is-total, size-is-dom, next-most, forbidden-next, extending-next}
 use borrow.Fn.Kinds.{In}
 use borrow.Fn.PlainCycle.{Measures, is, falls, and}
 use Rattle.search.proofs.extend.Reads as extend
@@ -29,7 +34,7 @@ abbrev extend-below : ℕ → In 2 extend-kinds.ps
 extend-below t = and 2 extend-kinds.ps (falls 2 extend-kinds.ps _<_ μ-extend t) extend.Pre
 
 abbrev extend-Inv-loop : extend-lts.InvT-loop
-extend-Inv-loop stream starts left level cost chosen d best₀ v₀ best v = (1 ≤ v) × (v ≤ d + 1) × (d < 256) × (d ≡ getD stream (1 + level) 0) × (bestFrom (instanceOf stream) left level chosen best₀ ≡ inTurn (withValue (instanceOf stream) left level chosen) v (d + 1 - v) best)
+extend-Inv-loop stream starts left level cost chosen d best₀ v₀ best v = (1 ≤ v) × (v ≤ d + 1) × (d < 256) × (d ≡ getD stream (1 + level) 0) × (bestFrom (instanceOf stream) left level chosen best₀ ≡ inTurn (withValue (instanceOf stream) left level chosen) v (d + 1 - v) best) × (best .total ≤ NONE)
 
 abbrev extend-μ-loop : extend-lts.MeasureT-loop
 extend-μ-loop stream starts left level cost chosen d best₀ v₀ best v = d + 1 - v
@@ -46,6 +51,13 @@ said t = (
   extend-below t,
   extend.Post,
 )
+
+-- what the types say of the arguments
+places : (t : ℕ) (z : extend-lts.Start (said t) (extend-at t) extend.Post extend-Inv-loop extend-μ-loop) → length (z .args .chosen) ≡ 16
+places t z = search needs
+
+most : (t : ℕ) (z : extend-lts.Start (said t) (extend-at t) extend.Post extend-Inv-loop extend-μ-loop) → z .args .b .total ≤ NONE
+most t z = search needs
 
 extend-better-requires : (t : ℕ) → extend-lts.Need-better-requires (said t) (extend-at t) extend.Post extend-Inv-loop extend-μ-loop
 extend-better-requires t c κs = search needs
@@ -69,7 +81,7 @@ extend-loop-holds t c =
     let a = z .args in
     let some = c .before .if1 .left in
     let size = c .byte .ensures .0 in
-    (omega arith, omega arith, omega arith, size, best-of-values (instanceOf (a .stream .now)) (a .left) (a .level) (c .byte .result) (a .chosen) (a .b) some (size-is-dom (z .pre .1) (c .byte .result) some size))
+    (omega arith, omega arith, omega arith, size, best-of-values (instanceOf (a .stream .now)) (a .left) (a .level) (c .byte .result) (a .chosen) (a .b) some (size-is-dom (z .pre .1) (c .byte .result) some size), most t z)
 
 extend-cast-next : (t : ℕ) → extend-lts.Need-cast-next (said t) (extend-at t) extend.Post extend-Inv-loop extend-μ-loop
 extend-cast-next t c = search needs
@@ -80,6 +92,15 @@ extend-array-write-next t c = search needs
 extend-added-cost-requires : (t : ℕ) → extend-lts.Need-added-cost-requires (said t) (extend-at t) extend.Post extend-Inv-loop extend-μ-loop
 extend-added-cost-requires t c κs = search needs
 
+-- the cost of the value with those before it
+added : (t : ℕ) (c : extend-lts.After-added-cost (said t) (extend-at t) extend.Post extend-Inv-loop extend-μ-loop)
+    → let a = c .before .before .before .before .before .before .before .args in
+    costWith (viewOf (instanceOf (a .stream .now)) (a .level)) (a .chosen) (a .level) (c .before .before .loop .v) ≡ c .added-cost .result
+added t c = sym (c .added-cost .ensures .0)
+
+extend-enum-known-more : (t : ℕ) → extend-lts.Need-enum-known-more (said t) (extend-at t) extend.Post extend-Inv-loop extend-μ-loop
+extend-enum-known-more t c = search needs
+
 extend-sub-extend : (t : ℕ) → extend-lts.Need-sub-extend (said t) (extend-at t) extend.Post extend-Inv-loop extend-μ-loop
 extend-sub-extend t c = search needs
 
@@ -87,15 +108,19 @@ extend-add-extend : (t : ℕ) → extend-lts.Need-add-extend (said t) (extend-at
 extend-add-extend t c = search needs
 
 extend-add-extend-2 : (t : ℕ) → extend-lts.Need-add-extend-2 (said t) (extend-at t) extend.Post extend-Inv-loop extend-μ-loop
-extend-add-extend-2 t c = search needs
+extend-add-extend-2 t c = omega (arith, most-is _ (c .before .more .given .0 .0) (c .before .before .before .added-cost .result) (c .before .more .given .1) (c .before .before .before .added-cost .ensures .1))
 
 extend-extend-requires : (t : ℕ) → extend-lts.Need-extend-requires (said t) (extend-at t) extend.Post extend-Inv-loop extend-μ-loop
 extend-extend-requires t c κs =
-    let z = c .before .before .before .before .before .before .before in
-    let l = c .before .before .loop in
-    let some = c .before .before .before .before .if1 .left in
-    let places : length (z .args .chosen) ≡ 16 = search needs in
-    (omega arith, extending-next (z .pre .1) (c .before .before .before .byte .result) some (l .inv .3) (l .v) (l .inv .0) (omega arith) (c .added-cost .result) places (c .added-cost .ensures .0))
+    let m = c .before in
+    let q = m .before .before in
+    let l = q .before .before .loop in
+    let b = q .before .before .before in
+    let z = b .before .before .before .before in
+    (omega arith, extending-next (z .pre .1) (b .byte .result) (b .before .if1 .left) (l .inv .3) (l .v) (places t z) (m .more .given .0 .0) (l .inv .0) (omega arith) (added t q ∙ m .more .given .1))
+
+extend-enum-told : (t : ℕ) → extend-lts.Need-enum-told (said t) (extend-at t) extend.Post extend-Inv-loop extend-μ-loop
+extend-enum-told t c = search needs
 
 extend-add-v : (t : ℕ) → extend-lts.Need-add-v (said t) (extend-at t) extend.Post extend-Inv-loop extend-μ-loop
 extend-add-v t c = search needs
@@ -103,12 +128,31 @@ extend-add-v t c = search needs
 extend-loop-less : (t : ℕ) → extend-lts.Need-loop-less (said t) (extend-at t) extend.Post extend-Inv-loop extend-μ-loop
 extend-loop-less t c = search needs
 
+-- what is kept: what the value hands on, or the same where it is forbidden
+abbrev Kept : (t : ℕ) → extend-lts.At-match-came (said t) (extend-at t) extend.Post extend-Inv-loop extend-μ-loop → Type 0
+Kept t c =
+    let l = c .before .before .before .loop in
+    let a = c .before .before .before .before .before .before .before .before .args in
+    withValue (instanceOf (a .stream .now)) (a .left) (a .level) (a .chosen) (l .v) (l .best) ≡ c .match .best
+
+kept : (t : ℕ) (c : extend-lts.At-match-came (said t) (extend-at t) extend.Post extend-Inv-loop extend-μ-loop) → Kept t c
+kept t c =
+    let q = c .before in
+    let l = q .before .before .loop in
+    let b = q .before .before .before in
+    let z = b .before .before .before .before in
+    ⊎-elim {C = Kept t c} (λ w. sym (w .4 ∙ w .3 .ensures))
+    (λ w. forbidden-next (z .pre .1) (b .byte .result) (b .before .if1 .left) (l .inv .3) (l .v) (places t z) (l .best) (l .inv .5) (added t q ∙ w .1 .given .1) ∙ sym (w .2)) (c .match .came)
+
 extend-loop-again : (t : ℕ) → extend-lts.Need-loop-again (said t) (extend-at t) extend.Post extend-Inv-loop extend-μ-loop
 extend-loop-again t c =
-    let a = c .before .before .before .before .before .before .before .before .args in
     let l = c .before .before .before .loop in
-    let d = c .before .before .before .before .byte .result in
-    (omega arith, omega arith, omega arith, l .inv .3, l .inv .4 ∙ in-turn-next (withValue (instanceOf (a .stream .now)) (a .left) (a .level) (a .chosen)) (l .v) d (l .best) (omega arith) ∙ simp (c .extend .ensures))
+    let b = c .before .before .before .before in
+    let z = b .before .before .before .before in
+    let a = z .args in
+    let few : c .match .best .total ≤ NONE =
+    rw (← kept t c) (omega (arith, l .inv .5, next-most (z .pre .1) (b .byte .result) (b .before .if1 .left) (l .inv .3) (l .v) (places t z) (l .best))) in
+    (omega arith, omega arith, omega arith, l .inv .3, l .inv .4 ∙ in-turn-next (withValue (instanceOf (a .stream .now)) (a .left) (a .level) (a .chosen)) (l .v) (b .byte .result) (l .best) (omega arith) ∙ rw (kept t c), few)
 
 extend-returns-2 : (t : ℕ) → extend-lts.Need-returns-2 (said t) (extend-at t) extend.Post extend-Inv-loop extend-μ-loop
 extend-returns-2 t c =
@@ -131,10 +175,12 @@ pub +extend-spec : {M : Type 1} → statement M
     (extend-cast-next t)
     (extend-array-write-next t)
     (extend-added-cost-requires t)
+    (extend-enum-known-more t)
     (extend-sub-extend t)
     (extend-add-extend t)
     (extend-add-extend-2 t)
     (extend-extend-requires t)
+    (extend-enum-told t)
     (extend-add-v t)
     (extend-loop-less t)
     (extend-loop-again t)

@@ -1,18 +1,21 @@
--- Ascending order of assignments: of two, one comes before the other or they agree, so there is only one first least.
+-- Ascending order of assignments: of two, one comes before the other or they agree, so there is only one first least, or none.
 -- By induction on the number of units compared.
 -- Assumes nothing.
 use Prim.Native.Nat.{ℕ, zero, suc, _≤_, _<_}
-use mathlib.Core.Path.{_≡_, refl, sym, _∙_}
+use mathlib.Core.Path.{_≡_, refl, sym, ap, _∙_}
 use mathlib.Core.Bool.{Bool, true, false}
 use mathlib.Core.List.{List}
+use mathlib.Core.Logic.{inl, inr}
 use native.Mathlib.Omega.{arith}
 use lib.Dec.{eqb, ltb}
 use lib.ListN.{getD}
 use lib.Seq.{ext-getD}
 use borrow.Author.Tests.{ltb-true, ltb-false, eqb-true, eqb-false}
 use Rattle.costs.specs.Instance.{Instance}
-use Rattle.costs.specs.Bounds.{total}
-use Rattle.costs.specs.Laws.Prefix.{pre-cong, total-prefix}
+use Rattle.costs.specs.declared.Cost.the-variants.{Of}
+use Rattle.costs.specs.Cost.{asNumber}
+use Rattle.costs.specs.Bounds.{Assignment, total, Reported}
+use Rattle.costs.specs.Laws.Prefix.{pre-cong, total-prefix, reported-same}
 use Rattle.search.specs.Least.{Before, LeastFirst, Padded}
 
 -- ---- order
@@ -69,16 +72,25 @@ alike-total I l m a = rw (total-prefix I l, total-prefix I m, pre-cong (I .n) l 
 
 module _ (I : Instance) (t u : ℕ) (l m : List ℕ) (a : LeastFirst I t l) (b : LeastFirst I u m) where
   pub least-unique : t ≡ u
-  least-unique = omega (arith, a .least m (b .full), b .totals, b .least l (a .full), a .totals)
+  least-unique = reported-same I t u l m (a .reported) (b .reported)
 
-  first-agree : Order (I .n) l m → Agree (I .n) l m
-  first-agree (alike e) = e
-  first-agree (earlier e) = absurd (omega (arith, least-unique, b .first l (a .full) e, a .totals))
-  first-agree (later e) = absurd (omega (arith, least-unique, a .first m (b .full) e, b .totals))
+  -- two that are assignments
+  module _ (full : Assignment I l) (totals : total I l ≡ Of t) (full′ : Assignment I m) (totals′ : total I m ≡ Of u) where
+    first-agree : Order (I .n) l m → Agree (I .n) l m
+    first-agree (alike e) = e
+    first-agree (earlier e) = absurd (omega (arith, least-unique, b .first l full e, ap asNumber totals))
+    first-agree (later e) = absurd (omega (arith, least-unique, a .first m full′ e, ap asNumber totals′))
+
+  -- two that are none are all zero, and there is no assignment beside none
+  reported-agree : Reported I t l → Reported I u m → Agree (I .n) l m
+  reported-agree (inl p) (inl q) = λ i h. p .1 i ∙ sym (q .1 i)
+  reported-agree (inl p) (inr q) = absurd (p .2 m (q .0))
+  reported-agree (inr p) (inl q) = absurd (q .2 l (p .0))
+  reported-agree (inr p) (inr q) = first-agree (p .0) (p .1) (q .0) (q .1) (order (I .n) l m)
 
   pub first-unique : Padded (I .n) l → Padded (I .n) m → l ≡ m
   first-unique p q = ext-getD 0 l m (p .places ∙ sym (q .places)) (λ i h. go i (ltb i (I .n)) refl)
     where
       go : (i : ℕ) (t : Bool) → ltb i (I .n) ≡ t → getD l i 0 ≡ getD m i 0
-      go i true e = first-agree (order (I .n) l m) i (ltb-true i (I .n) e)
+      go i true e = reported-agree (a .reported) (b .reported) i (ltb-true i (I .n) e)
       go i false e = let h = ltb-false i (I .n) e in p .zeros i h ∙ sym (q .zeros i h)

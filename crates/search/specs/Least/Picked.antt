@@ -1,22 +1,26 @@
--- What the search picks is the first least of the assignments it goes through (`Picked`). Two parts make a whole where each assignment of
+-- What the search picks is the first least of the choices it goes through (`Picked`). Two parts make a whole where each choice of
 -- the first comes before each of the second, as those of a value do before those of the next; so by induction on the units left.
--- In order: the parts; the assignments; the search picks their first least; places past the units; the whole search.
+-- A forbidden choice counts as NONE, so what is picked below NONE is an assignment, and nothing is where there is none.
+-- In order: the parts; the choices; the search picks their first least; places past the units; the whole search.
 -- Assumes nothing.
 use Prim.Native.Nat.{ℕ, zero, suc, _+_, _≤_, _<_}
 use mathlib.Core.Path.{_≡_, refl, sym, ap, _∙_}
 use mathlib.Core.Bool.{Bool, true, false}
 use mathlib.Core.List.{List}
-use mathlib.Core.Logic.{_⊎_, inl, inr}
+use mathlib.Core.Logic.{_⊎_, inl, inr, _≢_}
 use native.Mathlib.Omega.{arith}
 use lib.Dec.{eqb, ltb}
 use lib.ListN.{length, getD, set, replicate, length-set, getD-replicate, List·getD-eq-default}
 use lib.Seq.{getD-set-same, getD-set-other}
 use borrow.Author.Tests.{ltb-true, ltb-false, eqb-true, eqb-false}
-use Rattle.base.specs.Limits.{NONE}
+use Rattle.base.specs.Limits.{NONE, totalLimit}
+use Rattle.costs.specs.declared.Cost.the-variants.{Of, Forbidden}
+use Rattle.costs.specs.Cost.{asNumber}
+use Rattle.costs.specs.Cost.Laws.{number-most, number-below, number-is}
 use Rattle.costs.specs.Instance.{Instance}
 use Rattle.costs.specs.Bounds.{Assignment, total}
 use Rattle.costs.specs.Laws.{Sound}
-use Rattle.costs.specs.Laws.Prefix.{total-limit}
+use Rattle.costs.specs.Laws.Prefix.{total-limit, permitted-total, total-permitted}
 use Rattle.search.specs.declared.Best.{Best}
 use Rattle.search.specs.Best.{nothing, keep, inTurn, bestFrom, bestOf}
 use Rattle.search.specs.Least.{Before, LeastFirst, Padded}
@@ -26,15 +30,15 @@ use Rattle.search.specs.Least.Order.{Agree, agree-next, before-not-after
 
 -- r is of S, lower than b, and the first of its total in S
 abbrev Newer : Instance → (List ℕ → Type 0) → Best → Best → Type 0
-Newer I S b r = S (r .values) × (r .total ≡ total I (r .values)) × (r .total < b .total) × ((m : List ℕ) → S m → Before (I .n) m (r .values) → r .total < total I m)
+Newer I S b r = S (r .values) × (r .total ≡ asNumber (total I (r .values))) × (r .total < b .total) × ((m : List ℕ) → S m → Before (I .n) m (r .values) → r .total < asNumber (total I m))
 
--- r is the first least of b and the assignments in S, b coming first
+-- r is the first least of b and the choices in S, b coming first
 pub record Picked (I : Instance) (S : List ℕ → Type 0) (b r : Best) : Type 0 where
   pub below : r .total ≤ b .total
-  pub least : (m : List ℕ) → S m → r .total ≤ total I m
+  pub least : (m : List ℕ) → S m → r .total ≤ asNumber (total I m)
   pub from : (r ≡ b) ⊎ Newer I S b r
 
--- the same assignments told otherwise
+-- the same choices told otherwise
 picked-same : (I : Instance) (S T : List ℕ → Type 0) (b r : Best) → ((m : List ℕ) → S m → T m) → ((m : List ℕ) → T m → S m) → Picked I S b r → Picked I T b r
 picked-same I S T b r to back k = record { below = k .below; least = λ m x. k .least m (back m x); from = go (k .from) }
   where
@@ -42,26 +46,26 @@ picked-same I S T b r to back k = record { below = k .below; least = λ m x. k .
     go (inl e) = inl e
     go (inr f) = inr (to (r .values) (f .0), f .1, f .2, λ m x p. f .3 m (back m x) p)
 
--- no assignment
+-- no choice
 picked-none : (I : Instance) (S : List ℕ → Type 0) (b : Best) → ((m : List ℕ) → S m → ⊥) → Picked I S b b
 picked-none I S b empty = record { below = omega arith; least = λ m x. absurd (empty m x); from = inl refl }
 
--- S, then T, whose assignments come after those of S
+-- S, then T, whose choices come after those of S
 module _ (I : Instance) (S T : List ℕ → Type 0) (b a r : Best) (after : (l m : List ℕ) → S l → T m → Before (I .n) l m) (f : Picked I S b a) (g : Picked I T a r) where
   abbrev Either : List ℕ → Type 0
   Either m = S m ⊎ T m
 
-  bounds : (m : List ℕ) → Either m → r .total ≤ total I m
+  bounds : (m : List ℕ) → Either m → r .total ≤ asNumber (total I m)
   bounds m (inl x) = omega (arith, g .below, f .least m x)
   bounds m (inr y) = g .least m y
 
   -- r is of T
-  first-of-second : Newer I T a r → (m : List ℕ) → Either m → Before (I .n) m (r .values) → r .total < total I m
+  first-of-second : Newer I T a r → (m : List ℕ) → Either m → Before (I .n) m (r .values) → r .total < asNumber (total I m)
   first-of-second h m (inl x) p = omega (arith, h .2, f .least m x)
   first-of-second h m (inr y) p = h .3 m y p
 
   -- r is of S
-  first-of-first : Newer I S b r → (m : List ℕ) → Either m → Before (I .n) m (r .values) → r .total < total I m
+  first-of-first : Newer I S b r → (m : List ℕ) → Either m → Before (I .n) m (r .values) → r .total < asNumber (total I m)
   first-of-first h m (inl x) p = h .3 m x p
   first-of-first h m (inr y) p = absurd (before-not-after (I .n) m (r .values) p (after (r .values) m (h .0) y))
 
@@ -73,7 +77,7 @@ module _ (I : Instance) (S T : List ℕ → Type 0) (b a r : Best) (after : (l m
   picked-then : Picked I Either b r
   picked-then = record { below = omega (arith, f .below, g .below); least = bounds; from = either (g .from) (f .from) }
 
--- ---- the assignments that the search goes through
+-- ---- the choices that the search goes through
 
 -- m begins with the first k values of p, and goes on with values of the other units
 abbrev Extends : Instance → ℕ → List ℕ → List ℕ → Type 0
@@ -102,7 +106,7 @@ module _ (I : Instance) (k : ℕ) (p : List ℕ) (inside : k < I .n) (room : k <
   value-extends v m x e =
       (agree-next k m (set p k v) (λ i h. x .0 i h ∙ sym (getD-set-other p k i v 0 (omega arith))) (e ∙ sym (getD-set-same p k v 0 room)), λ i h l. x .1 i (omega arith) l)
 
-  -- v's assignments, then those of the d values after it, are those of all of them
+  -- v's choices, then those of the d values after it, are those of all of them
   module _ (v d : ℕ) (v1 : 1 ≤ v) (vd : v ≤ I .dom k) where
     joins : (m : List ℕ) → Extends I (suc k) (set p k v) m ⊎ Among I k p (suc v) d m → Among I k p v (suc d) m
     joins m (inl x) = let e = with-value v m x in (extends-value v m v1 vd x, omega arith, omega arith)
@@ -132,15 +136,15 @@ module _ (I : Instance) (k : ℕ) (p : List ℕ) (inside : k < I .n) (room : k <
 -- ---- the search keeps the first least of them
 
 module _ (I : Instance) where
-  keep-full : (k : ℕ) (p : List ℕ) (b : Best) → k ≡ I .n → Picked I (Extends I k p) b (keep b (total I p) p)
-  keep-full k p b e = go (ltb (total I p) (b .total)) refl
+  keep-full : (k : ℕ) (p : List ℕ) (b : Best) → k ≡ I .n → Picked I (Extends I k p) b (keep b (asNumber (total I p)) p)
+  keep-full k p b e = go (ltb (asNumber (total I p)) (b .total)) refl
     where
-      alike-p : (m : List ℕ) → Extends I k p m → total I m ≡ total I p
-      alike-p m x = alike-total I m p (λ i h. x .0 i (omega arith))
+      alike-p : (m : List ℕ) → Extends I k p m → asNumber (total I m) ≡ asNumber (total I p)
+      alike-p m x = ap asNumber (alike-total I m p (λ i h. x .0 i (omega arith)))
 
-      go : (t : Bool) → ltb (total I p) (b .total) ≡ t → Picked I (Extends I k p) b (keep b (total I p) p)
+      go : (t : Bool) → ltb (asNumber (total I p)) (b .total) ≡ t → Picked I (Extends I k p) b (keep b (asNumber (total I p)) p)
       go true q =
-          let h = ltb-true (total I p) (b .total) q in
+          let h = ltb-true (asNumber (total I p)) (b .total) q in
           rw q
           record {
             below = omega arith;
@@ -148,7 +152,7 @@ module _ (I : Instance) where
             from = inr ((λ i l. refl, λ i l r. absurd (omega arith)), refl, h, λ m x o. absurd (omega (arith, x .0 (o .place) (omega (arith, o .inside)), o .lower)));
           }
       go false q =
-          let h = ltb-false (total I p) (b .total) q in
+          let h = ltb-false (asNumber (total I p)) (b .total) q in
           rw q record { below = omega arith; least = λ m x. omega (arith, alike-p m x); from = inl refl }
 
   pub best-picks : (left k : ℕ) (p : List ℕ) (b : Best) → k + left ≡ I .n → I .n ≤ length p → Picked I (Extends I k p) b (bestFrom I left k p b)
@@ -165,12 +169,15 @@ module _ (I : Instance) where
 padded-set : (n k v : ℕ) (l : List ℕ) → k < n → Padded n l → Padded n (set l k v)
 padded-set n k v l h p = record { places = length-set l k v ∙ p .places; zeros = λ i b. getD-set-other l k i v 0 (omega arith) ∙ p .zeros i b }
 
-padded-none : (n : ℕ) → Padded n (replicate 16 0)
-padded-none n = record { places = refl; zeros = λ i h. go i (ltb i 16) refl }
+no-values : (i : ℕ) → getD {A = ℕ} (replicate 16 0) i 0 ≡ 0
+no-values i = go (ltb i 16) refl
   where
-    go : (i : ℕ) (t : Bool) → ltb i 16 ≡ t → getD {A = ℕ} (replicate 16 0) i 0 ≡ 0
-    go i true e = getD-replicate 16 i 0 0 (ltb-true i 16 e)
-    go i false e = List·getD-eq-default (replicate 16 0) 0 (ltb-false i 16 e)
+    go : (t : Bool) → ltb i 16 ≡ t → getD {A = ℕ} (replicate 16 0) i 0 ≡ 0
+    go true e = getD-replicate 16 i 0 0 (ltb-true i 16 e)
+    go false e = List·getD-eq-default (replicate 16 0) 0 (ltb-false i 16 e)
+
+padded-none : (n : ℕ) → Padded n (replicate 16 0)
+padded-none n = record { places = refl; zeros = λ i h. no-values i }
 
 in-turn-padded : (n : ℕ) (f : ℕ → Best → Best) → ((v : ℕ) (a : Best) → Padded n (a .values) → Padded n (f v a .values)) → (d v : ℕ) (b : Best) → Padded n (b .values) → Padded n (inTurn f v d b .values)
 unfolding inTurn
@@ -178,10 +185,10 @@ in-turn-padded n f each zero v b p = p
 in-turn-padded n f each (suc d) v b p = in-turn-padded n f each d (suc v) (f v b) (each v b p)
 
 module _ (I : Instance) where
-  keep-padded : (b : Best) (l : List ℕ) → Padded (I .n) (b .values) → Padded (I .n) l → Padded (I .n) (keep b (total I l) l .values)
-  keep-padded b l p q = go (ltb (total I l) (b .total)) refl
+  keep-padded : (b : Best) (l : List ℕ) → Padded (I .n) (b .values) → Padded (I .n) l → Padded (I .n) (keep b (asNumber (total I l)) l .values)
+  keep-padded b l p q = go (ltb (asNumber (total I l)) (b .total)) refl
     where
-      go : (t : Bool) → ltb (total I l) (b .total) ≡ t → Padded (I .n) (keep b (total I l) l .values)
+      go : (t : Bool) → ltb (asNumber (total I l)) (b .total) ≡ t → Padded (I .n) (keep b (asNumber (total I l)) l .values)
       go true e = rw e q
       go false e = rw e p
 
@@ -195,27 +202,34 @@ module _ (I : Instance) where
 -- ---- the whole search
 
 module _ (I : Instance) (sound : Sound I) where
-  ones-full : Assignment I (replicate 16 1)
-  ones-full i h = let e : getD {A = ℕ} (replicate 16 1) i 0 ≡ 1 = getD-replicate 16 i 1 0 (omega (arith, sound .n16)) in rw e (omega arith, sound .dom1 i h)
-
   best-picked : Picked I (Extends I 0 (replicate 16 0)) nothing (bestOf I)
   best-picked = best-picks I (I .n) 0 (replicate 16 0) nothing (omega arith) (sound .n16)
 
   any-extends : (m : List ℕ) → Assignment I m → Extends I 0 (replicate 16 0) m
-  any-extends m a = (λ i h. absurd (omega arith), λ i h l. a i l)
+  any-extends m a = (λ i h. absurd (omega arith), λ i h l. a .0 i l)
+
+  -- a total is a number far below NONE
+  none-kept : bestOf I .total ≡ NONE → (m : List ℕ) → Assignment I m → ⊥
+  none-kept e m a = omega (arith, best-picked .least m (any-extends m a), number-most totalLimit (total I m) (total-limit I sound m) (permitted-total I m (a .1)))
 
   pub best-least-first : LeastFirst I (bestOf I .total) (bestOf I .values)
   best-least-first = go (best-picked .from)
     where
       go : (bestOf I ≡ nothing) ⊎ Newer I (Extends I 0 (replicate 16 0)) nothing (bestOf I) → LeastFirst I (bestOf I .total) (bestOf I .values)
       go (inl e) =
-          let t : bestOf I .total ≡ NONE = ap (λ (b : Best). b .total) e in
-          absurd (omega (arith, best-picked .least (replicate 16 1) (any-extends (replicate 16 1) ones-full), total-limit I sound (replicate 16 1)))
-      go (inr h) =
+          let none = none-kept (ap (λ (b : Best). b .total) e) in
           record {
-            full = λ i l. h .0 .1 i (omega arith) l;
-            totals = h .1;
-            least = λ m a. best-picked .least m (any-extends m a);
+            reported = inl (ap (λ (b : Best). b .total) e, λ k. ap (λ (b : Best). getD (b .values) k 0) e ∙ no-values k, none);
+            first = λ m a o. absurd (none m a);
+          }
+      go (inr h) =
+          let number : total I (bestOf I .values) ≢ Forbidden = number-below (total I (bestOf I .values)) (omega (arith, h .1, h .2)) in
+          record {
+            reported = inr (
+              (λ i l. h .0 .1 i (omega arith) l, total-permitted I (bestOf I .values) number),
+              number-is (total I (bestOf I .values)) number ∙ ap Of (sym (h .1)),
+              λ m a. best-picked .least m (any-extends m a),
+            );
             first = λ m a o. h .3 m (any-extends m a) o;
           }
 

@@ -1,7 +1,8 @@
--- `highest` meets its contract. The loop's invariant: all costs pass just where the most so far and the costs left do.
+-- `highest` meets its contract. The loop's invariant: all costs pass just where the most so far, one higher and come round, and the costs
+-- left do.
 -- Assumes nothing.
-use Prim.Native.Nat.{_+_, _*_, _-_, _≤_, max}
-use mathlib.Core.Path.{_≡_, sym, ap, _∙_}
+use Prim.Native.Nat.{_+_, _*_, _-_, _%_, _≤_, _<_, max}
+use mathlib.Core.Path.{_≡_, refl, sym, ap, _∙_}
 use mathlib.Core.Bool.{_&&_}
 use native.Mathlib.Omega.{arith}
 use native.Mathlib.Nat.{sub-zero}
@@ -16,7 +17,7 @@ use Rattle.table.proofs.highest.Statement.{statement}
 use Rattle.table.proofs.highest.Tie as tie
 
 abbrev Inv-loop : tie.InvT-loop
-Inv-loop costs count most₀ i₀ most i = (i ≤ count) × (length costs ≡ 2 * count) × (costsGood costs 0 count ≡ (leb most pairLimit && costsGood costs (2 * i) (count - i)))
+Inv-loop costs count most₀ i₀ most i = (i ≤ count) × (length costs ≡ 2 * count) × (costsGood costs 0 count ≡ (leb most (pairLimit + 1) && costsGood costs (2 * i) (count - i)))
 
 abbrev μ-loop : tie.MeasureT-loop
 μ-loop costs count most₀ i₀ most i = count - i
@@ -31,8 +32,11 @@ loop-again c =
     let s = st .args .costs .now in
     let k : 2 * l .i + 2 ≡ 2 * (l .i + 1) = omega arith in
     let m : st .args .count - l .i - 1 ≡ st .args .count - (l .i + 1) = omega arith in
-    let cost : c .larger .result ≡ max (l .most) (u16At s (2 * l .i)) = c .larger .ensures ∙ rw (c .before .wide-u322 .ensures .0, c .before .before .before .wide-u32 .ensures .0) in
-    (omega arith, l .inv .1, rw (cost, ← k, ← m) (highest-next s (2 * l .i) (st .args .count - l .i) (l .most) (l .inv .2) (omega arith)))
+    let low = c .before .before .before .wide-u32 .ensures in
+    let high = c .before .wide-u322 .ensures in
+    let cost : c .larger .result ≡ max (l .most) ((u16At s (2 * l .i) + 1) % 65536) = c .larger .ensures ∙ rw (high .0, low .0) refl in
+    let small : u16At s (2 * l .i) < 65536 = omega (arith, low, high) in
+    (omega arith, l .inv .1, rw (cost, ← k, ← m) (highest-next s (2 * l .i) (st .args .count - l .i) (l .most) (l .inv .2) (omega arith) small))
 
 returns : tie.Need-returns Inv-loop μ-loop
 returns c =
@@ -53,6 +57,7 @@ highest-spec =
     (λ c. search needs)
     (λ c. search needs)
     (λ c κs. search needs)
+    (λ c. search needs)
     (λ c. search needs)
     (λ c. search needs)
     (λ c κs. search needs)

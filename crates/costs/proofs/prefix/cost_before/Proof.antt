@@ -3,14 +3,16 @@
 use Prim.Native.Nat.{ℕ, _-_, _≤_}
 use mathlib.Core.Path.{_≡_, sym, ap, _∙_}
 use native.Mathlib.Omega.{arith}
+use lib.ListN.{getD}
 use borrow.Author.Needs.{needs}
 use Rattle.base.specs.Sums.{sumFrom}
 use Rattle.base.specs.Shape.{isValue}
 use Rattle.base.specs.Shape.Laws.{value-range}
 use Rattle.table.specs.Stream.{unitsOf}
+use Rattle.costs.specs.Cost.Laws.{most-is}
 use Rattle.costs.specs.Instance.{viewOf, instanceOf, domOf}
 use Rattle.costs.specs.Bounds.{costWith}
-use Rattle.costs.specs.StreamCost.{Running, Turn, running-first, later-after, between-after, place-most, row-after, running-next}
+use Rattle.costs.specs.StreamCost.{Running, Turn, running-first, later-after, between-after, place-most, row-after, pair-here, running-next, running-stops}
 use Rattle.costs.proofs.prefix.cost_before.Statement.{statement}
 use Rattle.costs.proofs.prefix.cost_before.Tie as tie
 
@@ -55,17 +57,17 @@ sub-later c = omega (arith, later-after (turn c))
 sub-between : tie.Need-sub-between Inv-loop μ-loop
 sub-between c = omega (arith, between-after (turn c))
 
-mul-cost-in-pair : tie.Need-mul-cost-in-pair Inv-loop μ-loop
-mul-cost-in-pair c = omega (arith, place-most (turn (c .before)))
+mul-from : tie.Need-mul-from Inv-loop μ-loop
+mul-from c = omega (arith, place-most (turn (c .before)))
 
-add-cost-in-pair-2 : tie.Need-add-cost-in-pair-2 Inv-loop μ-loop
-add-cost-in-pair-2 c = omega (arith, place-most (turn (c .before)))
+add-from-2 : tie.Need-add-from-2 Inv-loop μ-loop
+add-from-2 c = omega (arith, place-most (turn (c .before)))
 
-mul-cost-in-pair-2 : tie.Need-mul-cost-in-pair-2 Inv-loop μ-loop
-mul-cost-in-pair-2 c = omega (arith, place-most (turn (c .before)))
+mul-from-2 : tie.Need-mul-from-2 Inv-loop μ-loop
+mul-from-2 c = omega (arith, place-most (turn (c .before)))
 
-add-cost-in-pair-3 : tie.Need-add-cost-in-pair-3 Inv-loop μ-loop
-add-cost-in-pair-3 c = omega (arith, place-most (turn (c .before)))
+add-from-3 : tie.Need-add-from-3 Inv-loop μ-loop
+add-from-3 c = omega (arith, place-most (turn (c .before)))
 
 cost-in-pair-requires : tie.Need-cost-in-pair-requires Inv-loop μ-loop
 cost-in-pair-requires c κs =
@@ -74,25 +76,36 @@ cost-in-pair-requires c κs =
     let q = value-range (domOf (a .stream .now) (a .place)) (a .v) (turn (c .before) .own) in
     (omega arith, omega arith, omega arith, omega arith, omega arith)
 
+-- the cost of the pair; it is no more than 16 bits hold
+pair-is : (c : tie.After-cost-in-pair Inv-loop μ-loop)
+    → let a = c .before .before .before .before .before .before .before .before .before .before .before .args in
+    let j = c .before .before .before .before .before .loop .j in
+    viewOf (instanceOf (a .stream .now)) (a .place) .pair j (getD (a .values) j 0) (a .v) ≡ c .cost-in-pair .result
+pair-is c = pair-here (turn (c .before .before)) (c .cost-in-pair .result) (c .cost-in-pair .ensures .0 ∙ rw (c .before .value-at .ensures .0, c .before .before .before .before .before .loop .inv .0, c .before .before .before .before .before .before .before .before .before .before .before .pre .1))
+
+small : (c : tie.After-cost Inv-loop μ-loop) → c .cost .given .0 .0 ≤ 65535
+small c = let p = c .before .before .cost-in-pair in most-is 65535 (c .cost .given .0 .0) (p .result) (c .cost .given .1) (p .ensures .1)
+
+returns : tie.Need-returns Inv-loop μ-loop
+returns c = let p = c .before .before in sym (running-stops (turn (p .before .before)) (pair-is p ∙ c .enum-told .given .1))
+
 add-sum : tie.Need-add-sum Inv-loop μ-loop
-add-sum c = let now = turn (c .before .before) .now in omega (arith, now .sum-most, now .inside)
+add-sum c = let now = turn (c .before .before .before .before .before) .now in omega (arith, small (c .before), now .sum-most, now .inside)
 
 mul-row : tie.Need-mul-row Inv-loop μ-loop
-mul-row c = omega (arith, row-after (turn (c .before .before)))
+mul-row c = omega (arith, row-after (turn (c .before .before .before .before .before)))
 
 add-row : tie.Need-add-row Inv-loop μ-loop
-add-row c = omega (arith, row-after (turn (c .before .before)))
+add-row c = omega (arith, row-after (turn (c .before .before .before .before .before)))
 
 loop-again : tie.Need-loop-again Inv-loop μ-loop
 loop-again c =
-    let z = c .before .before .before .before .before .before .before .before .before .before .before in
-    let l = c .before .before .before .before .before .loop in
-    let n = l .inv .0 in
-    let p = c .cost-in-pair in
-    (n, l .inv .1, running-next (turn (c .before .before)) (p .result) (p .ensures .1) (p .ensures .0 ∙ rw (c .before .value-at .ensures .0, n, z .pre .1)))
+    let z = c .before in
+    let l = c .before .before .before .before .before .before .before .before .loop in
+    (l .inv .0, l .inv .1, running-next (turn (c .before .before .before .before .before)) (z .cost .given .0 .0) (omega (arith, small z)) (pair-is (z .before .before) ∙ z .cost .given .1))
 
-returns : tie.Need-returns Inv-loop μ-loop
-returns c =
+returns-2 : tie.Need-returns-2 Inv-loop μ-loop
+returns-2 c =
     let l = c .before .loop in
     let a = c .before .before .before .before .before .before .before .args in
     let e : l .j ≡ a .place = omega (arith, l .inv .2 .inside) in
@@ -115,15 +128,18 @@ cost-before-spec =
     sub-between
     (λ c κs. search needs)
     (λ c. search needs)
-    mul-cost-in-pair
-    add-cost-in-pair-2
-    mul-cost-in-pair-2
-    add-cost-in-pair-3
+    mul-from
+    add-from-2
+    mul-from-2
+    add-from-3
     cost-in-pair-requires
+    (λ c. search needs)
+    (λ c. search needs)
+    returns
     add-sum
     mul-row
     add-row
     (λ c. search needs)
     (λ c. search needs)
     loop-again
-    returns)
+    returns-2)

@@ -1,4 +1,4 @@
--- `cost_in_pair` meets its contract: the place stays far below 2 ^ 64, and is the definition's.
+-- `cost_in_pair` meets its contract: the place stays far below 2 ^ 64, and is the definition's; `cost_of` says what is read there.
 -- Assumes nothing.
 use Prim.Native.Nat.{_≤_, _-_}
 use mathlib.Core.Path.{_≡_, sym, _∙_}
@@ -53,9 +53,10 @@ add-u16-at-2 c =
 
 returns-2 : tie.Need-returns-2
 returns-2 c =
-    let a = c .before .before .before .before .args in
-    let some : isValue (a .e) (a .u) ≡ true = sym (c .before .before .is-value .ensures) ∙ not-false _ (c .before .if1 .left) in
-    (rw some (c .u16-at .ensures .0), c .u16-at .ensures .1)
+    let a = c .before .before .before .before .before .args in
+    let some : isValue (a .e) (a .u) ≡ true = sym (c .before .before .before .is-value .ensures) ∙ not-false _ (c .before .before .if1 .left) in
+    let n = c .before .u16-at .ensures .0 in
+    (rw (some, ← n) (c .cost-of .ensures .0), c .cost-of .ensures .1)
 
 pub cost-in-pair-spec : {M : Type 1} → statement M
 cost-in-pair-spec =
@@ -69,5 +70,6 @@ cost-in-pair-spec =
     add-u16-at
     mul-u16-at-2
     add-u16-at-2
+    (λ c κs. search needs)
     (λ c κs. search needs)
     returns-2)

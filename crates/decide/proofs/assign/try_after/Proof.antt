@@ -1,14 +1,13 @@
 -- `try_after` meets its contract. The loop's invariant: what all values give is what those after v give, after the records written.
 -- Each turn is a law of proofs/Trying. Assumes nothing.
 use borrow.Author.Needs.{needs}
-use Prim.Native.Nat.{suc, _+_, _-_}
+use Prim.Native.Nat.{suc, _-_}
 use native.Mathlib.Omega.{arith}
 use mathlib.Core.Path.{_≡_, sym, _∙_}
 use mathlib.Core.Bool.{false}
 use lib.ListN.{getD}
 use Rattle.costs.specs.Instance.{viewFrom}
-use Rattle.costs.specs.Bounds.{h}
-use Rattle.rules.specs.Step.{tryAfter, write}
+use Rattle.rules.specs.Step.{tryAfter}
 use Rattle.decide.proofs.Lent.{n-lent, own-lent}
 use Rattle.decide.proofs.Trying.{Tried, counted-none, passed-over, written-last, written-on, none-left}
 use Rattle.decide.proofs.assign.try_after.Statement.{statement}
@@ -31,56 +30,53 @@ loop-holds c =
       whole = λ was. counted-none was (tryAfter (viewFrom (a .seat) (a .costs .now)) (getD (a .seat .sizes) (a .seat .own - 1) 0 - a .from) (a .from) false (a .u));
     }
 
-cast-put : tie.Need-cast-put Inv-loop μ-loop
-cast-put c = record { fits = omega arith }
-
 returns : tie.Need-returns Inv-loop μ-loop
 returns c =
     λ was.
-    let a = c .before .before .before .before .before .before .before .before .before .before .before .before .before .before .args in
-    let l = c .before .before .before .before .before .before .before .before .before .before .loop in
+    let x = c .before .before .before .before .before in
+    let l = x .before .before .before .before .loop in
+    let z = x .before .before .before .before .before .before .before .before in
+    let a = z .args in
     let w = viewFrom (a .seat) (a .costs .now) in
-    let o : suc (w .place) ≡ a .seat .own = own-lent (a .seat) (a .costs .now) (c .before .before .before .before .before .before .before .before .before .before .before .before .before .before .pre .0 .number .first) in
-    let seen : c .before .before .before .before .before .before .wide-u64 .result ≡ h w (l .v + 1) = c .before .before .before .before .before .before .wide-u64 .ensures .0 ∙ c .before .before .before .before .before .before .before .h .ensures in
-    let put : c .before .before .before .put .result ≡ write w (l .v + 1) (c .before .before .before .before .before .before .before .before .cost-at .result) (l .t) = c .before .before .before .put .ensures .2 w o in
+    let o : suc (w .place) ≡ a .seat .own = own-lent (a .seat) (a .costs .now) (z .pre .0 .number .first) in
+    let put = c .before .before .before .put in
     sym (l .inv .whole was
-    ∙ written-on w (getD (a .seat .sizes) (a .seat .own - 1) 0) (l .v) (l .records) was (l .improved) (l .t) (omega arith) (c .before .before .before .before .before .before .before .before .cost-at .result) (c .before .before .before .before .before .before .wide-u64 .result) (c .before .before .before .before .before .before .before .before .cost-at .ensures .0) seen
-    (omega arith) (λ z. c .before .if2 .taken (sym o ∙ z ∙ n-lent (a .seat) (a .costs .now))) (c .before .before .before .put .result) put
+    ∙ written-on w (getD (a .seat .sizes) (a .seat .own - 1) 0) (l .v) (l .records) was (l .improved) (l .t) (omega arith) (x .cost .given .0 .0) (sym (x .before .before .cost-below .ensures) ∙ x .cost .given .1)
+    (λ q. c .before .if1 .taken (sym o ∙ q ∙ n-lent (a .seat) (a .costs .now))) (put .result) (put .ensures .2 w o)
     ∙ rw (c .forward .ensures w o))
 
 loop-again : tie.Need-loop-again Inv-loop μ-loop
 loop-again c =
-    let a = c .before .before .before .before .before .before .before .before .before .before .before .before .before .before .args in
-    let l = c .before .before .before .before .before .before .before .before .before .before .loop in
+    let x = c .before .before .before .before .before in
+    let l = x .before .before .before .before .loop in
+    let z = x .before .before .before .before .before .before .before .before in
+    let a = z .args in
     let w = viewFrom (a .seat) (a .costs .now) in
-    let o : suc (w .place) ≡ a .seat .own = own-lent (a .seat) (a .costs .now) (c .before .before .before .before .before .before .before .before .before .before .before .before .before .before .pre .0 .number .first) in
-    let seen : c .before .before .before .before .before .before .wide-u64 .result ≡ h w (l .v + 1) = c .before .before .before .before .before .before .wide-u64 .ensures .0 ∙ c .before .before .before .before .before .before .before .h .ensures in
-    let put : c .before .before .before .put .result ≡ write w (l .v + 1) (c .before .before .before .before .before .before .before .before .cost-at .result) (l .t) = c .before .before .before .put .ensures .2 w o in
+    let o : suc (w .place) ≡ a .seat .own = own-lent (a .seat) (a .costs .now) (z .pre .0 .number .first) in
+    let put = c .before .before .before .put in
     record {
       small = l .inv .small;
       written = omega arith;
-      counter = rw (c .improve .ensures) (omega (arith, c .before .before .before .put .ensures .0));
-      threshold = rw (c .improve .ensures) (omega (arith, c .before .before .before .put .ensures .1));
+      counter = rw (c .improve .ensures) (omega (arith, put .ensures .0));
+      threshold = rw (c .improve .ensures) (omega (arith, put .ensures .1));
       whole = λ was. l .inv .whole was
-          ∙ written-last w (getD (a .seat .sizes) (a .seat .own - 1) 0) (l .v) (l .records) was (l .improved) (l .t) (omega arith) (c .before .before .before .before .before .before .before .before .cost-at .result) (c .before .before .before .before .before .before .wide-u64 .result) (c .before .before .before .before .before .before .before .before .cost-at .ensures .0) seen
-          (omega arith) (o ∙ c .before .if2 .left ∙ sym (n-lent (a .seat) (a .costs .now))) (c .before .before .before .put .result) put
+          ∙ written-last w (getD (a .seat .sizes) (a .seat .own - 1) 0) (l .v) (l .records) was (l .improved) (l .t) (omega arith) (x .cost .given .0 .0) (sym (x .before .before .cost-below .ensures) ∙ x .cost .given .1)
+          (o ∙ c .before .if1 .left ∙ sym (n-lent (a .seat) (a .costs .now))) (put .result) (put .ensures .2 w o)
           ∙ rw (c .improve .ensures);
     }
 
 loop-again-2 : tie.Need-loop-again-2 Inv-loop μ-loop
 loop-again-2 c =
-    let a = c .before .before .before .before .before .before .before .before .before .before .args in
-    let l = c .before .before .before .before .before .before .loop in
+    let a = c .before .before .before .before .before .before .before .before .args in
+    let l = c .before .before .before .before .loop in
     let w = viewFrom (a .seat) (a .costs .now) in
-    let o : suc (w .place) ≡ a .seat .own = own-lent (a .seat) (a .costs .now) (c .before .before .before .before .before .before .before .before .before .before .pre .0 .number .first) in
-    let seen : c .before .before .wide-u64 .result ≡ h w (l .v + 1) = c .before .before .wide-u64 .ensures .0 ∙ c .before .before .before .h .ensures in
     record {
       small = l .inv .small;
       written = omega arith;
       counter = omega arith;
       threshold = l .inv .threshold;
       whole = λ was. l .inv .whole was
-          ∙ passed-over w (getD (a .seat .sizes) (a .seat .own - 1) 0) (l .v) (l .records) was (l .improved) (l .t) (omega arith) (c .before .before .before .before .cost-at .result) (c .before .before .wide-u64 .result) (c .before .before .before .before .cost-at .ensures .0) seen (omega arith);
+          ∙ passed-over w (getD (a .seat .sizes) (a .seat .own - 1) 0) (l .v) (l .records) was (l .improved) (l .t) (omega arith) (sym (c .before .before .cost-below .ensures) ∙ c .enum-told .given .1);
     }
 
 returns-2 : tie.Need-returns-2 Inv-loop μ-loop
@@ -104,18 +100,15 @@ try-after-spec =
     loop-holds
     (λ c. search needs)
     (λ c κs. search needs)
-    (λ c κs. search needs)
-    (λ c κs. search needs)
     (λ c. search needs)
-    (λ c κs. search needs)
     (λ c. search needs)
-    cast-put
     (λ c κs. search needs)
     (λ c κs. search needs)
     returns
     (λ c κs. search needs)
     (λ c. search needs)
     loop-again
+    (λ c. search needs)
     (λ c. search needs)
     loop-again-2
     (λ c κs. search needs)

@@ -2,7 +2,7 @@
 -- Assumes nothing.
 use mathlib.Core.Path.{_≡_, sym, _∙_}
 use mathlib.Core.Bool.{true, _&&_}
-use borrow.Author.Tests.{not-true, not-false, le-leb, lt-leb}
+use borrow.Author.Tests.{not-true, not-false}
 use borrow.Author.Needs.{needs}
 use Rattle.message.specs.Message.{directionGood, carriedOf, filledTo, wellFormed}
 use Rattle.message.proofs.fields.well_formed.Statement.{statement}
@@ -37,14 +37,14 @@ returns-3 c = rw (directed (c .before .before .before .before .before .before .b
 
 returns-4 : tie.Need-returns-4
 unfolding wellFormed
-returns-4 c = rw (held (c .before .before .before), ← c .before .before .before .before .before .before .before .before .before .carried .ensures, lt-leb _ _ (c .if4 .taken))
+returns-4 c = rw (held (c .before .before), ← c .before .before .before .before .before .before .before .before .carried .ensures, sym (c .before .cost-fits .ensures) ∙ not-true _ (c .if4 .taken))
 
 returns-5 : tie.Need-returns-5
 unfolding wellFormed
-returns-5 c = rw (held (c .before .before .before .before .before), ← c .before .before .before .before .before .before .before .before .before .before .before .carried .ensures, le-leb _ _ (c .before .before .if4 .left)) (c .bound-fits .ensures)
+returns-5 c = rw (held (c .before .before .before .before), ← c .before .before .before .before .before .before .before .before .before .before .carried .ensures, sym (c .before .before .before .cost-fits .ensures) ∙ not-false _ (c .before .before .if4 .left)) (c .bound-fits .ensures)
 
 pub well-formed-spec : {M : Type 1} → statement M
 well-formed-spec =
     tie.close
     (tie.spec (λ c κs. search needs) returns (λ c κs. search needs) (λ c κs. search needs) returns-2 (λ c κs. search needs) returns-3
-    returns-4 (λ c κs. search needs) returns-5)
+    (λ c κs. search needs) returns-4 (λ c κs. search needs) returns-5)
