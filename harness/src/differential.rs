@@ -1,12 +1,15 @@
-//! Two implementations on the same inputs: what each call gave, counted by refusal, and the first difference.
+//! Two implementations on the same inputs: what each call gave, counted by refusal and by case of forbidden pairs, and the first difference.
 
 use crate::calls::{self, Call, Input, Outcome};
+use crate::forbidden::{self, Case};
 use crate::generate;
 use crate::random::Random;
 
 pub struct Report {
     /// How often each number came, 0 for accepted.
     pub counts: [u64; 18],
+    /// How often each case of forbidden pairs came that the call can come to.
+    pub cases: Vec<(Case, u64)>,
     pub difference: Option<Difference>,
 }
 
@@ -21,12 +24,15 @@ pub struct Difference {
 /// Stops at the first difference.
 pub fn compare(call: Call, rounds: u64, seed: u64, other: impl Fn(Input) -> Outcome) -> Report {
     let mut random = Random::new(seed);
-    let mut report = Report { counts: [0; 18], difference: None };
+    let cases = forbidden::cases(call).iter().map(|case| (*case, 0)).collect();
+    let mut report = Report { counts: [0; 18], cases, difference: None };
     for round in 0..rounds {
         let input = generate::input(&mut random, call);
         let reference = calls::reference(input.clone());
         let other = other(input.clone());
         report.counts[reference.refusal as usize] += 1;
+        let reached = forbidden::reached(call, &input, &reference);
+        report.cases.iter_mut().for_each(|(case, times)| *times += u64::from(reached.contains(case)));
         if reference != other {
             report.difference = Some(Difference { round, input, reference, other });
             break;
@@ -35,11 +41,14 @@ pub fn compare(call: Call, rounds: u64, seed: u64, other: impl Fn(Input) -> Outc
     report
 }
 
-/// `accepted 12, 5: 3, 13: 1`, the refusals in the order in which the call checks them.
-pub fn counted(counts: &[u64; 18], refusals: &[u8]) -> String {
-    let mut text = format!("accepted {}", counts[0]);
+/// `accepted 12, 5: 3, 13: 1, Pair: 4`, the refusals in the order in which the call checks them.
+pub fn counted(report: &Report, refusals: &[u8]) -> String {
+    let mut text = format!("accepted {}", report.counts[0]);
     for refusal in refusals {
-        text += &format!(", {refusal}: {}", counts[*refusal as usize]);
+        text += &format!(", {refusal}: {}", report.counts[*refusal as usize]);
+    }
+    for (case, times) in &report.cases {
+        text += &format!(", {case:?}: {times}");
     }
     text
 }

@@ -4,11 +4,11 @@
 
 use crate::calls::{Call, Input};
 use crate::random::Random;
-use crate::reference::costs::{self, View};
+use crate::reference::costs::{self, Cost, View};
 use crate::reference::message::{self, Message};
 use crate::reference::network::{self, Network};
 use crate::reference::unit::Unit;
-use crate::reference::{cost_limit, table, Places, MAX_TOTAL, NONE};
+use crate::reference::{cost_limit, table, Places, FORBIDDEN_PAIR, MAX_TOTAL, NONE};
 use crate::sample;
 
 // Tables
@@ -34,13 +34,69 @@ fn cost(random: &mut Random, style: u64) -> u16 {
     }
 }
 
+/// Which pairs of a table are forbidden; in half of the tables some are.
+#[derive(Clone, Copy)]
+enum Forbidding {
+    Nothing,
+    /// Each pair once in so many.
+    OnceIn(u64),
+    /// Equal values: with more units than values nothing is permitted, though values have an h.
+    Alike,
+    /// All pairs of two units: no value of the first has an h.
+    Units(usize, usize),
+    /// All pairs of a unit's value with another unit.
+    Value(usize, u8, usize),
+    All,
+}
+
+impl Forbidding {
+    fn any(random: &mut Random, sizes: &[u8]) -> Forbidding {
+        let n = sizes.len() as u64;
+        if n == 1 {
+            return Forbidding::Nothing;
+        }
+        let one = random.below(n) as usize;
+        let other = (one + random.between(1, n - 1) as usize) % n as usize;
+        match random.below(20) {
+            0..=9 => Forbidding::Nothing,
+            10 | 11 => Forbidding::OnceIn(20),
+            12 | 13 => Forbidding::OnceIn(5),
+            14 => Forbidding::OnceIn(2),
+            15 | 16 => Forbidding::Alike,
+            17 => Forbidding::Units(one.min(other), one.max(other)),
+            18 => Forbidding::Value(one, random.below(u64::from(sizes[one])) as u8, other),
+            _ => *random.pick(&[Forbidding::Units(0, one.max(1)), Forbidding::All]),
+        }
+    }
+
+    /// Whether the pair of unit i's value u and unit j's value v is; all count from 0.
+    fn holds(self, random: &mut Random, (i, u): (usize, u8), (j, v): (usize, u8)) -> bool {
+        match self {
+            Forbidding::Nothing => false,
+            Forbidding::OnceIn(times) => random.once_in(times),
+            Forbidding::Alike => u == v,
+            Forbidding::Units(one, other) => (i, j) == (one, other),
+            Forbidding::Value(one, value, other) => {
+                ((i, u), j) == ((one, value), other) || ((j, v), i) == ((one, value), other)
+            }
+            Forbidding::All => true,
+        }
+    }
+}
+
 /// A stream of these sizes.
 pub fn stream_of(random: &mut Random, sizes: &[u8]) -> Vec<u8> {
     let style = random.below(5);
-    let mut padded = [0; 16];
-    padded[..sizes.len()].copy_from_slice(sizes);
-    let count = costs::pairs_in_table(sizes.len(), &padded);
-    let costs: Vec<u16> = (0..count).map(|_| cost(random, style)).collect();
+    let forbidding = Forbidding::any(random, sizes);
+    let mut costs = Vec::new();
+    for i in 0..sizes.len() {
+        for j in i + 1..sizes.len() {
+            for (u, v) in (0..sizes[i]).flat_map(|u| (0..sizes[j]).map(move |v| (u, v))) {
+                let forbidden = forbidding.holds(random, (i, u), (j, v));
+                costs.push(if forbidden { FORBIDDEN_PAIR } else { cost(random, style) });
+            }
+        }
+    }
     sample::stream(sizes, &costs)
 }
 
@@ -67,11 +123,11 @@ pub fn damage_stream(random: &mut Random, stream: &mut Vec<u8>) {
     }
 }
 
-/// A cost above 60,000, where there is a cost.
+/// A cost above 60,000, where there is a cost; at times the forbidden one, which is no damage.
 fn damage_cost(random: &mut Random, costs: &mut [u8]) {
     if costs.len() >= 2 {
         let at = 2 * random.below(costs.len() as u64 / 2) as usize;
-        let above = *random.pick(&[60_001u16, 65_535, 61_000]);
+        let above = *random.pick(&[60_001, FORBIDDEN_PAIR - 1, FORBIDDEN_PAIR]);
         costs[at..at + 2].copy_from_slice(&above.to_le_bytes());
     }
 }
@@ -217,7 +273,7 @@ pub fn message(random: &mut Random, n: u8, sizes: &Places) -> (u8, Message) {
         }
         message::ESTIMATE => {
             m.stamp = filled(random, sizes, receiver as usize);
-            m.cost = up_to(random, MAX_TOTAL);
+            m.cost = if random.once_in(3) { NONE } else { up_to(random, MAX_TOTAL) };
         }
         _ => {}
     }
@@ -239,7 +295,7 @@ pub fn damage_message(random: &mut Random, kind: &mut u8, m: &mut Message) {
         3 => m.stamp[place] = *random.pick(&[0, 1, 16, 17, 255]),
         4 => m.values[place] = *random.pick(&[0, 1, 16, 17, 255]),
         5 => m.best[place] = *random.pick(&[0, 1, 16, 17, 255]),
-        6 => m.cost = *random.pick(&[0, 1, 60_000, 60_001, 180_001, 7_200_000, 7_200_001, u32::MAX]),
+        6 => m.cost = *random.pick(&[0, 1, 60_000, 60_001, 180_001, 7_200_000, 7_200_001, NONE - 1, NONE]),
         7 => m.bound = *random.pick(&[0, 1, 7_200_000, 7_200_001, NONE - 1, NONE]),
         _ => std::mem::swap(&mut m.sender, &mut m.receiver),
     }
@@ -276,13 +332,23 @@ fn reseal(packet: &mut [u8]) {
 
 // Units
 
-/// A unit in range, with or without a CPA out.
+/// What own value v costs with the units before, forbidden pairs left out; and whether there is one.
+fn permitted_part(view: &View, values: &Places, v: u8) -> (u32, bool) {
+    let pairs = (1..view.own).map(|j| view.pair(j, values[j - 1] as usize, v as usize));
+    pairs.fold((0, false), |(sum, forbidden), pair| match pair {
+        Cost::Of(cost) => (sum + cost, forbidden),
+        Cost::Forbidden => (sum, true),
+    })
+}
+
+/// A unit in range, with or without a CPA out; at times its own value is forbidden with an earlier one, which alone puts it out of range.
 pub fn unit(random: &mut Random, view: &View) -> Unit {
     let mut unit = Unit::default();
     (unit.bound, unit.best) = bound(random, view.n as u8, &view.sizes);
     unit.stopped = u8::from(random.once_in(12));
+    let thresholds = *random.pick(&[2, 18]);
     for k in 0..16 {
-        unit.threshold[k] = random.below(18) as u8;
+        unit.threshold[k] = random.below(thresholds) as u8;
         if random.once_in(3) {
             unit.estimates[k] = up_to(random, MAX_TOTAL);
         }
@@ -293,11 +359,18 @@ pub fn unit(random: &mut Random, view: &View) -> Unit {
     }
     let own = view.own;
     unit.values = filled(random, &view.sizes, own);
+    let mut paid = permitted_part(view, &unit.values, unit.values[own - 1]);
+    for _ in 0..random.below(20) {
+        if paid.1 {
+            unit.values = filled(random, &view.sizes, own);
+            paid = permitted_part(view, &unit.values, unit.values[own - 1]);
+        }
+    }
     unit.stamp = filled(random, &view.sizes, own);
     let value = unit.values[own - 1];
     unit.stamp[own - 1] = random.between(1, u64::from(value)) as u8;
     unit.counter = unit.stamp[own - 1];
-    unit.cost = up_to(random, cost_limit(own - 1)) + view.with_first(&unit.values, own - 1, value as usize);
+    unit.cost = up_to(random, cost_limit(own - 1)) + paid.0;
     for k in 0..own {
         unit.threshold[k] = unit.stamp[k];
     }
@@ -357,6 +430,9 @@ fn message_for(random: &mut Random, view: &View, unit: &Unit) -> (u8, Message) {
     if random.once_in(8) && kind == message::CPA {
         m.cost = up_to(random, cost_limit(1));
     }
+    if unit.bound == NONE && kind == message::CPA && random.once_in(2) {
+        (m.bound, m.best) = (NONE, [0; 16]);
+    }
     (kind, m)
 }
 
@@ -396,7 +472,7 @@ fn damage_network(random: &mut Random, network: &mut Network, pool: &mut Vec<u8>
     let (n, sizes) = table::head(stream);
     let n = n as usize;
     let at = 64 * cell.min(1_023) as usize;
-    match random.below(11) {
+    match random.below(14) {
         0 | 1 => {
             let own = random.below(n as u64) as usize;
             damage_unit(random, &mut network.units[own]);
@@ -425,6 +501,12 @@ fn damage_network(random: &mut Random, network: &mut Network, pool: &mut Vec<u8>
             damage_packet(random, &mut packet);
             packet.resize(64, 1);
             pool[at..at + 64].copy_from_slice(&packet);
+        }
+        9..=11 => {
+            // a state of another run
+            let own = random.between(1, n as u64) as usize;
+            let costs = costs::of_unit(stream, own);
+            network.units[own - 1] = unit(random, &View::new(own, n, &sizes, &costs));
         }
         _ => {
             let mut packet = packet(random, n as u8, &sizes);
@@ -481,7 +563,7 @@ fn damage_head(random: &mut Random, n: &mut u8, sizes: &mut Places) {
     }
 }
 
-/// Rarely: too few or too many costs, or one above 60,000.
+/// Rarely: too few or too many costs, or one above 60,000, the forbidden one among them.
 fn damage_costs(random: &mut Random, costs: &mut Vec<u8>) {
     match random.below(40) {
         0 => costs.truncate(random.below(costs.len() as u64 + 1) as usize),
@@ -540,6 +622,10 @@ fn step(random: &mut Random) -> Input {
 fn deliver(random: &mut Random) -> Input {
     let mut stream = stream(random);
     let (mut network, mut pool) = network(random, &stream);
+    while network.units[0].has_stopped() && network.deliveries == 0 && !random.once_in(4) {
+        stream = self::stream(random);
+        (network, pool) = self::network(random, &stream);
+    }
     let mut cell = random.below(network.count.max(1));
     for _ in 0..random.below(3) {
         damage_network(random, &mut network, &mut pool, &stream, cell);
@@ -550,7 +636,7 @@ fn deliver(random: &mut Random) -> Input {
     if random.once_in(10) {
         cell = *random.pick(&[network.count, 1_023, 1_024, u64::MAX, 1 << 32, (1 << 32) + 1]);
     }
-    if random.once_in(12) {
+    if random.once_in(8) {
         damage_stream(random, &mut stream);
     }
     Input::Deliver { network: Box::new(network), stream, pool, cell }
@@ -570,7 +656,7 @@ fn settle(random: &mut Random) -> Input {
 fn exhaustive(random: &mut Random) -> Input {
     let few = |sizes: &[u8]| sizes.iter().map(|d| u64::from(*d)).product::<u64>() <= 5_000;
     let mut shape = sizes(random);
-    while !few(&shape) && !random.once_in(4) {
+    while !few(&shape) && !random.once_in(2) {
         shape = sizes(random);
     }
     if !few(&shape) {

@@ -1,9 +1,10 @@
-//! An independent implementation of documents 01 and 02 (job 1) and the tools that compare the Rattle code with it.
+//! An independent implementation of documents 01 and 02 (jobs 1 and 3) and the tools that compare the Rattle code with it.
 //!
 //! `reference` is written from the documents alone. Nothing here is proved: it is the other opinion.
 
 pub mod calls;
 pub mod differential;
+pub mod forbidden;
 pub mod generate;
 #[cfg(feature = "linked")]
 pub mod linked;

@@ -2,7 +2,7 @@
 //! synchronous branch and bound, with messages and non-concurrent constraint checks counted.
 
 use crate::random::Random;
-use crate::reference::costs::{self, View};
+use crate::reference::costs::{self, Cost, View};
 use crate::reference::message::Message;
 use crate::reference::unit::{self, Decision, Unit};
 use crate::reference::{table, NONE};
@@ -154,7 +154,8 @@ impl Synchronous<'_> {
     fn extend_at(&mut self, own: usize, cost: u32) {
         let n = self.views.len();
         for value in 1..=self.views[own - 1].size(own) {
-            let total = cost + self.added(own, value);
+            let Cost::Of(added) = self.added(own, value) else { continue };
+            let total = cost + added;
             if total >= self.least || self.checks > self.most_checks {
                 continue;
             }
@@ -168,7 +169,7 @@ impl Synchronous<'_> {
         }
     }
 
-    fn added(&mut self, own: usize, value: usize) -> u32 {
+    fn added(&mut self, own: usize, value: usize) -> Cost {
         let earlier = &self.earlier[own - 1];
         self.checks += earlier.len() as u64;
         earlier.iter().map(|j| self.views[own - 1].pair(*j, self.values[*j - 1], value)).sum()

@@ -1,6 +1,6 @@
 //! Tables for tests and programs, and what the two programs print of them.
 
-use crate::reference::{network, search, table};
+use crate::reference::{network, search, table, NONE};
 
 /// A stream out of its sizes and its costs in the stream's order.
 pub fn stream(sizes: &[u8], costs: &[u16]) -> Vec<u8> {
@@ -25,7 +25,9 @@ pub fn read(file: &[u8]) -> Result<Vec<u8>, u8> {
     Ok(buffer)
 }
 
+/// 02's job 3: "The listing then has the word none and values 0".
 fn report(total: u32, values: &[u8]) -> String {
+    let total = if total == NONE { "none".to_string() } else { total.to_string() };
     let mut text = format!("total {total}\n");
     for (k, value) in values.iter().enumerate() {
         text += &format!("unit {} value {value}\n", k + 1);

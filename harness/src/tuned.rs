@@ -9,40 +9,52 @@ use crate::calls::{self, Input, Outcome};
 use crate::reference::message::{CPA, ESTIMATE, REQUEST, SIZE, SOLUTION, STOP};
 use crate::reference::network::{Network, CELLS, POOL};
 use crate::reference::unit::{self, Unit, OUT};
-use crate::reference::{check_sizes, cost_limit, Places, Refusal, MAX_COST, MAX_TOTAL, NONE};
+use crate::reference::{check_sizes, cost_limit, Places, Refusal, FORBIDDEN_PAIR, MAX_COST, MAX_TOTAL, NONE};
 use std::cmp::Ordering;
 
 // Costs
 
+/// A forbidden pair in sums: above any cost, and one for each other unit fits 32 bits. A sum from here on is forbidden.
+const FORBIDDEN: u32 = 1 << 24;
+
+/// A stored cost in sums.
+fn wide(cost: u16) -> u32 {
+    if cost == FORBIDDEN_PAIR {
+        FORBIDDEN
+    } else {
+        u32::from(cost)
+    }
+}
+
 /// Costs as they are lent, or as numbers.
 trait Costs: Copy {
-    fn at(&self, place: usize) -> u32;
+    fn at(&self, place: usize) -> u16;
     /// Adds the costs from a place on to each of the sums.
     fn add_row(&self, place: usize, sums: &mut [u32]);
 }
 
 impl Costs for &[u8] {
-    fn at(&self, place: usize) -> u32 {
-        u32::from(u16::from_le_bytes([self[2 * place], self[2 * place + 1]]))
+    fn at(&self, place: usize) -> u16 {
+        u16::from_le_bytes([self[2 * place], self[2 * place + 1]])
     }
 
     fn add_row(&self, place: usize, sums: &mut [u32]) {
         let row = &self[2 * place..2 * (place + sums.len())];
         for (sum, cost) in sums.iter_mut().zip(row.chunks_exact(2)) {
-            *sum += u32::from(u16::from_le_bytes([cost[0], cost[1]]));
+            *sum += wide(u16::from_le_bytes([cost[0], cost[1]]));
         }
     }
 }
 
 impl Costs for &[u16] {
-    fn at(&self, place: usize) -> u32 {
-        u32::from(self[place])
+    fn at(&self, place: usize) -> u16 {
+        self[place]
     }
 
     fn add_row(&self, place: usize, sums: &mut [u32]) {
         let row = &self[place..place + sums.len()];
         for (sum, cost) in sums.iter_mut().zip(row) {
-            *sum += u32::from(*cost);
+            *sum += wide(*cost);
         }
     }
 }
@@ -70,7 +82,7 @@ impl<C: Costs> Seat<C> {
 
     /// What own value v costs with the values of the units before.
     fn paid(&self, values: &[u8], v: u8) -> u32 {
-        (0..self.own).map(|j| self.costs.at(self.earlier(j, values[j]) + v as usize - 1)).sum()
+        (0..self.own).map(|j| wide(self.costs.at(self.earlier(j, values[j]) + v as usize - 1))).sum()
     }
 
     /// The same with the first `count` units, for every own value.
@@ -90,17 +102,23 @@ impl<C: Costs> Seat<C> {
         }
     }
 
+    /// The forbidden cost is the top of 16 bits: it is the least of a row only where all are forbidden.
     fn h_now(&self, v: usize) -> u32 {
         let least = |j: usize| {
             let row = self.starts[j] as usize + (v - 1) * self.size(j);
-            (row..row + self.size(j)).map(|place| self.costs.at(place)).min().unwrap_or(0)
+            wide((row..row + self.size(j)).map(|place| self.costs.at(place)).min().unwrap_or(FORBIDDEN_PAIR))
         };
         (self.own + 1..self.n).map(least).sum()
     }
 
     fn estimate(&self, values: &[u8], count: usize) -> u32 {
         let sums = self.sums(values, count);
-        (1..=self.size(self.own)).map(|v| sums[v - 1] + self.h(v)).min().unwrap_or(0)
+        let least = (1..=self.size(self.own)).map(|v| sums[v - 1] + self.h(v)).min().unwrap_or(FORBIDDEN);
+        if least < FORBIDDEN {
+            least
+        } else {
+            NONE
+        }
     }
 }
 
@@ -131,10 +149,11 @@ fn lent_seat<'a>(own: usize, n: usize, sizes: &Places, costs: &'a [u8]) -> (Seat
 
 // Checks
 
-/// No cost is above 60,000.
+/// No cost is above 60,000 but the forbidden one, which is 0 when one is added.
 fn costs_good(costs: &[u8]) -> bool {
-    let most = costs.chunks_exact(2).fold(0, |most: u16, cost| most.max(u16::from_le_bytes([cost[0], cost[1]])));
-    u32::from(most) <= MAX_COST
+    let one_more = |cost: &[u8]| u16::from_le_bytes([cost[0], cost[1]]).wrapping_add(1);
+    let most = costs.chunks_exact(2).fold(0, |most: u16, cost| most.max(one_more(cost)));
+    u32::from(most) <= MAX_COST + 1
 }
 
 /// n, the sizes and where pairs begin, of a stream. Refusals 5, 6, 7.
@@ -197,6 +216,7 @@ fn in_range<C: Costs>(seat: &Seat<C>, unit: &Unit) -> bool {
         && unit.counter == unit.stamp[own]
         && unit.counter <= value
         && unit.threshold[..=own] >= unit.stamp[..=own];
+    // a forbidden own value costs more than any CPA
     let before = if out { unit.cost.checked_sub(seat.paid(&unit.values, value)) } else { None };
     before.is_some_and(|cost| cost <= cost_limit(own))
 }
@@ -237,7 +257,7 @@ fn check_packet(n: usize, sizes: &Places, own: u8, bytes: &[u8]) -> Result<(), R
             REQUEST => sender < receiver && prefix(sender) && unsolved(),
             ESTIMATE => {
                 let stamped = filled(stamp, receiver as usize, sizes) && zero(values);
-                sender > receiver && stamped && cost <= MAX_TOTAL && unsolved()
+                sender > receiver && stamped && (cost <= MAX_TOTAL || cost == NONE) && unsolved()
             }
             SOLUTION => {
                 let ends = sender == n as u8 && receiver != n as u8;
@@ -336,10 +356,13 @@ fn on_estimate<C: Costs>(seat: &Seat<C>, unit: &mut Unit, p: &[u8; SIZE]) -> Res
     if order == Ordering::Greater || unit.values[own] == 0 || *stamp != unit.stamp[..=own] {
         return Err(11);
     }
-    unit.estimates[p[1] as usize - 1] = number(p, 36);
-    let estimated: u32 = unit.estimates[own + 1..seat.n].iter().sum();
-    if unit.cost + estimated < unit.bound {
-        return Ok(QUIET);
+    let estimate = number(p, 36);
+    if estimate != NONE {
+        unit.estimates[p[1] as usize - 1] = estimate;
+        let estimated: u32 = unit.estimates[own + 1..seat.n].iter().sum();
+        if unit.cost + estimated < unit.bound {
+            return Ok(QUIET);
+        }
     }
     let bare = without_own(seat, unit);
     Ok(assign(seat, unit, bare))
@@ -377,7 +400,8 @@ fn assign<C: Costs>(seat: &Seat<C>, unit: &mut Unit, bare: u32) -> Done {
     while v < size {
         v += 1;
         let cost = bare + sums[v - 1];
-        if cost >= unit.bound || cost + seat.h(v) >= unit.bound {
+        let limit = unit.bound.min(FORBIDDEN);
+        if cost >= limit || cost + seat.h(v) >= limit {
             continue;
         }
         unit.counter += 1;

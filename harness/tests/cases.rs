@@ -1,6 +1,6 @@
 //! Document 01's cases 1 to 10 and the listing of T, on the reference implementation.
 
-use harness::reference::costs::{self, View};
+use harness::reference::costs::{self, Cost, View};
 use harness::reference::message::{self, Message};
 use harness::reference::{checksum, network, search, table, unit};
 use harness::sample;
@@ -31,7 +31,7 @@ fn case_1_stream_and_check_of_t() {
 fn case_2_h_of_unit_1() {
     let costs = costs::of_unit(&sample::t(), 1);
     let view = view_of_t(&costs, 1);
-    assert_eq!([view.h(1), view.h(2)], [3, 2]);
+    assert_eq!([view.h(1), view.h(2)], [Cost::Of(3), Cost::Of(2)]);
 }
 
 #[test]
@@ -57,9 +57,9 @@ fn case_5_estimates() {
     let view = view_of_t(&costs, 2);
     let mut values = [0; 16];
     values[0] = 1;
-    assert_eq!(view.estimate(&values, 1), 3);
+    assert_eq!(view.estimate(&values, 1), Cost::Of(3));
     values[0] = 2;
-    assert_eq!(view.estimate(&values, 1), 2);
+    assert_eq!(view.estimate(&values, 1), Cost::Of(2));
 }
 
 /// The cell of the first waiting message of this kind for this unit.

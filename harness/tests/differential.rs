@@ -2,6 +2,7 @@
 
 use harness::calls::{self, Call, Input, Outcome, CALLS};
 use harness::differential::{compare, describe};
+use harness::reference::{message, NONE};
 
 #[test]
 fn equal_implementations_agree() {
@@ -89,4 +90,47 @@ fn room_looked_at_before_the_readings_is_found() {
     };
     let found = compare(Call::Readings, 20_000, 1, room_first).difference.expect("a difference");
     assert!(describe(&found).contains("refusal 17 by the reference, 13 by the other"));
+}
+
+/// Costs with 60,000 for every forbidden pair.
+fn dear(costs: &mut [u8]) {
+    for cost in costs.chunks_exact_mut(2).filter(|cost| **cost == [255, 255]) {
+        cost.copy_from_slice(&60_000u16.to_le_bytes());
+    }
+}
+
+#[test]
+fn a_forbidden_pair_taken_as_a_dear_one_is_found() {
+    let in_search = |input: Input| {
+        let Input::Search { mut stream } = input else { unreachable!("a search") };
+        let head = 1 + stream.first().map_or(0, |n| *n as usize);
+        dear(stream.get_mut(head..).unwrap_or_default());
+        calls::reference(Input::Search { stream })
+    };
+    let found = compare(Call::Search, 4_000, 1, in_search).difference.expect("a difference");
+    assert!(describe(&found).contains("numbers"));
+    let in_make = |input: Input| {
+        let Input::Make { own, n, sizes, mut costs, out } = input else { unreachable!("a making") };
+        dear(&mut costs);
+        calls::reference(Input::Make { own, n, sizes, costs, out })
+    };
+    let found = compare(Call::Make, 20_000, 1, in_make).difference.expect("a difference");
+    assert!(describe(&found).contains("unit 1"));
+}
+
+/// As a sum of 32 bits would, which an estimate of *none* takes round to the start.
+#[test]
+fn an_estimate_of_none_that_is_kept_is_found() {
+    let keeps = |input: Input| {
+        let Input::Step { unit, packet, out, .. } = &input else { unreachable!("a step") };
+        let (unit, packet, out) = (*unit, packet.clone(), out.clone());
+        let mut outcome = calls::reference(input);
+        let none = packet.first() == Some(&message::ESTIMATE) && packet[36..40] == NONE.to_le_bytes();
+        if outcome.refusal == 0 && none && outcome.units[0] != unit {
+            outcome = Outcome { numbers: vec![0, 0], units: vec![unit], lent: out, ..Outcome::default() };
+        }
+        outcome
+    };
+    let found = compare(Call::Step, 20_000, 1, keeps).difference.expect("a difference");
+    assert!(describe(&found).contains("unit 1"));
 }

@@ -1,6 +1,8 @@
-//! The generators reach every refusal of every call, and a refused call of the reference leaves what it was lent.
+//! The generators reach every refusal and every case of forbidden pairs of every call, and a refused call of the reference leaves what it was
+//! lent.
 
 use harness::calls::{self, Call, Input, CALLS};
+use harness::forbidden;
 use harness::generate;
 use harness::random::Random;
 
@@ -33,11 +35,13 @@ fn every_refusal_is_reached_and_leaves_what_was_lent() {
     for (call, name, refusals) in CALLS {
         let mut random = Random::new(1);
         let mut reached = [0u32; 18];
+        let mut cases = Vec::new();
         for _ in 0..inputs(call) {
             let input = generate::input(&mut random, call);
             let before = input.clone();
             let outcome = calls::reference(input);
             reached[outcome.refusal as usize] += 1;
+            cases.extend(forbidden::reached(call, &before, &outcome));
             if outcome.refusal == 0 {
                 continue;
             }
@@ -56,6 +60,11 @@ fn every_refusal_is_reached_and_leaves_what_was_lent() {
             let times = reached[refusal as usize];
             let can = refusals.contains(&refusal);
             assert!(can == (times > 0), "{name}: refusal {refusal} came {times} times");
+        }
+        for case in forbidden::cases(call) {
+            let times = cases.iter().filter(|reached| *reached == case).count();
+            println!("  {case:?} {times} times");
+            assert!(times > 0, "{name} never came to {case:?}");
         }
     }
 }

@@ -1,9 +1,10 @@
-//! Runs of the reference in any order of delivery keep what 01 demands of a run: the least total at the stop, no beginning written
-//! twice, no more deliveries than allowed, a message waiting until the stop, and no refusal.
+//! Runs of the reference in any order of delivery keep what 01 demands of a run: the least total at the stop (over permitted assignments,
+//! *none* if there is none), no beginning written twice, no more deliveries than allowed, a message waiting until the stop, and no refusal.
 
 use harness::random::Random;
+use harness::reference::costs::{self, Cost};
 use harness::reference::network::{self, Network};
-use harness::reference::{costs, search};
+use harness::reference::{search, NONE};
 use harness::{generate, sample};
 use std::collections::HashSet;
 
@@ -36,7 +37,7 @@ fn held_out(shed: &Network, n: usize) -> impl Iterator<Item = (usize, [u8; 16])>
 #[test]
 fn runs_in_any_order() {
     let mut random = Random::new(11);
-    let mut deliveries = 0;
+    let (mut deliveries, mut none) = (0, 0);
     for round in 0..1_000 {
         let n = random.between(1, 6);
         let sizes: Vec<u8> = (0..n).map(|_| random.between(1, 4) as u8).collect();
@@ -58,12 +59,19 @@ fn runs_in_any_order() {
         }
         let (least, _) = search::exhaustive(&stream).unwrap();
         let first = &shed.units[0];
-        assert_eq!((first.bound, costs::total(&stream, &first.best)), (least, least));
+        assert_eq!(first.bound, least);
+        if least == NONE {
+            assert_eq!(first.best, [0; 16]);
+            none += u32::from(shed.deliveries > 0);
+        } else {
+            assert_eq!(costs::total(&stream, &first.best), Cost::Of(least));
+        }
         assert!(shed.deliveries <= most_deliveries(&stream));
         assert_eq!(network::deliver(&mut shed, &stream, &mut pool, 0), Err(12));
         deliveries += shed.deliveries;
     }
     assert!(deliveries > 50_000, "{deliveries} deliveries are few");
+    assert!(none > 50, "{none} runs that search and find nothing permitted are few");
 }
 
 /// Case 9 calls its 10 deliveries "the most allowed".

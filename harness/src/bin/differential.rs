@@ -2,7 +2,8 @@
 //!
 //! differential [ROUNDS] [SEED] [WORD]: rounds for each call (20,000 and 1 unless named; a fifth for the calls on a whole network),
 //! of the calls alone whose name has the word, if there is one.
-//! Prints for each call how often it was accepted and how often each refusal came; ends with 1 at a difference or a refusal never reached.
+//! Prints for each call how often it was accepted and how often each refusal and each case of forbidden pairs came; ends with 1 at a
+//! difference or at one of these never reached.
 
 use harness::calls::{Call, CALLS};
 use harness::differential;
@@ -23,7 +24,7 @@ fn main() {
             _ => rounds,
         };
         let report = differential::compare(call, rounds, seed, linked::linked);
-        println!("{name}: {}", differential::counted(&report.counts, refusals));
+        println!("{name}: {}", differential::counted(&report, refusals));
         compared += report.counts.iter().sum::<u64>();
         if let Some(difference) = &report.difference {
             print!("  differs in {}", differential::describe(difference));
@@ -32,6 +33,10 @@ fn main() {
         }
         for refusal in refusals.iter().filter(|refusal| report.counts[**refusal as usize] == 0) {
             println!("  refusal {refusal} was never reached");
+            faults += 1;
+        }
+        for (case, _) in report.cases.iter().filter(|(_, times)| *times == 0) {
+            println!("  {case:?} was never reached");
             faults += 1;
         }
     }

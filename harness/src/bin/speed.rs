@@ -182,7 +182,7 @@ impl Row {
     }
 }
 
-/// The sample sheds: name, stream, and whether its run is short enough to be done whole.
+/// The sample sheds, but those that stop when made: name, stream, and whether its run is short enough to be done whole.
 fn sheds() -> Vec<(String, Vec<u8>, bool)> {
     let folder = Path::new(env!("CARGO_MANIFEST_DIR")).join("vectors");
     let mut files: Vec<_> = std::fs::read_dir(folder).expect("vectors").map(|entry| entry.unwrap().path()).collect();
@@ -193,7 +193,7 @@ fn sheds() -> Vec<(String, Vec<u8>, bool)> {
         let name = path.file_stem().unwrap().to_string_lossy().into_owned();
         (name, stream, path.with_extension("listing").exists())
     };
-    files.iter().map(shed).filter(|(_, stream, _)| stream[0] > 1).collect()
+    files.iter().map(shed).filter(|(_, stream, _)| !steps(stream, 1).is_empty()).collect()
 }
 
 /// The first steps of a run, cell 0 each time.

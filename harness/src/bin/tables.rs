@@ -1,19 +1,22 @@
-//! `tables FOLDER COUNT` writes random tables there, each as K.table (01's stored form) and K.wcsp (for toulbar2). The same ones every time.
+//! `tables FOLDER COUNT` writes random tables there, each as K.table (01's stored form) and K.wcsp (for toulbar2). The same ones every time;
+//! about half of them have forbidden pairs, and some of these no permitted assignment.
 
 use harness::generate;
 use harness::random::Random;
-use harness::reference::table;
+use harness::reference::{table, FORBIDDEN_PAIR, MAX_TOTAL};
 use std::fmt::Write;
 use std::path::Path;
 use std::process::exit;
 
 /// The weighted CSP format: name, variables, largest domain, functions, upper bound; sizes; then each function's costs above 0.
+/// No solution costs the upper bound or more, so a pair of that cost is forbidden.
 fn wcsp(name: &str, stream: &[u8]) -> String {
     let n = stream[0] as usize;
     let d = |k: usize| stream[k] as usize;
     let largest = (1..=n).map(d).max().unwrap_or(0);
     let sizes: Vec<String> = (1..=n).map(|k| d(k).to_string()).collect();
-    let mut text = format!("{name} {n} {largest} {} 7200001\n{}\n", n * (n - 1) / 2, sizes.join(" "));
+    let top = MAX_TOTAL + 1;
+    let mut text = format!("{name} {n} {largest} {} {top}\n{}\n", n * (n - 1) / 2, sizes.join(" "));
     let mut costs = stream[1 + n..].chunks(2).map(|c| u16::from_le_bytes([c[0], c[1]]));
     for i in 1..=n {
         for j in i + 1..=n {
@@ -22,6 +25,7 @@ fn wcsp(name: &str, stream: &[u8]) -> String {
                 for v in 0..d(j) {
                     match costs.next() {
                         Some(0) | None => {}
+                        Some(FORBIDDEN_PAIR) => lines.push(format!("{u} {v} {top}\n")),
                         Some(cost) => lines.push(format!("{u} {v} {cost}\n")),
                     }
                 }

@@ -1,7 +1,58 @@
 //! Pair costs, as a whole table and as one unit sees them; units and values count from 1.
 
-use super::{table, Places, Refusal};
+use super::{table, Places, Refusal, FORBIDDEN_PAIR, NONE};
 use std::cell::Cell;
+use std::iter::Sum;
+use std::ops::Add;
+
+/// 02's job 3: "Looking up a cost now gives a number or "barred"". Any number is less than forbidden.
+#[derive(Clone, Copy, PartialEq, Eq, PartialOrd, Ord, Debug)]
+pub enum Cost {
+    Of(u32),
+    Forbidden,
+}
+
+impl Cost {
+    /// Of a pair, as tables hold it.
+    pub fn of_pair(stored: u16) -> Cost {
+        if stored == FORBIDDEN_PAIR {
+            Cost::Forbidden
+        } else {
+            Cost::Of(stored.into())
+        }
+    }
+
+    /// The least of those that are not forbidden; none left: forbidden.
+    pub fn least(costs: impl Iterator<Item = Cost>) -> Cost {
+        costs.min().unwrap_or(Cost::Forbidden)
+    }
+
+    /// The number, *none* for forbidden.
+    pub fn or_none(self) -> u32 {
+        match self {
+            Cost::Of(number) => number,
+            Cost::Forbidden => NONE,
+        }
+    }
+}
+
+impl Add for Cost {
+    type Output = Cost;
+
+    /// Forbidden as soon as a part is.
+    fn add(self, other: Cost) -> Cost {
+        match (self, other) {
+            (Cost::Of(left), Cost::Of(right)) => Cost::Of(left + right),
+            _ => Cost::Forbidden,
+        }
+    }
+}
+
+impl Sum for Cost {
+    fn sum<I: Iterator<Item = Cost>>(costs: I) -> Cost {
+        costs.fold(Cost::Of(0), Cost::add)
+    }
+}
 
 /// How many costs the whole table has.
 pub fn pairs_in_table(n: usize, sizes: &Places) -> usize {
@@ -58,16 +109,16 @@ pub fn gather(stream: &[u8], own: u8, out: &mut [u8]) -> Result<usize, Refusal> 
     Ok(costs.len())
 }
 
-/// The cost of a full assignment: the sum over all pairs.
-pub fn total(stream: &[u8], assignment: &[u8]) -> u32 {
+/// The cost of a full assignment: the sum over all pairs, forbidden where one is.
+pub fn total(stream: &[u8], assignment: &[u8]) -> Cost {
     let n = stream[0] as usize;
     let d = |k: usize| stream[k] as usize;
-    let mut sum = 0;
+    let mut sum = Cost::Of(0);
     let mut at = 1 + n;
     for i in 1..=n {
         for j in i + 1..=n {
             let place = at + 2 * ((assignment[i - 1] as usize - 1) * d(j) + assignment[j - 1] as usize - 1);
-            sum += u32::from(u16::from_le_bytes([stream[place], stream[place + 1]]));
+            sum = sum + Cost::of_pair(u16::from_le_bytes([stream[place], stream[place + 1]]));
             at += 2 * d(i) * d(j);
         }
     }
@@ -83,7 +134,7 @@ pub struct View<'a> {
     /// Where the costs with each other unit begin.
     starts: [usize; 16],
     /// h of each own value.
-    h: [u32; 16],
+    h: [Cost; 16],
     /// How often a cost with each other unit was looked up, those for h left out. For the experiment only.
     pub checks: [Cell<u64>; 16],
 }
@@ -91,7 +142,8 @@ pub struct View<'a> {
 impl<'a> View<'a> {
     /// All of it has been checked: n, sizes, own number and the number of costs.
     pub fn new(own: usize, n: usize, sizes: &Places, costs: &'a [u8]) -> View<'a> {
-        let mut view = View { own, n, sizes: *sizes, costs, starts: [0; 16], h: [0; 16], checks: Default::default() };
+        let h = [Cost::Of(0); 16];
+        let mut view = View { own, n, sizes: *sizes, costs, starts: [0; 16], h, checks: Default::default() };
         let mut at = 0;
         for j in (1..=n).filter(|j| *j != own) {
             view.starts[j - 1] = at;
@@ -108,34 +160,34 @@ impl<'a> View<'a> {
     }
 
     /// The cost of own value v with unit j's value u.
-    pub fn pair(&self, j: usize, u: usize, v: usize) -> u32 {
+    pub fn pair(&self, j: usize, u: usize, v: usize) -> Cost {
         let place = if j < self.own { (u - 1) * self.size(self.own) + v - 1 } else { (v - 1) * self.size(j) + u - 1 };
         let at = self.starts[j - 1] + 2 * place;
-        u32::from(u16::from_le_bytes([self.costs[at], self.costs[at + 1]]))
+        Cost::of_pair(u16::from_le_bytes([self.costs[at], self.costs[at + 1]]))
     }
 
-    fn least_with(&self, j: usize, v: usize) -> u32 {
-        (1..=self.size(j)).map(|u| self.pair(j, u, v)).min().unwrap_or(0)
+    fn least_with(&self, j: usize, v: usize) -> Cost {
+        Cost::least((1..=self.size(j)).map(|u| self.pair(j, u, v)))
     }
 
     /// 01: "h(v) is the sum, over later units, of the least cost of v with any value of that unit".
-    pub fn h(&self, v: usize) -> u32 {
+    /// 02's job 3: "h takes the least over values not barred"; forbidden where a later unit has none.
+    pub fn h(&self, v: usize) -> Cost {
         self.h[v - 1]
     }
 
     /// What own value v costs with the values of units 1 to `count`.
-    pub fn with_first(&self, values: &Places, count: usize, v: usize) -> u32 {
-        let mut sum = 0;
+    pub fn with_first(&self, values: &Places, count: usize, v: usize) -> Cost {
+        let mut sum = Cost::Of(0);
         for j in 1..=count {
             self.checks[j - 1].set(self.checks[j - 1].get() + 1);
-            sum += self.pair(j, values[j - 1] as usize, v);
+            sum = sum + self.pair(j, values[j - 1] as usize, v);
         }
         sum
     }
 
     /// 01: "the least, over own values v, of costs to the filled units plus h(v)".
-    pub fn estimate(&self, values: &Places, count: usize) -> u32 {
-        let values_tried = 1..=self.size(self.own);
-        values_tried.map(|v| self.with_first(values, count, v) + self.h(v)).min().unwrap_or(0)
+    pub fn estimate(&self, values: &Places, count: usize) -> Cost {
+        Cost::least((1..=self.size(self.own)).map(|v| self.with_first(values, count, v) + self.h(v)))
     }
 }

@@ -1,7 +1,7 @@
 //! The radio message of 64 bytes. Names are the field's: cpa is 01's paper, request its copy, solution its news.
 
 use super::{bound_in_range, check_sizes, checksum, cost_limit, filled, solution_in_range};
-use super::{Places, Refusal, MAX_TOTAL};
+use super::{Places, Refusal, MAX_TOTAL, NONE};
 
 pub const SIZE: usize = 64;
 
@@ -88,7 +88,9 @@ fn check_fields(n: u8, sizes: &Places, kind: u8, m: &Message) -> Result<(), Refu
         REQUEST => m.sender < m.receiver && prefix(m.sender) && no_solution,
         ESTIMATE => {
             let stamped = filled(&m.stamp, m.receiver as usize, sizes) && m.values == zero;
-            m.sender > m.receiver && stamped && m.cost <= MAX_TOTAL && no_solution
+            // 02's job 3: "An estimate with no value left carries 4,294,967,295, which check 9 lets through"
+            let estimated = m.cost <= MAX_TOTAL || m.cost == NONE;
+            m.sender > m.receiver && stamped && estimated && no_solution
         }
         SOLUTION => {
             let solved = solution_in_range(m.bound, &m.best, n as usize, sizes);

@@ -1,4 +1,4 @@
-//! Documents 01 and 02 (job 1) in plain Rust, one module for each part of them. Refusals are their numbers, the first in their order.
+//! Documents 01 and 02 (jobs 1 and 3) in plain Rust, one module for each part of them. Refusals are their numbers, the first in their order.
 
 pub mod checksum;
 pub mod costs;
@@ -23,6 +23,9 @@ pub const MAX_TOTAL: u32 = 7_200_000;
 
 /// The most that a pair may cost.
 pub const MAX_COST: u32 = 60_000;
+
+/// 02's job 3: "A pair cost of 65,535 means barred".
+pub const FORBIDDEN_PAIR: u16 = 65_535;
 
 /// 01: "A paper or copy with k filled units costs at most 30,000 × k × (k-1)".
 pub fn cost_limit(filled: usize) -> u32 {

@@ -1,10 +1,12 @@
 //! The bench's exhaustive search.
 
-use super::{table, Places, Refusal};
+use super::costs::Cost;
+use super::{table, Places, Refusal, NONE};
 
 pub const MAX_ASSIGNMENTS: u128 = 1_048_576;
 
 /// The least total with its first assignment in ascending order, places past n zero. Refusals 5, 6, 7, 16.
+/// 02's job 3: "If no lotting remains, stop and bench give *none* with best all zero".
 pub fn exhaustive(stream: &[u8]) -> Result<(u32, Places), Refusal> {
     table::check_stream(stream)?;
     let (n, sizes) = table::head(stream);
@@ -14,11 +16,11 @@ pub fn exhaustive(stream: &[u8]) -> Result<(u32, Places), Refusal> {
     }
     let mut search = Search { n: n as usize, sizes, pairs: pair_tables(stream), values: [0; 16], best: None };
     search.extend_at(0, 0);
-    Ok(search.best.expect("some assignment"))
+    Ok(search.best.unwrap_or((NONE, [0; 16])))
 }
 
 /// The costs of each pair (i, j), i < j, units from 0.
-fn pair_tables(stream: &[u8]) -> Vec<Vec<Vec<u32>>> {
+fn pair_tables(stream: &[u8]) -> Vec<Vec<Vec<u16>>> {
     let n = stream[0] as usize;
     let mut at = 1 + n;
     let mut tables = vec![vec![Vec::new(); n]; n];
@@ -26,7 +28,7 @@ fn pair_tables(stream: &[u8]) -> Vec<Vec<Vec<u32>>> {
         for j in i + 1..n {
             let count = stream[1 + i] as usize * stream[1 + j] as usize;
             let bytes = &stream[at..at + 2 * count];
-            tables[i][j] = bytes.chunks(2).map(|c| u32::from(u16::from_le_bytes([c[0], c[1]]))).collect();
+            tables[i][j] = bytes.chunks(2).map(|c| u16::from_le_bytes([c[0], c[1]])).collect();
             at += 2 * count;
         }
     }
@@ -36,7 +38,7 @@ fn pair_tables(stream: &[u8]) -> Vec<Vec<Vec<u32>>> {
 struct Search {
     n: usize,
     sizes: Places,
-    pairs: Vec<Vec<Vec<u32>>>,
+    pairs: Vec<Vec<Vec<u16>>>,
     values: Places,
     best: Option<(u32, Places)>,
 }
@@ -52,13 +54,15 @@ impl Search {
         }
         for value in 1..=self.sizes[unit] {
             self.values[unit] = value;
-            let added: u32 = (0..unit).map(|before| self.pair(before, unit)).sum();
-            self.extend_at(unit + 1, cost + added);
+            // 02's job 3: "A lotting with a barred pair isn't a lotting"
+            if let Cost::Of(added) = (0..unit).map(|before| self.pair(before, unit)).sum() {
+                self.extend_at(unit + 1, cost + added);
+            }
         }
     }
 
-    fn pair(&self, i: usize, j: usize) -> u32 {
+    fn pair(&self, i: usize, j: usize) -> Cost {
         let place = (self.values[i] as usize - 1) * self.sizes[j] as usize + self.values[j] as usize - 1;
-        self.pairs[i][j][place]
+        Cost::of_pair(self.pairs[i][j][place])
     }
 }

@@ -1,6 +1,6 @@
 //! The stored table: blocks of 512 bytes, and the stream that their payloads carry.
 
-use super::{checksum, costs, Places, Refusal, MAX_COST};
+use super::{checksum, costs, Places, Refusal, FORBIDDEN_PAIR, MAX_COST};
 
 pub const BLOCK: usize = 512;
 pub const PAYLOAD: usize = 506;
@@ -93,10 +93,10 @@ pub fn check_stream(stream: &[u8]) -> Result<(), Refusal> {
     check_costs(&stream[1 + n..])
 }
 
-/// Refusal 7. The number of bytes is even.
+/// Refusal 7, which lets 65,535 through. The number of bytes is even.
 pub fn check_costs(bytes: &[u8]) -> Result<(), Refusal> {
-    let above = |pair: &[u8]| u32::from(number_at(pair, 0)) > MAX_COST;
-    if bytes.chunks(2).any(above) {
+    let above = |cost: u16| u32::from(cost) > MAX_COST && cost != FORBIDDEN_PAIR;
+    if bytes.chunks(2).any(|pair| above(number_at(pair, 0))) {
         return Err(7);
     }
     Ok(())

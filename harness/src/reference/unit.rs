@@ -1,6 +1,6 @@
 //! One unit: making and step.
 
-use super::costs::{self, View};
+use super::costs::{self, Cost, View};
 use super::message::{self, Message};
 use super::{bound_in_range, check_sizes, cost_limit, filled, table, Places, Refusal, MAX_TOTAL, NONE};
 use std::cmp::Ordering;
@@ -155,7 +155,8 @@ fn cpa_in_range(view: &View, unit: &Unit) -> bool {
     }
     let counted = unit.counter == unit.stamp[own - 1] && unit.counter <= value;
     let fresh = compare(&unit.threshold, &unit.stamp, own) != Ordering::Less;
-    let own_costs = view.with_first(&unit.values, own - 1, value as usize);
+    // 02's job 3: "A lent paper whose own value is barred with a filled one is out of range"
+    let Cost::Of(own_costs) = view.with_first(&unit.values, own - 1, value as usize) else { return false };
     let before = unit.cost.checked_sub(own_costs);
     counted && fresh && before.is_some_and(|cost| cost <= cost_limit(own - 1))
 }
@@ -259,7 +260,7 @@ impl<'a> Work<'a> {
             sender: self.view.own as u8,
             receiver: m.sender,
             stamp: m.stamp,
-            cost: self.view.estimate(&m.values, m.sender as usize),
+            cost: self.view.estimate(&m.values, m.sender as usize).or_none(),
             ..Message::default()
         };
         self.others_sent.push((message::ESTIMATE, reply));
@@ -276,8 +277,9 @@ impl<'a> Work<'a> {
             return Err(11);
         }
         self.unit.estimates[m.sender as usize - 1] = m.cost;
-        let estimated: u32 = self.unit.estimates[own..self.view.n].iter().sum();
-        if self.unit.cost + estimated >= self.unit.bound {
+        // an estimate of *none* reaches any bound, *none* too, so it is never kept: assigning clears it
+        let estimated: u64 = self.unit.estimates[own..self.view.n].iter().map(|estimate| u64::from(*estimate)).sum();
+        if u64::from(self.unit.cost) + estimated >= u64::from(self.unit.bound) {
             self.assign();
         }
         Ok(())
@@ -301,7 +303,8 @@ impl<'a> Work<'a> {
         if value == 0 {
             return self.unit.cost;
         }
-        self.unit.cost - self.view.with_first(&self.unit.values, self.view.own - 1, value)
+        let own_costs = self.view.with_first(&self.unit.values, self.view.own - 1, value);
+        self.unit.cost.saturating_sub(own_costs.or_none())
     }
 
     fn assign(&mut self) {
@@ -328,12 +331,14 @@ impl<'a> Work<'a> {
     }
 
     /// The first value after the current one with cost + h(v) below the bound, and that cost.
+    /// 02's job 3: without an h "the value can't be written, even with no bound"; nor if a pair with a filled unit is forbidden.
     fn next_value(&self) -> Option<(usize, u32)> {
         let own = self.view.own;
         let before = self.cost_without_own();
         for v in self.own_value() + 1..=self.view.size(own) {
-            let cost = before + self.view.with_first(&self.unit.values, own - 1, v);
-            if cost + self.view.h(v) < self.unit.bound {
+            let cost = Cost::Of(before) + self.view.with_first(&self.unit.values, own - 1, v);
+            let (Cost::Of(cost), Cost::Of(h)) = (cost, self.view.h(v)) else { continue };
+            if cost + h < self.unit.bound {
                 return Some((v, cost));
             }
         }
