@@ -127,7 +127,10 @@ int main(int count, char **words)
         start(&boxes[own - 1], own, stream, length);
     while (!boxes[0].unit.stopped)
         carry();
-    printf("total %u\n", (unsigned)boxes[0].unit.bound);
+    if (boxes[0].unit.bound == RIKSAMOE_NONE)
+        printf("total none\n"); /* every assignment has a forbidden pair */
+    else
+        printf("total %u\n", (unsigned)boxes[0].unit.bound);
     for (uint8_t own = 1; own <= n; own++)
         printf("unit %u value %u\n", own, boxes[0].unit.best[own - 1]);
     printf("records %u deliveries %u\n", records, accepted);

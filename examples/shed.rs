@@ -185,7 +185,10 @@ fn run(path: &str) -> Result<(), String> {
     loop {
         let first = nodes[0].unit;
         if first.stopped == 1 && !printed {
-            println!("total {}", first.bound);
+            match first.bound {
+                u32::MAX => println!("total none"), // every assignment has a forbidden pair
+                total => println!("total {total}"),
+            }
             for (k, value) in first.best.iter().take(nodes.len()).enumerate() {
                 println!("unit {} value {value}", k + 1);
             }

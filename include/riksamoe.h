@@ -15,6 +15,7 @@
  *      order; byte 2 of each says to which unit. If it is not 0, nothing has changed and there is nothing to send: drop the packet.
  *   4. Once `stopped` is 1 the box is done, and every later packet that reads well is refused by 12. In box 1 `bound` is then the least
  *      total and `best` the value of each unit (unit k's at best[k - 1]); this is proved. The others are told both by box 1's stop.
+ *      Where every assignment has a forbidden pair, `bound` is RIKSAMOE_NONE and `best` all 0; box 1 may then have stopped when made.
  *
  * A stale packet is accepted, changes nothing and sends nothing. Packets may come in any order; none may be lost.
  *
@@ -42,7 +43,7 @@
  *   riksamoe_unit_in_range         1,280
  *   riksamoe_unit_step             5,120
  *   riksamoe_unit_step_in_place    5,120
- *   riksamoe_network_make         13,056
+ *   riksamoe_network_make         13,312
  *   riksamoe_network_deliver      25,088
  *   riksamoe_network_settle      150,016
  *   riksamoe_search                6,656
@@ -57,10 +58,11 @@
 extern "C" {
 #endif
 
-#define RIKSAMOE_VERSION 3         /* raised where a call, a struct or a promise below changes */
+#define RIKSAMOE_VERSION 4         /* raised where a call, a struct or a promise below changes */
 
 #define RIKSAMOE_UNITS 16          /* places in every array: unit k's is k - 1 */
-#define RIKSAMOE_NONE 4294967295u  /* the bound *none* */
+#define RIKSAMOE_NONE 4294967295u  /* the bound *none*; the estimate of a unit that has no value left */
+#define RIKSAMOE_FORBIDDEN 65535u  /* the 16-bit pair cost of two values that may not meet: no assignment has both */
 #define RIKSAMOE_PACKET 64         /* bytes of a packet */
 #define RIKSAMOE_SENDING 1024      /* bytes to lend for what a step sends: 16 packets */
 #define RIKSAMOE_COSTS 7680        /* most bytes of the costs that touch one unit */
@@ -80,7 +82,7 @@ enum {
     RIKSAMOE_BAD_BLOCK_CHECK = 4, /* block check wrong */
     RIKSAMOE_OUT_OF_RANGE = 5,    /* n or a size not 1 to 16; a state out of range, or a pool count over 1,024 */
     RIKSAMOE_BAD_LENGTH = 6,      /* stream, or a unit's costs, shorter or longer than n and the sizes need */
-    RIKSAMOE_BAD_COST = 7,        /* a cost above 60,000 */
+    RIKSAMOE_BAD_COST = 7,        /* a pair cost above 60,000 that is not RIKSAMOE_FORBIDDEN */
     RIKSAMOE_DAMAGED = 8,         /* packet not 64 bytes, or its check wrong: it was damaged on the way */
     RIKSAMOE_BAD_FIELD = 9,       /* a message field against its kind */
     RIKSAMOE_BAD_UNIT = 10,       /* unit number, sender or receiver not 1 to n; packet for another unit */
@@ -106,7 +108,7 @@ typedef struct {
     size_t length;   /*  8 */
 } riksamoe_length_t;
 
-/* The fields of a message; those that its kind lacks are 0. Size 60. */
+/* The fields of a message; those that its kind lacks are 0. An estimate's cost may be RIKSAMOE_NONE. Size 60. */
 typedef struct {
     uint8_t sender;     /*  0 */
     uint8_t receiver;   /*  1 */
@@ -124,8 +126,9 @@ typedef struct {
     riksamoe_message_t message; /*  4 */
 } riksamoe_parsed_t;
 
-/* A unit's whole state: keep it between packets, and change nothing in it. One that is out of range is refused by 5. Size 140, alignment
- * 4; the two bytes of padding at the end are not read, and may come back as any. */
+/* A unit's whole state: keep it between packets, and change nothing in it. One that is out of range is refused by 5, such as one with a CPA
+ * out whose own value is forbidden beside one before it. Size 140, alignment 4; the two bytes of padding at the end are not read, and may
+ * come back as any. */
 typedef struct {
     uint8_t threshold[16];  /*   0 the highest stamp seen */
     uint32_t bound;         /*  16 the best total known, RIKSAMOE_NONE at first */
@@ -153,7 +156,8 @@ typedef struct {
     uint8_t records; /* 2 */
 } riksamoe_report_t;
 
-/* What the search gives: a refusal and zeros, or 0, the least total and its first assignment in ascending order. Size 24. */
+/* What the search gives: a refusal and zeros, or 0, the least total and its first assignment in ascending order, RIKSAMOE_NONE and zeros
+ * where every assignment has a forbidden pair. Size 24. */
 typedef struct {
     uint8_t refusal;    /* 0 */
     uint32_t total;     /* 4 */
@@ -224,7 +228,8 @@ uint8_t riksamoe_message_write(uint8_t n, riksamoe_sizes_t sizes, uint8_t kind, 
 
 /* ---- One unit. Lend RIKSAMOE_SENDING bytes as `out`; what is sent stands at its front, the bytes behind it stay. */
 
-/* Unit `own` of n, new: 5, 10, 6, 7, 13. Unit 1 sends; for n = 1 it has stopped. */
+/* Unit `own` of n, new: 5, 10, 6, 7, 13. Unit 1 sends; for n = 1 it has stopped, and so it has where each of its values is forbidden
+ * beside all values of some other unit. */
 riksamoe_outcome_t riksamoe_unit_make(uint8_t own, uint8_t n, riksamoe_sizes_t sizes, const uint8_t *costs, size_t costs_length,
                                       uint8_t *out, size_t room);
 
@@ -258,7 +263,8 @@ riksamoe_answer_t riksamoe_network_deliver(riksamoe_network_t network, const uin
  * the way is refused. The answer is in unit 1. How long it takes is not bounded by anything short. It keeps the costs of every unit on the stack. */
 riksamoe_answer_t riksamoe_network_settle(const uint8_t *stream, size_t length, uint8_t *pool, size_t room);
 
-/* ---- The bench: every assignment of a stream's table is tried, so lend it 1,048,576 of them at most: 5, 6, 7, 16. */
+/* ---- The bench: every assignment of a stream's table is tried, so lend it 1,048,576 of them at most, those with a forbidden pair counted
+ * too: 5, 6, 7, 16. */
 riksamoe_found_t riksamoe_search(const uint8_t *stream, size_t length);
 
 /* ---- The layouts above, held */
