@@ -1,5 +1,5 @@
 -- The numbers of documents 01 and 02 that more than one place goes by, each here alone; src/lib.rt has the same for code. Assumes nothing.
-use Rattle.base.specs.Library.{ℕ, _*_, _-_}
+use Rattle.base.specs.Library.{ℕ, _+_, _*_, _-_}
 
 -- ---- units and costs
 
@@ -15,20 +15,24 @@ pairLimit = 60000
 abbrev pub forbiddenPair : ℕ
 forbiddenPair = 65535
 
--- 01: "A bound is at most 7,200,000": so a total too, of the 120 pairs of 16 units
+-- 02, job 7: "Each unit gets a cost per value, 0 to 60,000, never barred"
+abbrev pub unaryLimit : ℕ
+unaryLimit = 60000
+
+-- 02, job 7: "The limit on bounds and totals (not estimates) becomes 8,160,000": the 120 pairs of 16 units, and these alone
 abbrev pub totalLimit : ℕ
-totalLimit = 7200000
+totalLimit = 8160000
 
 -- 01: "an estimate at most 7,200,000"
 abbrev pub estimateLimit : ℕ
 estimateLimit = 7200000
 
--- 01: "A paper or copy with k filled units costs at most 30,000 × k × (k-1)"
+-- 01: "A paper or copy with k filled units costs at most 30,000 × k × (k-1)"; 02, job 7: it "may cost 60,000 × k more"
 abbrev pub prefixFactor : ℕ
 prefixFactor = 30000
 
 abbrev pub prefixLimit : ℕ → ℕ
-prefixLimit k = prefixFactor * k * (k - 1)
+prefixLimit k = prefixFactor * k * (k - 1) + unaryLimit * k
 
 -- 01: "None as a bound is 4,294,967,295"
 abbrev pub NONE : ℕ
@@ -40,7 +44,11 @@ searchLimit = 1048576
 
 -- ---- bytes
 
--- 01: "Blocks of 512 bytes", of which 506 are payload and the check is over the first 510; at most 122 in a file
+-- 02, job 7: "Stored form two: the stream opens with byte 200"
+abbrev pub formTwo : ℕ
+formTwo = 200
+
+-- 01: "Blocks of 512 bytes", of which 506 are payload and the check is over the first 510; 02, job 7: "at most 123 blocks or 62,976 bytes"
 abbrev pub blockSize : ℕ
 blockSize = 512
 
@@ -51,7 +59,7 @@ abbrev pub checkedSize : ℕ
 checkedSize = 510
 
 abbrev pub fileSize : ℕ
-fileSize = 62464
+fileSize = 62976
 
 -- 01: "Radio message, 64 bytes"; "The pool is 1,024 cells of 64 bytes"
 abbrev pub messageSize : ℕ
@@ -60,7 +68,7 @@ messageSize = 64
 abbrev pub poolCells : ℕ
 poolCells = 1024
 
--- 01, refusal 13: "1,024 for sending, 65,536 for the pool, 61,457 for a stream"
+-- 01, refusal 13: "1,024 for sending, 65,536 for the pool"; 02, job 7: "a stream buffer of 61,970"
 abbrev pub sendingSize : ℕ
 sendingSize = 1024
 
@@ -68,8 +76,8 @@ abbrev pub poolSize : ℕ
 poolSize = 65536
 
 abbrev pub streamSize : ℕ
-streamSize = 61457
+streamSize = 61970
 
--- the most bytes of the costs that touch one unit: 15 others of 16 values, with 16 own values, two bytes each
+-- the most bytes of the costs that touch one unit: 16 own values, alone and with 15 others of 16 values, two bytes each
 abbrev pub costsSize : ℕ
-costsSize = 7680
+costsSize = 7712

@@ -17,10 +17,15 @@ fn main() {
     show(b"barred-five.table");
     show(b"none-three.table");
     show(b"none-at-once.table");
+    // unary costs
+    show(b"priced-five.table");
+    show(b"priced-three.table");
+    show(b"priced-one.table");
     // 1,048,576 assignments in another shape, 2 and 16 values by turns; 1,049,760, the next number that sizes give, and 16^16: 16
     show(b"most.table");
     show(b"more.table");
     show(b"largest.table");
+    show(b"largest-two.table");
     // a byte of eight.table changed: 4
     show(b"flipped.table");
 }

@@ -9,6 +9,7 @@ use message::Read;
 use network::Answer;
 use network::Count;
 use search::Found;
+use table::Form;
 use unit::Outcome;
 use unit::Report;
 ghost use mathlib.Core.Path.{_≡_};
@@ -18,7 +19,10 @@ ghost use lib.Dec.{eqb};
 ghost use lib.ListN.{length};
 ghost use Rattle.checksum.specs.Sum.{sumOf};
 ghost use Rattle.table.specs.Block.{blockRefusal};
+ghost use Rattle.table.specs.Stream.{unitsOf};
 ghost use Rattle.table.specs.File.{readOf, readInto, storeOf, storeInto};
+ghost use Rattle.table.specs.declared.Form.the-variants.{One, Two};
+ghost use Rattle.table.specs.Form.{convertOf, convertInto};
 ghost use Rattle.readings.specs.Readings.{tableOf, tableInto};
 ghost use Rattle.costs.specs.Gather.{sizesIn, gatherOf, gatherInto};
 ghost use Rattle.message.specs.Message.{kindOf};
@@ -120,6 +124,21 @@ pub extern "C" fn riksamoe_table_write(stream: &[u8], file: &mut [u8]) -> Length
     table::write(stream, file)
 }
 
+// A stored table in form one, or in form two.
+#[no_mangle]
+pub extern "C" fn riksamoe_to_form_one(file: &[u8], out: &mut [u8]) -> Length
+    ensures { λ r. ⌜ (r ≡ convertOf One (now (file .entry)) (length (now (out .entry)))) × (now (out .exit) ≡ convertInto One (now (file .entry)) (now (out .entry))) ⌝ }
+{
+    table::convert(file, Form::One, out)
+}
+
+#[no_mangle]
+pub extern "C" fn riksamoe_to_form_two(file: &[u8], out: &mut [u8]) -> Length
+    ensures { λ r. ⌜ (r ≡ convertOf Two (now (file .entry)) (length (now (out .entry)))) × (now (out .exit) ≡ convertInto Two (now (file .entry)) (now (out .entry))) ⌝ }
+{
+    table::convert(file, Form::Two, out)
+}
+
 // The stream of a table made of readings.
 #[no_mangle]
 pub extern "C" fn riksamoe_readings_stream(
@@ -135,6 +154,14 @@ pub extern "C" fn riksamoe_readings_stream(
 }
 
 // ---- what a unit is lent, out of a stream
+
+// How many units a stream says there are.
+#[no_mangle]
+pub extern "C" fn riksamoe_units(stream: &[u8]) -> u8
+    ensures { λ r. ⌜ r ≡ unitsOf (now (stream .entry)) ⌝ }
+{
+    table::units_of(stream)
+}
 
 #[no_mangle]
 pub extern "C" fn riksamoe_sizes(stream: &[u8]) -> Sizes

@@ -11,7 +11,7 @@ use lib.ListN.{length, getD, take, drop, replicate}
 use Rattle.base.specs.Limits.{streamSize}
 use Rattle.base.specs.Shape.{allInSixteen, shapeGood}
 use Rattle.checksum.specs.Sum.{sumOf}
-use Rattle.table.specs.Stream.{sumList, pairsIn, costGood, costsGood, streamRefusal}
+use Rattle.table.specs.Stream.{opening, sumList, unariesIn, pairsIn, pairGood, unaryGood, costsGood, streamRefusal}
 use Rattle.table.specs.Block.{allZero, blockRefusal}
 use Rattle.table.specs.BlockLaws.{checkOf}
 use Rattle.table.specs.Written.{blockOf, fileFrom, fileOf}
@@ -28,7 +28,7 @@ use Rattle.rules.specs.State.{compareOn, sameOn}
 use Rattle.rules.specs.Step.{backtrack, tryAfter, assign, resume, onCpa, onRequest, onEstimate, onSolution, onStop, respond}
 use Rattle.rules.specs.Send.{each, packets}
 use Rattle.runs.specs.Run.{History, unitAt, begin, handOver, runFrom, run}
-use Rattle.cases.specs.Sheds.{streamWith, streamT, pairAt, single}
+use Rattle.cases.specs.Sheds.{streamWith, streamT, pairAt, aloneAt, pricedT, single}
 
 -- what a row compares
 pub data Seen : Type 0 where
@@ -107,10 +107,16 @@ table =
     count 7 (reading (pairAt 60000) ∷ reading (pairAt 60001) ∷ []) (0 ∷ 7 ∷ []) ∷
     -- 02, job 3: "A pair cost of 65,535 means barred, and check 7 lets that number through for pairs."
     count 7 (reading (pairAt 65534) ∷ reading (pairAt 65535) ∷ []) (7 ∷ 0 ∷ []) ∷
+    -- 02, job 7: "a cost per value, 0 to 60,000, never barred"
+    count 7 (reading (aloneAt 60000) ∷ reading (aloneAt 60001) ∷ reading (aloneAt 65535) ∷ []) (0 ∷ 7 ∷ 7 ∷ []) ∷
+    -- it counts in totals: of T with a unary cost of 2 at unit 1's value 2 the least is 3, by values 1, 2, for bench and shed; and "isn't part of h"
+    count 3 (searchOf pricedT .refusal ∷ searchOf pricedT .total ∷ take 2 (searchOf pricedT .values)) (0 ∷ 3 ∷ 1 ∷ 2 ∷ []) ∷
+    count 3 (unitOneOf (run (instanceOf pricedT) (0 ∷ 0 ∷ 0 ∷ [])) ++ countsOf (run (instanceOf pricedT) (0 ∷ 0 ∷ 0 ∷ []))) (1 ∷ 3 ∷ 1 ∷ 2 ∷ 3 ∷ 3 ∷ 3 ∷ []) ∷
+    count 2 (asNumber (h (viewOf (instanceOf pricedT) 0) 1) ∷ asNumber (h (viewOf (instanceOf pricedT) 0) 2) ∷ []) (3 ∷ 2 ∷ []) ∷
     -- "n = 16 read, 17 and 0 refused by 5"
     count 8 (reading (single 16 120) ∷ reading (single 17 136) ∷ reading (single 0 0) ∷ []) (0 ∷ 5 ∷ 5 ∷ []) ∷
     []
 
 pub cases-hold : map (λ (r : Row). r .found) table ≡ map (λ (r : Row). r .said) table
-unfolding table allInSixteen shapeGood sumOf sumList pairsIn costGood costsGood streamRefusal allZero blockRefusal blockOf blocksRefusal joined streamOf readRefusal fileFrom fileOf instanceOf costWith h estimate total inTurn bestFrom searchRefusal searchOf compareOn sameOn backtrack tryAfter assign resume onCpa onRequest onEstimate onSolution onStop respond each packets begin handOver runFrom run
+unfolding table allInSixteen shapeGood sumOf opening unariesIn sumList pairsIn pairGood unaryGood costsGood streamRefusal allZero blockRefusal blockOf blocksRefusal joined streamOf readRefusal fileFrom fileOf instanceOf costWith h estimate total inTurn bestFrom searchRefusal searchOf compareOn sameOn backtrack tryAfter assign resume onCpa onRequest onEstimate onSolution onStop respond each packets begin handOver runFrom run
 cases-hold = refl

@@ -6,12 +6,13 @@ use Rattle.base.specs.Sums as Number
 use Rattle.costs.specs.Cost.{Cost, Of, Forbidden, _⊕_, sumFrom, sumTo, least, asNumber}
 use Rattle.costs.specs.Instance.{Instance, View}
 
--- the cost of own value v with the values of the first k units
+-- the cost of own value v, alone and with the values of the first k units. 02, job 7: an own cost "counts when the value is written, in
+-- estimates and in totals"
 unfoldable pub costWith : View → List ℕ → ℕ → ℕ → Cost
-costWith w values k v = sumTo (λ j. w .pair j (getD values j 0) v) k
+costWith w values k v = Of (w .unary v) ⊕ sumTo (λ j. w .pair j (getD values j 0) v) k
 
 -- 01: "h(v) is the sum, over later units, of the least cost of v with any value of that unit";
--- 02: "h takes the least over values not barred; if there are none, the value can't be written"
+-- 02: "h takes the least over values not barred; if there are none, the value can't be written"; a unary cost "isn't part of h"
 unfoldable pub h : View → ℕ → Cost
 h w v = sumFrom (λ j. least (λ u. w .pair j u v) (w .dom j)) (suc (w .place)) (w .n - suc (w .place))
 
@@ -33,9 +34,9 @@ Permitted I l = (i j : ℕ) → i < j → j < I .n → I .cost i (getD l i 0) j 
 abbrev pub Assignment : Instance → List ℕ → Type 0
 Assignment I l = Valued I l × Permitted I l
 
--- 01: "its total is the sum over all pairs"
+-- 01: "its total is the sum over all pairs", and since 02, job 7, of what each unit's value costs alone
 unfoldable pub total : Instance → List ℕ → Cost
-total I l = sumTo (λ k. sumTo (λ i. I .cost i (getD l i 0) k (getD l k 0)) k) (I .n)
+total I l = sumTo (λ k. Of (I .unary k (getD l k 0)) ⊕ sumTo (λ i. I .cost i (getD l i 0) k (getD l k 0)) k) (I .n)
 
 -- 02: "The report is the least over permitted lottings, or *none* if there isn't one", and then "*none* with best all zero"
 abbrev pub Reported : Instance → ℕ → List ℕ → Type 0

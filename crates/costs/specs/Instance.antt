@@ -1,28 +1,31 @@
--- The instance that a table describes, what one unit sees of it, and where the bytes of a pair cost stand.
+-- The instance that a table describes, what one unit sees of it, and where the bytes of a cost stand.
 -- Units count from 0 here: place k is document 01's unit k + 1. Values count from 1, as in document 01. Assumes nothing.
 use Rattle.base.specs.Library.{ℕ, suc, _+_, _*_, _-_, pred, cond, not, _&&_, List, ltb, eqb, getD, take, drop}
 use Rattle.base.specs.{Bytes.u16At, Shape.isValue, Sums.sumFrom, Sums.sumTo}
-use Rattle.table.specs.Stream.{unitsOf}
+use Rattle.table.specs.Stream.{inFormTwo, unitsOf, afterUnits, unariesAt, pairsAt}
 use Rattle.costs.specs.Cost.{Cost, Of, pairCost}
 use Rattle.costs.specs.declared.Seat.{Seat}
 
 -- ---- the instance
 
--- n units with their domain sizes, and the cost of value u of unit i with value v of a later unit j: a number, or the two may not meet
+-- n units with their domain sizes; the unary cost of value v of unit k, 02, job 7: own cost, "a cost per value .. never barred"; and the cost of
+-- value u of unit i with value v of a later unit j: a number, or the two may not meet
 pub record Instance : Type 0 where
   pub n : ℕ
   pub dom : ℕ → ℕ
+  pub unary : ℕ → ℕ → ℕ
   pub cost : ℕ → ℕ → ℕ → ℕ → Cost
 
--- What one unit sees: its own place, and `pair j u v`, the cost of its own value v with value u of unit j.
+-- What one unit sees: its own place, the unary cost of each of its values, and `pair j u v`, the cost of its own value v with value u of unit j.
 pub record View : Type 0 where
   pub place : ℕ
   pub n : ℕ
   pub dom : ℕ → ℕ
+  pub unary : ℕ → ℕ
   pub pair : ℕ → ℕ → ℕ → Cost
 
 abbrev pub viewOf : Instance → ℕ → View
-viewOf I k = record { place = k; n = I .n; dom = I .dom; pair = λ j u v. cond (ltb j k) (I .cost j u k v) (I .cost k v j u) }
+viewOf I k = record { place = k; n = I .n; dom = I .dom; unary = I .unary k; pair = λ j u v. cond (ltb j k) (I .cost j u k v) (I .cost k v j u) }
 
 -- ---- where costs stand
 
@@ -43,23 +46,35 @@ inPair d u v = (u - 1) * d + (v - 1)
 abbrev pub costNumber : List ℕ → ℕ → ℕ
 costNumber costs k = u16At costs (2 * k)
 
--- A cost of a table, from all its costs; 0 where there is no such pair of values.
+-- A unary cost of a table, from all its unary costs, 02: "unit by unit"; 0 where there is no such value.
+abbrev pub tableUnary : (ℕ → ℕ) → List ℕ → ℕ → ℕ → ℕ
+tableUnary dom costs k v = cond (isValue (dom k) v) (costNumber costs (sumTo dom k + (v - 1))) 0
+
+-- A pair cost of a table, from all its pair costs; 0 where there is no such pair of values.
 abbrev pub tableCost : ℕ → (ℕ → ℕ) → List ℕ → ℕ → ℕ → ℕ → ℕ → Cost
 tableCost n dom costs i u j v =
     cond (ltb i j && ltb j n && isValue (dom i) u && isValue (dom j) v) (pairCost (costNumber costs (pairStart dom n i j + inPair (dom j) u v))) (Of 0)
 
--- The instance of a stream: n, then n sizes, then the costs.
+-- The instance of a stream. 02: "Old files read as own costs all zero."
 abbrev pub domOf : List ℕ → ℕ → ℕ
-domOf s = domIn (unitsOf s) (drop 1 s)
+domOf s = domIn (unitsOf s) (afterUnits s)
+
+abbrev pub unaryOf : List ℕ → ℕ → ℕ → ℕ
+unaryOf s k v = cond (inFormTwo s) (tableUnary (domOf s) (drop (unariesAt s) s) k v) 0
 
 unfoldable pub instanceOf : List ℕ → Instance
-instanceOf s = record { n = unitsOf s; dom = domOf s; cost = tableCost (unitsOf s) (domOf s) (drop (1 + unitsOf s) s) }
+instanceOf s = record { n = unitsOf s; dom = domOf s; unary = unaryOf s; cost = tableCost (unitsOf s) (domOf s) (drop (pairsAt s) s) }
 
--- ---- the costs that touch one unit, 01: "by the other unit ascending, each pair in the stream's order"
+-- ---- the costs that touch one unit, 02, job 7: "A unit's own costs are lent before its pair costs."; 01, of these: "by the other unit
+-- ascending, each pair in the stream's order"
 
 -- how many of them stand before those with unit j
 abbrev pub otherStart : (ℕ → ℕ) → ℕ → ℕ → ℕ
-otherStart dom k j = dom k * sumTo (λ b. cond (eqb b k) 0 (dom b)) j
+otherStart dom k j = dom k + dom k * sumTo (λ b. cond (eqb b k) 0 (dom b)) j
+
+-- The unary cost of value v of a unit of d values, 0 where there is no such value.
+abbrev pub lentUnary : ℕ → List ℕ → ℕ → ℕ
+lentUnary d costs v = cond (isValue d v) (costNumber costs (v - 1)) 0
 
 -- A cost of unit k's value v with value u of unit j, from the costs that touch unit k; 0 where there is no such pair of values.
 abbrev pub lentCost : ℕ → (ℕ → ℕ) → ℕ → List ℕ → ℕ → ℕ → ℕ → Cost
@@ -69,7 +84,8 @@ lentCost n dom k costs j u v =
 
 -- What unit `own` (1 to n) sees in the costs lent with it.
 unfoldable pub lentView : ℕ → ℕ → List ℕ → List ℕ → View
-lentView own n sizes costs = record { place = pred own; n = n; dom = domIn n sizes; pair = lentCost n (domIn n sizes) (pred own) costs }
+lentView own n sizes costs =
+    record { place = pred own; n = n; dom = domIn n sizes; unary = lentUnary (domIn n sizes (pred own)) costs; pair = lentCost n (domIn n sizes) (pred own) costs }
 
 -- The same of a unit's seat, which holds the first three.
 abbrev pub viewFrom : Seat → List ℕ → View

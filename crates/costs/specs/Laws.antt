@@ -11,7 +11,7 @@ use mathlib.Core.List.{List, [], _∷_}
 use native.Mathlib.Omega.{arith}
 use native.Mathlib.Nat.{mul-le-mul}
 use lib.ListN.{length}
-use Rattle.base.specs.Limits.{NONE, pairLimit, totalLimit, prefixLimit}
+use Rattle.base.specs.Limits.{NONE, pairLimit, unaryLimit, totalLimit, prefixLimit}
 use Rattle.base.specs.Sums as N
 use Rattle.costs.specs.Cost.{Cost, Of, Forbidden, _⊕_, sumFrom, least, asNumber}
 use Rattle.costs.specs.Cost.Laws.{add-assoc, add-zero, _⊑_, le-refl, le-trans, add-mono, add-more, sumFrom-add-le, least-le, least-add, AtMost, most-add, most-mono, number-most, number-le, at-least, numbers-le, reached, number-mono}
@@ -27,17 +27,18 @@ pub record Sound (I : Instance) : Type 0 where
   pub n16 : I .n ≤ 16
   pub dom1 : (k : ℕ) → k < I .n → 1 ≤ I .dom k
   pub dom16 : (k : ℕ) → I .dom k ≤ 16
+  pub unary-small : (k v : ℕ) → I .unary k v ≤ unaryLimit
   pub small : (i u j v : ℕ) → AtMost pairLimit (I .cost i u j v)
 
 -- ---- functions of a prefix
 
 module _ (I : Instance) where
-  -- the cost of unit j's value v with the values of the prefix b
+  -- the cost of unit j's value v, alone and with the values of the prefix b
   abbrev pub against : ℕ → ℕ → List ℕ → Cost
-  against j v [] = Of 0
+  against j v [] = Of (I .unary j v)
   against j v (u ∷ b) = I .cost (length b) u j v ⊕ against j v b
 
-  -- the sum over the pairs inside a prefix
+  -- the sum over the values of a prefix and the pairs inside it
   abbrev pub costOf : List ℕ → Cost
   costOf [] = Of 0
   costOf (v ∷ b) = costOf b ⊕ against (length b) v b
@@ -135,35 +136,35 @@ module _ (I : Instance) where
         closed-by-estimates = by-estimates;
       }
 
--- ---- the limit of a total, 01: "A bound is at most 7,200,000"
+-- ---- the limit of a total, 02, job 7: "The limit on bounds and totals (not estimates) becomes 8,160,000"
 
--- one unit more has k more pairs
-most-next : (k : ℕ) → prefixLimit k + pairLimit * k ≤ prefixLimit (suc k)
-most-next zero = omega arith
-most-next (suc k) =
+-- one unit more has its unary cost and k more pairs
+pub limit-next : (k : ℕ) → prefixLimit k + (unaryLimit + pairLimit * k) ≤ prefixLimit (suc k)
+limit-next zero = omega arith
+limit-next (suc k) =
     let e : suc (suc k) - 1 ≡ suc k = omega arith in
     let q : suc k - 1 ≡ k = omega arith in
     rw (e, q) (omega arith)
 
-most-full : (k : ℕ) → k ≤ 16 → prefixLimit k ≤ totalLimit
-most-full k h = let q : k - 1 ≤ 15 = omega arith in omega (arith, mul-le-mul h q)
+pub limit-total : (k : ℕ) → k ≤ 16 → prefixLimit k ≤ totalLimit
+limit-total k h = let q : k - 1 ≤ 15 = omega arith in omega (arith, mul-le-mul h q)
 
 module _ (I : Instance) (s : Sound I) where
-  pub against-limit : (j v : ℕ) (b : List ℕ) → AtMost (pairLimit * length b) (against I j v b)
-  against-limit j v [] = omega arith
+  pub against-limit : (j v : ℕ) (b : List ℕ) → AtMost (unaryLimit + pairLimit * length b) (against I j v b)
+  against-limit j v [] = omega (arith, s .unary-small j v)
   against-limit j v (u ∷ b) =
-      most-mono (pairLimit + pairLimit * length b) (pairLimit * suc (length b)) (against I j v (u ∷ b)) (omega arith)
-      (most-add pairLimit (pairLimit * length b) (I .cost (length b) u j v) (against I j v b) (s .small (length b) u j v) (against-limit j v b))
+      most-mono (pairLimit + (unaryLimit + pairLimit * length b)) (unaryLimit + pairLimit * suc (length b)) (against I j v (u ∷ b)) (omega arith)
+      (most-add pairLimit (unaryLimit + pairLimit * length b) (I .cost (length b) u j v) (against I j v b) (s .small (length b) u j v) (against-limit j v b))
 
   cost-limit : (b : List ℕ) → AtMost (prefixLimit (length b)) (costOf I b)
   cost-limit [] = omega arith
   cost-limit (v ∷ b) =
-      most-mono (prefixLimit (length b) + pairLimit * length b) (prefixLimit (suc (length b))) (costOf I (v ∷ b)) (most-next (length b))
-      (most-add (prefixLimit (length b)) (pairLimit * length b) (costOf I b) (against I (length b) v b) (cost-limit b) (against-limit (length b) v b))
+      most-mono (prefixLimit (length b) + (unaryLimit + pairLimit * length b)) (prefixLimit (suc (length b))) (costOf I (v ∷ b)) (limit-next (length b))
+      (most-add (prefixLimit (length b)) (unaryLimit + pairLimit * length b) (costOf I b) (against I (length b) v b) (cost-limit b) (against-limit (length b) v b))
 
   -- of a full assignment
   pub full-limit : (b : List ℕ) → length b ≤ I .n → AtMost totalLimit (costOf I b)
-  full-limit b l = most-mono (prefixLimit (length b)) totalLimit (costOf I b) (most-full (length b) (omega (arith, s .n16))) (cost-limit b)
+  full-limit b l = most-mono (prefixLimit (length b)) totalLimit (costOf I b) (limit-total (length b) (omega (arith, s .n16))) (cost-limit b)
 
   -- so a permitted prefix costs a number below NONE
   pub permitted-below : (b : List ℕ) → length b ≤ I .n → costOf I b ≢ Forbidden → asNumber (costOf I b) < NONE

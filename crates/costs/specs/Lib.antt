@@ -1,4 +1,4 @@
--- Pair costs and what is worked out from them, in reading order.
+-- Unary costs, pair costs and what is worked out from them, in reading order.
 pub mod Cost
 pub mod Instance
 pub mod Bounds
@@ -9,3 +9,4 @@ pub mod StreamCost
 pub mod Streamed
 pub mod Problem
 pub mod Laws
+pub mod Converted

@@ -1,6 +1,6 @@
--- The stream of an instance. 01: "n, then n sizes, then for pairs (1,2), (1,3) .. (n-1,n) the costs as 16-bit numbers, by the value of the lower
--- unit, then of the higher." Nobody has to believe it: Streamed/Laws shows that it is accepted, and that its instance is the one it was made of.
--- Assumes nothing.
+-- The stream, of form one, of an instance whose unary costs are zero. 01: "n, then n sizes, then for pairs (1,2), (1,3) .. (n-1,n) the costs as
+-- 16-bit numbers, by the value of the lower unit, then of the higher." Nobody has to believe it: Streamed/Laws shows that it is accepted, and
+-- that its instance is the one it was made of. Assumes nothing.
 use Rattle.base.specs.Library.{ℕ, suc, _+_, _-_, List, [], _∷_, _++_}
 use Rattle.base.specs.{Bytes.le16, Join.joinTo, Limits.forbiddenPair}
 use Rattle.costs.specs.Cost.{Cost, Of, Forbidden}

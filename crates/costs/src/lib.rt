@@ -1,4 +1,4 @@
-// Pair costs, each a number or forbidden, and what is worked out from them: the costs lent with one unit, as bytes.
+// Unary costs, pair costs, which may be forbidden, and what is worked out from both: the costs lent with one unit, as bytes.
 
 mod prefix; // the cost of a value with those before it, straight from a stream
 mod stream; // what is read out of a stream
@@ -16,7 +16,7 @@ ghost use lib.ListN.{getD};
 ghost use Rattle.base.specs.Sums.{sumFrom};
 ghost use Rattle.costs.specs.Cost.{_⊕_, asNumber, pairCost};
 ghost use Rattle.costs.specs.Cost.Laws.{AtMost};
-ghost use Rattle.costs.specs.Instance.{inPair, costNumber, viewFrom};
+ghost use Rattle.costs.specs.Instance.{inPair, costNumber, lentUnary, viewFrom};
 ghost use Rattle.costs.specs.Bounds.{costWith, h, estimate};
 ghost use Rattle.costs.specs.Lent.{lentCount, lentRefusal};
 ghost use Rattle.costs.specs.Lent.Parts.{othersBefore, pairFrom, leastRun, runsFrom, domFrom};
@@ -49,17 +49,21 @@ pub fn as_number(cost: Cost) -> u32
 pub fn lent_refusal(seat: Seat, costs: &[u8]) -> u8
     ensures { λ r. ⌜ r ≡ lentRefusal (seat .own) (seat .n) (seat .sizes) (now (costs .entry)) ⌝ }
 {
+    let unaries = size_of(seat, place_of(seat));
     let count = lent_count(seat);
     if costs.len() != 2 * count {
         return 6;
     }
-    if !table::costs_good(costs, 0, count) {
+    if !table::unary_costs_good(costs, 0, unaries) {
+        return 7;
+    }
+    if !table::pair_costs_good(costs, 2 * unaries, count - unaries) {
         return 7;
     }
     0
 }
 
-// The cost of own value v with the values of the first k units.
+// The cost of own value v, alone and with the values of the first k units.
 pub fn cost_with(seat: Seat, costs: &[u8], values: [u8; 16], k: u8, v: u8) -> Cost
     ensures { λ r. ⌜ r ≡ costWith (viewFrom seat (now (costs .entry))) values k v ⌝ }
 {
@@ -85,17 +89,18 @@ pub fn estimate(seat: Seat, costs: &[u8], values: [u8; 16], k: u8) -> u32
 fn lent_count(seat: Seat) -> usize
     ensures { λ r. ⌜ (r ≡ lentCount (seat .own) (seat .n) (seat .sizes)) × (r ≤ 16777216) ⌝ }
 {
-    size_of(seat, place_of(seat)) * others_before(seat, wide(seat.n))
+    let d = size_of(seat, place_of(seat));
+    d + d * others_before(seat, wide(seat.n))
 }
 
-// The cost of own value v with the values of the first k units.
+// The cost of own value v, alone and with the values of the first k units.
 fn prefix_cost(seat: Seat, costs: &[u8], values: [u8; 16], k: usize, v: usize) -> Cost
     requires { ⌜ k ≤ 255 ⌝ }
-    ensures { λ r. ⌜ (r ≡ costWith (viewFrom seat (now (costs .entry))) values k v) × AtMost (65535 * k) r ⌝ }
+    ensures { λ r. ⌜ (r ≡ costWith (viewFrom seat (now (costs .entry))) values k v) × AtMost (65535 * (k + 1)) r ⌝ }
 {
     let place = place_of(seat);
     let d = size_of(seat, place);
-    let mut sum: u32 = 0;
+    let mut sum = unary_cost(costs, d, v);
     let mut before = 0;
     let mut j = 0;
     while j < k {
@@ -111,8 +116,19 @@ fn prefix_cost(seat: Seat, costs: &[u8], values: [u8; 16], k: usize, v: usize) -
     Cost::Of(sum)
 }
 
+// The unary cost of own value v, 0 where there is no such value; the unit has d values, and their costs come first.
+fn unary_cost(costs: &[u8], d: usize, v: usize) -> u32
+    requires { ⌜ d ≤ 255 ⌝ }
+    ensures { λ r. ⌜ (r ≡ lentUnary d (now (costs .entry)) v) × (r ≤ 65535) ⌝ }
+{
+    if !is_value(d, v) {
+        return 0;
+    }
+    base::u16_at(costs, 2 * (v - 1))
+}
+
 // The cost of own value v with value u of the unit at place j, 0 where there is no such pair of values.
-// The units have d and e values; the others before place j have `before` values together.
+// The units have d and e values; the others before place j have `before` values together. The d unary costs come first.
 fn pair_cost(
     costs: &[u8],
     place: usize,
@@ -136,9 +152,9 @@ fn pair_cost(
         return Cost::Of(0);
     }
     if j < place {
-        return cost_number(costs, d * before, d, u, v);
+        return cost_number(costs, d + d * before, d, u, v);
     }
-    cost_number(costs, d * before, e, v, u)
+    cost_number(costs, d + d * before, e, v, u)
 }
 
 // The cost of the values u and v, the second unit having d values, of a pair whose costs start at number `start`.
@@ -183,7 +199,8 @@ fn least_runs(seat: Seat, costs: &[u8], v: usize) -> Cost
     let mut j = place + 1;
     while j < count {
         let e = size_of(seat, j);
-        let Cost::Of(least) = cost_of(least_run(costs, d * before + (v - 1) * e, e)) else {
+        let start = d + d * before + (v - 1) * e;
+        let Cost::Of(least) = cost_of(least_run(costs, start, e)) else {
             return Cost::Forbidden;
         };
         sum += least;

@@ -9,7 +9,7 @@ use lib.ListN.{getD, set}
 use lib.Seq.{getD-take}
 use Rattle.costs.specs.declared.Seat.{Seat}
 use Rattle.costs.specs.declared.Cost.the-variants.{Of}
-use Rattle.costs.specs.Cost.{asNumber}
+use Rattle.costs.specs.Cost.{sumTo, asNumber}
 use Rattle.costs.specs.Instance.{lentView, viewFrom}
 use Rattle.costs.specs.Bounds.{costWith}
 use Rattle.rules.specs.declared.Unit.{Unit}
@@ -46,10 +46,14 @@ module _ (seat : Seat) (costs : List ℕ) where
   paid-lent u v = ap (λ (k : ℕ). costWith (viewFrom seat costs) (u .values) k v) place-lent
 
   -- without a value there is nothing to pay
+  none-paired : (l : List ℕ) (k : ℕ) → sumTo (λ j. viewFrom seat costs .pair j (getD l j 0) 0) k ≡ Of 0
+  unfolding lentView
+  none-paired l zero = refl
+  none-paired l (suc k) = rw (none-paired l k) (simp and-false)
+
   none-paid : (l : List ℕ) (k : ℕ) → costWith (viewFrom seat costs) l k 0 ≡ Of 0
   unfolding costWith lentView
-  none-paid l zero = refl
-  none-paid l (suc k) = rw (none-paid l k) (simp and-false)
+  none-paid l k = rw (none-paired l k)
 
   pub own-cost-lent : (u : Unit) → asNumber (costWith (viewFrom seat costs) (u .values) (seat .own - 1) (getD (u .values) (seat .own - 1) 0)) ≡ ownCost (viewFrom seat costs) u
   own-cost-lent u = ap (λ (k : ℕ). asNumber (costWith (viewFrom seat costs) (u .values) k (getD (u .values) k 0))) (sym place-lent)

@@ -44,7 +44,7 @@ placeAt k sizes l j = cond (ltb j k) (isValue (getD sizes j 0) (getD l j 0)) (eq
 unfoldable pub filledTo : ℕ → List ℕ → List ℕ → Bool
 filledTo k sizes l = every (placeAt k sizes l) places
 
--- 01: "A bound is at most 7,200,000 with best filled for all n and zero after"
+-- 01: "A bound is at most" the limit "with best filled for all n and zero after"; 02, job 7: "The limit on bounds and totals .. becomes 8,160,000"
 unfoldable pub boundGood : ℕ → List ℕ → ℕ → List ℕ → Bool
 boundGood n sizes bound best = leb bound totalLimit && filledTo n sizes best
 

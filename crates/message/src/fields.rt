@@ -173,7 +173,7 @@ pub fn prefix_limit(k: u8) -> u32
         return 0;
     }
     let wide = k as u32;
-    base::PREFIX_FACTOR * wide * (wide - 1)
+    base::PREFIX_FACTOR * wide * (wide - 1) + base::UNARY_LIMIT * wide
 }
 
 // Whether a kind may carry this bound and best assignment.

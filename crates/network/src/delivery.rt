@@ -76,7 +76,7 @@ fn units_in_range(units: [Unit; 16], stream: &[u8]) -> bool
     requires { ⌜ Accepted (now stream) ⌝ }
     ensures { λ r. ⌜ r ≡ every (unitInRange (now (stream .entry)) units) (unitsOf (now (stream .entry))) ⌝ }
 {
-    let n = base::byte_at(stream, 0);
+    let n = table::units_of(stream);
     let sizes = costs::sizes_of(stream);
     let mut k: u8 = 0;
     while k < n {
@@ -107,7 +107,7 @@ fn hand_over(net: Network, stream: &[u8], pool: &mut [u8], cell: usize) -> Answe
 {
     let at = MESSAGE_SIZE * cell;
     let end = at + MESSAGE_SIZE;
-    let own = receiver(base::byte_at(stream, 0), &pool[at..end]);
+    let own = receiver(table::units_of(stream), &pool[at..end]);
     let core = net.core;
     let units = core.units;
     let u = units[(own - 1) as usize];
@@ -139,7 +139,7 @@ fn step(u: Unit, stream: &[u8], own: u8, packet: &[u8], out: &mut [u8]) -> Outco
     requires { ⌜ Stepping (now stream) own u × (sendingSize ≤ length (now out)) ⌝ }
     ensures { λ r. ⌜ Stepped (now (stream .entry)) own u (now (packet .entry)) (now (out .entry)) r (now (out .exit)) × SizedUnit u ⌝ }
 {
-    let n = base::byte_at(stream, 0);
+    let n = table::units_of(stream);
     let sizes = costs::sizes_of(stream);
     let mut costs = [0u8; base::COSTS_SIZE];
     let gathered = costs::gather(stream, own, &mut costs);

@@ -13,7 +13,7 @@ pub(crate) fn lend(stream: &[u8], out: &mut [u8]) -> [usize; 17]
     requires { ⌜ Accepted (now stream) × (lentSize ≤ length (now out)) ⌝ }
     ensures { λ r. ⌜ Lent (now (stream .entry)) r (now (out .exit)) ⌝ }
 {
-    let n = base::byte_at(stream, 0);
+    let n = table::units_of(stream);
     let mut costs = [0u8; base::COSTS_SIZE];
     let mut starts = [0usize; 17];
     let mut at = 0;

@@ -51,7 +51,7 @@ fn first_step(stream: &[u8], pool: &mut [u8]) -> Outcome
     requires { ⌜ Accepted (now stream) × (poolSize ≤ length (now pool)) ⌝ }
     ensures { λ r. ⌜ (r ≡ outcomeOf (unitsOf (now (stream .entry))) 0 noUnit (assign (viewOf (instanceOf (now (stream .entry))) 0) fresh)) × (now (pool .exit) ≡ bytesOf (unitsOf (now (stream .entry))) 0 (now (pool .entry)) (assign (viewOf (instanceOf (now (stream .entry))) 0) fresh)) ⌝ }
 {
-    let n = base::byte_at(stream, 0);
+    let n = table::units_of(stream);
     let sizes = costs::sizes_of(stream);
     let mut costs = [0u8; base::COSTS_SIZE];
     let gathered = costs::gather(stream, 1, &mut costs);

@@ -40,7 +40,7 @@ fn run(stream: &[u8], net: Network, pool: &mut [u8]) -> Network
     requires { ⌜ Begun (now stream) net (now pool) ⌝ }
     ensures { λ r. ⌜ Ended (now (stream .entry)) net (now (pool .entry)) r (now (pool .exit)) ⌝ }
 {
-    let n = base::byte_at(stream, 0);
+    let n = table::units_of(stream);
     let sizes = costs::sizes_of(stream);
     let mut lent = [0u8; LENT_SIZE];
     let starts = lend(stream, &mut lent);

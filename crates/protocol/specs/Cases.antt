@@ -22,11 +22,11 @@ after I cells =
 
 -- 01: "Table T: n = 2, sizes 2 and 2, costs 5, 3, 2, 4"
 abbrev T : Instance
-T = record { n = 2; dom = λ k. 2; cost = λ i u j v. Of (getD (5 ∷ 3 ∷ 2 ∷ 4 ∷ []) ((u - 1) * 2 + (v - 1)) 0) }
+T = record { n = 2; dom = λ k. 2; unary = λ k v. 0; cost = λ i u j v. Of (getD (5 ∷ 3 ∷ 2 ∷ 4 ∷ []) ((u - 1) * 2 + (v - 1)) 0) }
 
 -- three units of two values each: the costs of the pairs (1,2), (1,3), (2,3)
 abbrev three : Instance
-three = record { n = 3; dom = λ k. 2; cost = λ i u j v. Of (getD (1 ∷ 5 ∷ 3 ∷ 4 ∷ 0 ∷ 2 ∷ 0 ∷ 4 ∷ 0 ∷ 3 ∷ 3 ∷ 2 ∷ []) ((i + j - 1) * 4 + (u - 1) * 2 + (v - 1)) 0) }
+three = record { n = 3; dom = λ k. 2; unary = λ k v. 0; cost = λ i u j v. Of (getD (1 ∷ 5 ∷ 3 ∷ 4 ∷ 0 ∷ 2 ∷ 0 ∷ 4 ∷ 0 ∷ 3 ∷ 3 ∷ 2 ∷ []) ((i + j - 1) * 4 + (u - 1) * 2 + (v - 1)) 0) }
 
 -- 01's listing: cell 0 each time
 pub oldest-first : after T (0 ∷ 0 ∷ 0 ∷ 0 ∷ 0 ∷ 0 ∷ 0 ∷ 0 ∷ []) ≡ (true, 2, 1 ∷ 2 ∷ [], 5, 8)
@@ -52,14 +52,14 @@ late-estimate = refl
 
 -- T, with unit 1's value 2 forbidden beside unit 2's value 1: value 1 with 2 is the least
 abbrev barred : Instance
-barred = record { n = 2; dom = λ k. 2; cost = λ i u j v. cond (eqb u 2 && eqb v 1) Forbidden (T .cost i u j v) }
+barred = record { n = 2; dom = λ k. 2; unary = λ k v. 0; cost = λ i u j v. cond (eqb u 2 && eqb v 1) Forbidden (T .cost i u j v) }
 
 pub around-a-forbidden-pair : after barred (0 ∷ 0 ∷ 0 ∷ []) ≡ (true, 3, 2 ∷ 1 ∷ [], 3, 3)
 around-a-forbidden-pair = refl
 
 -- every pair is forbidden: no value of unit 1 has an h, so it stops when made, with none to report and no record
 abbrev none : Instance
-none = record { n = 2; dom = λ k. 2; cost = λ i u j v. Forbidden }
+none = record { n = 2; dom = λ k. 2; unary = λ k v. 0; cost = λ i u j v. Forbidden }
 
 pub stops-when-made : after none [] ≡ (true, NONE, [], 0, 0)
 stops-when-made = refl
@@ -67,10 +67,19 @@ stops-when-made = refl
 -- each value of unit 1 goes with some value of units 2 and 3, but none of these go together: unit 2's estimate is NONE, at which unit 1 gives up its
 -- value, first 1, then 2
 abbrev apart : Instance
-apart = record { n = 3; dom = λ k. 2; cost = λ i u j v. cond (eqb i 1) Forbidden (Of 1) }
+apart = record { n = 3; dom = λ k. 2; unary = λ k v. 0; cost = λ i u j v. cond (eqb i 1) Forbidden (Of 1) }
 
 pub none-left : after apart (1 ∷ 2 ∷ 3 ∷ 4 ∷ []) ≡ (true, NONE, [], 2, 4)
 none-left = refl
+
+-- ---- a table with unary costs
+
+-- T, where unit 1's value 2 costs 2 alone: value 1 with 2, at 3, is less than value 2 with 1, at 4
+abbrev priced : Instance
+priced = record { n = 2; dom = λ k. 2; unary = λ k v. cond (eqb k 0 && eqb v 2) 2 0; cost = T .cost }
+
+pub unary-cost-counts : after priced (0 ∷ 0 ∷ 0 ∷ []) ≡ (true, 3, 2 ∷ 1 ∷ [], 3, 3)
+unary-cost-counts = refl
 
 -- ---- a pool with too few cells
 
@@ -80,6 +89,7 @@ four =
     record {
       n = 4;
       dom = λ k. getD (2 ∷ 2 ∷ 2 ∷ 1 ∷ []) k 0;
+      unary = λ k v. 0;
       cost = λ i u j v.
           Of (getD (2 ∷ 2 ∷ 1 ∷ 0 ∷ 0 ∷ 0 ∷ 1 ∷ 0 ∷ 0 ∷ 0 ∷ 1 ∷ 0 ∷ 0 ∷ 0 ∷ 0 ∷ 0 ∷ 0 ∷ 0 ∷ 1 ∷ 0 ∷ 0 ∷ 0 ∷ 0 ∷ 0 ∷ 0 ∷ 0 ∷ 1 ∷ 0 ∷ []) ((2 * i + j - 1) * 4 + (u - 1) * 2 + (v - 1)) 0);
     }

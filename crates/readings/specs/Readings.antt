@@ -42,7 +42,7 @@ inLots cost u v = cond (eqb u v) cost 0
 
 -- n lines with their numbers of lots; the cost of lot u of line i with lot v of a later line j, never forbidden
 unfoldable pub linesOf : ℕ → List ℕ → List ℕ → Instance
-linesOf n sizes readings = record { n = n; dom = domIn n sizes; cost = λ i u j v. Of (inLots (gapCost (gap (readingAt readings i) (readingAt readings j))) u v) }
+linesOf n sizes readings = record { n = n; dom = domIn n sizes; unary = λ k v. 0; cost = λ i u j v. Of (inLots (gapCost (gap (readingAt readings i) (readingAt readings j))) u v) }
 
 -- 02: "Readings other than one a line are 6. A reading out of range is 17, found after 5 and 6 and before any cost is made; 13 comes last."
 unfoldable pub readingsRefusal : ℕ → List ℕ → List ℕ → ℕ → ℕ

@@ -24,7 +24,7 @@ use Rattle.costs.specs.Instance.{domIn, instanceOf}
 use Rattle.costs.specs.Laws.{Sound}
 use Rattle.costs.specs.Lent.Steps.{dom-at, dom-past-count}
 use Rattle.costs.specs.Streamed.{laterCosts, streamFor}
-use Rattle.costs.specs.Streamed.Laws.{stream-accepted, stream-cost}
+use Rattle.costs.specs.Streamed.Laws.{stream-accepted, stream-cost, stream-unary}
 use Rattle.readings.specs.Readings.{readingAt, gap, gapCost, inLots, linesOf, readingsRefusal, tableOf, tableInto}
 use Rattle.readings.specs.Checks.{allGood}
 use Rattle.readings.specs.Laws.{gap-cost-most}
@@ -57,6 +57,7 @@ module _ (n : ℕ) (sizes readings : List ℕ) (good : shapeGood n sizes ≡ tru
         n16 = shape-n n sizes good .1;
         dom1 = λ k h. size-in k h .0;
         dom16 = size-most;
+        unary-small = λ k v. omega arith;
         small = λ i u j v. in-lots-most (gapCost (gap (readingAt readings i) (readingAt readings j))) u v (gap-cost-most (gap (readingAt readings i) (readingAt readings j)));
       }
 
@@ -73,6 +74,10 @@ module _ (n : ℕ) (sizes readings : List ℕ) (good : shapeGood n sizes ≡ tru
       → instanceOf (streamFor (linesOf n sizes readings)) .cost i u j v ≡ Of (inLots (gapCost (gap (readingAt readings i) (readingAt readings j))) u v)
   unfolding linesOf
   lines-cost = stream-cost (linesOf n sizes readings) lines-sound no-more
+
+  -- no lot costs a line anything alone
+  pub lines-unary : (k v : ℕ) → instanceOf (streamFor (linesOf n sizes readings)) .unary k v ≡ 0
+  lines-unary = stream-unary (linesOf n sizes readings) lines-sound no-more
 
 -- ---- the stream's parts
 

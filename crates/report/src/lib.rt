@@ -61,7 +61,7 @@ fn print_found(stream: &[u8]) -> u8
     }
     print_total(found.total);
     let values = found.values;
-    list(base::byte_at(stream, 0), values);
+    list(table::units_of(stream), values);
     refusal
 }
 
@@ -77,7 +77,7 @@ fn print_run(stream: &[u8]) -> u8
         return refusal;
     }
     let net = answer.network;
-    print_network(base::byte_at(stream, 0), net);
+    print_network(table::units_of(stream), net);
     refusal
 }
 

@@ -55,8 +55,8 @@ withStopped z u = unit (u .threshold) (u .bound) (u .best) (u .estimates) (u .st
 abbrev pub ownValue : View → Unit → ℕ
 ownValue w u = getD (u .values) (w .place) 0
 
--- 01: "the own value's costs": with the values of the units before. 02, job 3: "A lent paper whose own value is barred with a filled one is out of
--- range": what is forbidden counts as NONE, which no paper costs
+-- 01: "the own value's costs": alone (02, job 7) and with the values of the units before. 02, job 3: "A lent paper whose own value is barred with
+-- a filled one is out of range": what is forbidden counts as NONE, which no paper costs
 abbrev pub ownCost : View → Unit → ℕ
 ownCost w u = asNumber (costWith w (u .values) (w .place) (ownValue w u))
 

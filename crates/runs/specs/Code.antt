@@ -153,7 +153,7 @@ receiver-range n bytes l = go (isUnit n (getD bytes 2 0)) refl
     go true e = unit-range n (getD bytes 2 0) e
     go false e = (omega arith, l)
 
--- ---- the gathered costs, in front of a buffer of 7,680 bytes or more
+-- ---- the gathered costs, in front of a buffer of 7,712 bytes or more
 
 module _ (s : List ℕ) (ok : Accepted s) (own : ℕ) (first : 1 ≤ own) (last : own ≤ unitsOf s) where
   pub lent-count : (room : ℕ) (g : Length) → costsSize ≤ room → g ≡ gatherOf s own room → g .length ≤ costsSize

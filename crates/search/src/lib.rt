@@ -4,15 +4,14 @@ use costs::Cost;
 ghost use mathlib.Core.Path.{_≡_};
 ghost use Prim.Native.Nat.{_+_, _*_, _-_, _≤_, _<_};
 ghost use lib.Dec.{ltb};
-ghost use lib.ListN.{getD};
-ghost use Rattle.base.specs.Limits.{pairLimit, searchLimit};
-ghost use Rattle.table.specs.Stream.{unitsOf, Accepted};
+ghost use lib.ListN.{getD, length, replicate};
+ghost use Rattle.base.specs.Limits.{pairLimit, unaryLimit, searchLimit};
 ghost use Rattle.costs.specs.Cost.Laws.{AtMost};
 ghost use Rattle.costs.specs.Instance.{instanceOf, viewOf};
 ghost use Rattle.costs.specs.Bounds.{costWith};
 ghost use Rattle.search.specs.Search.{assignmentCount, searchOf};
 ghost use Rattle.search.specs.Best.{keep, bestFrom};
-ghost use Rattle.search.specs.Steps.{Filled, Filling, Adding, Extending};
+ghost use Rattle.search.specs.Steps.{Sized, Filled, Filling, Adding, Extending};
 
 // What the search gives: the refusal, or 0 with the least total and its first assignment, places past n zero; where there is none, NONE and zeros.
 #[repr(C)]
@@ -41,20 +40,21 @@ pub fn exhaustive(stream: &[u8]) -> Found
             values: none,
         };
     }
-    let n = byte(stream, 0);
-    if too_many(stream, n) {
+    let first = table::opening(stream) + 1;
+    let n = base::wide(table::units_of(stream));
+    if too_many(stream, first, n) {
         return Found {
             refusal: 16,
             total: 0,
             values: none,
         };
     }
-    let starts = pair_starts(stream, n);
+    let starts = cost_starts(stream, first, n);
     let nothing = Best {
         values: none,
         total: base::NONE,
     };
-    let best = extend(stream, &starts, n, 0, 0, none, nothing);
+    let best = extend(stream, first, &starts, n, 0, 0, none, nothing);
     let values = best.values;
     Found {
         refusal: 0,
@@ -63,15 +63,16 @@ pub fn exhaustive(stream: &[u8]) -> Found
     }
 }
 
-// Whether there are more than 1,048,576 assignments, forbidden ones counted; the product stops once it is above.
-fn too_many(stream: &[u8], n: usize) -> bool
-    requires { ⌜ Accepted (now stream) × (n ≡ unitsOf (now stream)) ⌝ }
+// Whether there are more than 1,048,576 assignments of n units, whose sizes begin at byte `first`, forbidden ones counted; the product
+// stops once it is above.
+fn too_many(stream: &[u8], first: usize, n: usize) -> bool
+    requires { ⌜ Sized (now stream) first n ⌝ }
     ensures { λ r. ⌜ r ≡ ltb searchLimit (assignmentCount (instanceOf (now (stream .entry)))) ⌝ }
 {
     let mut count = 1;
     let mut i = 0;
     while i < n {
-        count *= byte(stream, 1 + i);
+        count *= byte(stream, first + i);
         if base::SEARCH_LIMIT < count {
             return true;
         }
@@ -84,6 +85,7 @@ fn too_many(stream: &[u8], n: usize) -> bool
 // after these: each value of the next that is not forbidden with those before hands on to the one after it.
 fn extend(
     stream: &[u8],
+    first: usize,
     starts: &[u32],
     left: usize,
     level: usize,
@@ -91,13 +93,13 @@ fn extend(
     chosen: [u8; 16],
     b: Best,
 ) -> Best
-    requires { ⌜ Extending (now stream) (now starts) left level cost chosen ⌝ }
+    requires { ⌜ Extending (now stream) first (now starts) left level cost chosen ⌝ }
     ensures { λ r. ⌜ r ≡ bestFrom (instanceOf (now (stream .entry))) left level chosen b ⌝ }
 {
     if left == 0 {
         return better(b, cost, chosen);
     }
-    let d = byte(stream, 1 + level);
+    let d = byte(stream, first + level);
     let mut best = b;
     let mut v: usize = 1;
     while v <= d {
@@ -105,7 +107,8 @@ fn extend(
         let mut next = chosen;
         next[level] = v as u8;
         if let Cost::Of(more) = added_cost(stream, starts, level, d, chosen, v) {
-            best = extend(stream, starts, left - 1, level + 1, cost + more, next, best);
+            let sum = cost + more;
+            best = extend(stream, first, starts, left - 1, level + 1, sum, next, best);
         }
         v += 1;
     }
@@ -122,7 +125,7 @@ fn better(b: Best, total: u32, values: [u8; 16]) -> Best
     b
 }
 
-// The cost of value v of the unit at `level`, which has d values, with the values chosen before it: forbidden as soon as one pair is.
+// The cost of value v of the unit at `level`, which has d values, alone and with the values chosen before it: forbidden as soon as one pair is.
 fn added_cost(
     stream: &[u8],
     starts: &[u32],
@@ -132,10 +135,10 @@ fn added_cost(
     v: usize,
 ) -> Cost
     requires { ⌜ Adding (now stream) (now starts) level d chosen v ⌝ }
-    ensures { λ r. ⌜ (r ≡ costWith (viewOf (instanceOf (now (stream .entry))) level) chosen level v) × AtMost (pairLimit * level) r ⌝ }
+    ensures { λ r. ⌜ (r ≡ costWith (viewOf (instanceOf (now (stream .entry))) level) chosen level v) × AtMost (unaryLimit + pairLimit * level) r ⌝ }
 {
     let column = 16 * level;
-    let mut sum: u32 = 0;
+    let mut sum = base::u16_at(stream, unary_place(starts[column + level], v));
     let mut i = 0;
     while i < level {
         let at = cost_place(starts[column + i], d, chosen[i], v);
@@ -149,6 +152,14 @@ fn added_cost(
     Cost::Of(sum)
 }
 
+// Where the unary cost of value v stands, of a unit whose unary costs begin at `start`.
+fn unary_place(start: u32, v: usize) -> usize
+    requires { ⌜ (1 ≤ v) × (v < 256) ⌝ }
+    ensures { λ r. ⌜ r ≡ start + 2 * (v - 1) ⌝ }
+{
+    start as usize + 2 * (v - 1)
+}
+
 // Where the cost of the values u and v stands, the second unit having d values, of a pair whose costs begin at `start`.
 fn cost_place(start: u32, d: usize, u: u8, v: usize) -> usize
     requires { ⌜ (d < 256) × (1 ≤ u) × (1 ≤ v) × (v < 256) ⌝ }
@@ -157,32 +168,52 @@ fn cost_place(start: u32, d: usize, u: u8, v: usize) -> usize
     start as usize + 2 * ((base::wide(u) - 1) * d + (v - 1))
 }
 
-// Where in the stream the costs of each pair of places i < j begin, at 16 × j + i.
-fn pair_starts(stream: &[u8], n: usize) -> [u32; 256]
-    requires { ⌜ Accepted (now stream) × (n ≡ unitsOf (now stream)) × (n ≤ 16) ⌝ }
+// Where in the stream the costs of each pair of places i < j begin, at 16 × j + i, and the unary costs of each place k, at 16 × k + k.
+fn cost_starts(stream: &[u8], first: usize, n: usize) -> [u32; 256]
+    requires { ⌜ Sized (now stream) first n ⌝ }
     ensures { λ r. ⌜ Filled (now (stream .entry)) 256 r ⌝ }
 {
-    let mut starts = [0u32; 256];
-    let mut at = 1 + n;
+    let end = stream.len() as u32;
+    let mut starts = [end; 256];
+    let mut at = fill_unaries(stream, first, n, &mut starts);
     let mut i = 0;
     while i < n {
-        at = fill_row(stream, n, i, at, &mut starts);
+        at = fill_row(stream, first, n, i, at, &mut starts);
         i += 1;
     }
     starts
 }
 
-// The starts of the pairs of place i, the first of which begins at `at`; gives where those of the next place begin.
-fn fill_row(stream: &[u8], n: usize, i: usize, at: usize, starts: &mut [u32]) -> usize
-    requires { ⌜ Filling (now stream) n i at (now starts) × (i < n) ⌝ }
-    ensures { λ r. ⌜ Filling (now (stream .entry)) n (i + 1) r (now (starts .exit)) ⌝ }
+// The starts of the unary costs of each place; gives where the pair costs begin. Form one has no unary costs: each place keeps the
+// stream's end, where zeros are read.
+fn fill_unaries(stream: &[u8], first: usize, n: usize, starts: &mut [u32]) -> usize
+    requires { ⌜ Sized (now stream) first n × (now starts ≡ replicate 256 (length (now stream))) ⌝ }
+    ensures { λ r. ⌜ Filling (now (stream .entry)) first n 0 r (now (starts .exit)) ⌝ }
 {
-    let d = byte(stream, 1 + i);
+    let mut at = first + n;
+    if first == 1 {
+        return at;
+    }
+    let mut i = 0;
+    while i < n {
+        starts[16 * i + i] = at as u32;
+        at += 2 * byte(stream, first + i);
+        i += 1;
+    }
+    at
+}
+
+// The starts of the pairs of place i, the first of which begins at `at`; gives where those of the next place begin.
+fn fill_row(stream: &[u8], first: usize, n: usize, i: usize, at: usize, starts: &mut [u32]) -> usize
+    requires { ⌜ Filling (now stream) first n i at (now starts) × (i < n) ⌝ }
+    ensures { λ r. ⌜ Filling (now (stream .entry)) first n (i + 1) r (now (starts .exit)) ⌝ }
+{
+    let d = byte(stream, first + i);
     let mut from = at;
     let mut j = i + 1;
     while j < n {
         starts[16 * j + i] = from as u32;
-        from += 2 * (d * byte(stream, 1 + j));
+        from += 2 * (d * byte(stream, first + j));
         j += 1;
     }
     from

@@ -24,6 +24,10 @@ fn main() {
     show(b"barred-five.table");
     show(b"none-three.table");
     show(b"none-at-once.table");
+    // unary costs, with barred pairs in the first; one unit, whose lots cost 7, 2 and 5
+    show(b"priced-five.table");
+    show(b"priced-three.table");
+    show(b"priced-one.table");
     // a size of 17
     show(b"bad.table");
     // 01's case 9: 5 records, 10 deliveries, the most allowed

@@ -140,7 +140,7 @@ read-accepted k last b h = rw (eq-eqb (blockRefusal k last b) 0 h)
 
 -- ---- a written block
 
-zeros : (n : ℕ) → allZero (replicate n 0) ≡ true
+pub zeros : (n : ℕ) → allZero (replicate n 0) ≡ true
 unfolding allZero
 zeros zero = refl
 zeros (suc n) = zeros n
@@ -229,7 +229,7 @@ unfolding allZero
 all-zero [] e = refl
 all-zero (x ∷ l) e = cc (eqb-true x 0 (and-left (eqb x 0) (allZero l) e), all-zero l (and-right (eqb x 0) (allZero l) e))
 
-zeros-are : (l : List ℕ) (n : ℕ) → allZero l ≡ true → length l ≡ n → replicate n 0 ≡ l
+pub zeros-are : (l : List ℕ) (n : ℕ) → allZero l ≡ true → length l ≡ n → replicate n 0 ≡ l
 zeros-are l n e h = rw (← h) (sym (all-zero l e))
 
 -- the parts of a body, each by its own equation

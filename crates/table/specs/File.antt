@@ -16,7 +16,7 @@ leaves refusal bytes out = cond (eqb refusal 0) (bytes ++ drop (length bytes) ou
 
 -- ---- read
 
--- 01, refusal 1: "0, no multiple of 512, or over 62,464"
+-- 01, refusal 1: "0, no multiple of 512, or over" the largest file; 02, job 7: "Check 1 and the buffer limit 13 use the larger sizes."
 abbrev pub sizeGood : ℕ → Bool
 sizeGood l = not (eqb l 0) && eqb (l % blockSize) 0 && leb l fileSize
 
@@ -33,7 +33,7 @@ joined (suc m) f = payloadOf (take blockSize f) ++ joined m (drop blockSize f)
 unfoldable pub streamOf : List ℕ → List ℕ
 streamOf f = joined (length f / blockSize) f
 
--- 01: "Table: 13 (reading), 1, then each block 4, 2, 3, then 5, 6, 7"; 13: "61,457 for a stream"
+-- 01: "Table: 13 (reading), 1, then each block 4, 2, 3, then 5, 6, 7"
 unfoldable pub readRefusal : List ℕ → ℕ → ℕ
 readRefusal f room =
     cond (ltb room streamSize) 13

@@ -141,8 +141,8 @@ size-tests true b c e = absurd (false≢true e)
 size-tests false false c e = absurd (false≢true e)
 size-tests false true c e = (refl, refl, e)
 
--- a good size is 512 for each of 1 to 122 blocks
-pub good-size : (l : ℕ) → sizeGood l ≡ true → (l ≡ blockSize * (l / blockSize)) × (1 ≤ l / blockSize) × (l / blockSize ≤ 122)
+-- a good size is 512 for each of 1 to 123 blocks
+pub good-size : (l : ℕ) → sizeGood l ≡ true → (l ≡ blockSize * (l / blockSize)) × (1 ≤ l / blockSize) × (l / blockSize ≤ 123)
 good-size l e =
     let t = size-tests (eqb l 0) (eqb (l % blockSize) 0) (leb l fileSize) e in
     let m = eqb-true (l % blockSize) 0 (t .1) in
@@ -169,13 +169,15 @@ module _ (f : List ℕ) (size : sizeGood (length f) ≡ true) (ok : blocksRefusa
 
 -- the costs of the stream by the file's bytes: a run of m whole ones in one block, and one that stands in two
 module _ (f : List ℕ) (count : ℕ) (v : Viewed true f count) where
-  pub run-in-block : (at m : ℕ) → at + 2 * m ≤ count → at % payloadSize + 2 * m ≤ payloadSize → costsGood f (placeInFile at) m ≡ costsGood (streamOf f) at m
-  run-in-block at m h l =
-      costs-same f (streamOf f) (placeInFile at) at m (λ i b. let e : placeInFile at + i ≡ placeInFile (at + i) = omega arith in rw e (sym (v .placed (at + i) (omega arith))))
+  pub run-in-block : (good : ℕ → Bool) (at m : ℕ) → at + 2 * m ≤ count → at % payloadSize + 2 * m ≤ payloadSize
+      → costsGood good f (placeInFile at) m ≡ costsGood good (streamOf f) at m
+  run-in-block good at m h l =
+      costs-same good f (streamOf f) (placeInFile at) at m (λ i b. let e : placeInFile at + i ≡ placeInFile (at + i) = omega arith in rw e (sym (v .placed (at + i) (omega arith))))
 
-  pub cost-in-two : (at a b : ℕ) → at + 2 ≤ count → a ≡ getD f (placeInFile at) 0 → b ≡ getD f (placeInFile (at + 1)) 0 → costsGood (a ∷ b ∷ []) 0 1 ≡ costsGood (streamOf f) at 1
+  pub cost-in-two : (good : ℕ → Bool) (at a b : ℕ) → at + 2 ≤ count → a ≡ getD f (placeInFile at) 0 → b ≡ getD f (placeInFile (at + 1)) 0
+      → costsGood good (a ∷ b ∷ []) 0 1 ≡ costsGood good (streamOf f) at 1
   unfolding costsGood
-  cost-in-two at a b h e g = rw (e, g, v .placed at (omega arith), v .placed (at + 1) (omega arith))
+  cost-in-two good at a b h e g = rw (e, g, v .placed at (omega arith), v .placed (at + 1) (omega arith))
 
 -- ---- the answers of readRefusal, in their order
 

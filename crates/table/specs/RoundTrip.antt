@@ -35,7 +35,7 @@ abbrev pub streamLeft : List ℕ → List ℕ → List ℕ
 streamLeft f out = take (readOf f (length out) .length) (readInto f out)
 
 -- what was given stands in front of what was there
-front-of : (refusal : ℕ) (bytes out : List ℕ) → refusal ≡ 0 → take (answer refusal (length bytes) .length) (leaves refusal bytes out) ≡ bytes
+pub front-of : (refusal : ℕ) (bytes out : List ℕ) → refusal ≡ 0 → take (answer refusal (length bytes) .length) (leaves refusal bytes out) ≡ bytes
 front-of refusal bytes out z = rw z (take-at bytes (drop (length bytes) out) (length bytes) refl)
 
 -- ---- a stream written and read back
@@ -79,9 +79,9 @@ joins-back (suc m) k s h =
     (take-append-drop payloadSize s)
 
 module _ (s : List ℕ) (ok : Accepted s) where
-  -- 1 to 122 blocks
-  blocks : (1 ≤ blocksFor (length s)) × (blocksFor (length s) ≤ 122)
-  blocks = let l = accepted-length s ok in let m = accepted-most s ok in (omega arith, omega arith)
+  -- 1 to 123 blocks
+  blocks : (1 ≤ blocksFor (length s)) × (blocksFor (length s) ≤ 123)
+  blocks = let m = accepted-most s ok in (omega (arith, accepted-length s ok), omega arith)
 
   written-blocks : length (fileOf s) / blockSize ≡ blocksFor (length s)
   written-blocks = rw (written-length s) (omega arith)
@@ -186,7 +186,7 @@ module _ (f : List ℕ) (ok : AcceptedFile f) (bytes : AllBytes f) where
   unfolding AcceptedFile
   passes = ok
 
-  size : (length f ≡ blockSize * (length f / blockSize)) × (1 ≤ length f / blockSize) × (length f / blockSize ≤ 122)
+  size : (length f ≡ blockSize * (length f / blockSize)) × (1 ≤ length f / blockSize) × (length f / blockSize ≤ 123)
   size = good-size (length f) (read-size f streamSize passes)
 
   same-blocks : blocksFor (length (streamOf f)) ≡ length f / blockSize

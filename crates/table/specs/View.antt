@@ -6,7 +6,9 @@ use mathlib.Core.Bool.{Bool, true, false}
 use mathlib.Core.List.{List}
 use mathlib.Core.Path.{_≡_}
 use lib.ListN.{length, getD}
-use Rattle.base.specs.Limits.{blockSize, payloadSize}
+use Rattle.base.specs.Limits.{places, blockSize, payloadSize}
+use Rattle.base.specs.Shape.{isValue, allInSixteen}
+use Rattle.table.specs.Stream.{unitsOf, sizesOf, unariesAt, streamRefusal}
 use Rattle.table.specs.File.{sizeGood, blocksRefusal, streamOf}
 
 -- a file whose blocks pass 1, 4, 2 and 3
@@ -29,6 +31,14 @@ placeIn true k = placeInFile k
 pub record Viewed (blocked : Bool) (b : List ℕ) (count : ℕ) : Type 0 where
   pub counted : length (streamIn blocked b) ≡ count
   pub placed : (k : ℕ) → k < count → getD (streamIn blocked b) k 0 ≡ getD b (placeIn blocked k) 0
+
+-- n and all sizes are there, and pass check 5
+abbrev pub Shaped : List ℕ → Type 0
+Shaped s = (isValue places (unitsOf s) ≡ true) × (allInSixteen (sizesOf s) ≡ true) × (unariesAt s ≤ length s)
+
+-- r is the refusal that n and the sizes alone give, or 0
+abbrev pub ShapeSays : ℕ → List ℕ → Type 0
+ShapeSays r s = (r ≡ 0 → Shaped s) × ((r ≡ 0 → ⊥) → r ≡ streamRefusal s)
 
 -- a run of r costs from byte k of the stream on stands in one block; or it is one cost, in two
 abbrev pub RunAt : ℕ → ℕ → Type 0

@@ -1,13 +1,17 @@
 // The stored table: blocks of 512 bytes, and the stream that their payloads join to.
 
+mod converter; // one form of a stored table turned into the other
+
 use base::BLOCK_SIZE;
 use base::CHECKED_SIZE;
 use base::FILE_SIZE;
+use base::FORM_TWO;
 use base::Length;
 use base::PAIR_LIMIT;
 use base::PAYLOAD_SIZE;
 use base::PLACES;
 use base::STREAM_SIZE;
+pub use converter::convert;
 ghost use mathlib.Core.Path.{_≡_};
 ghost use mathlib.Core.Bool.{true};
 ghost use mathlib.Core.List.{_++_};
@@ -18,13 +22,20 @@ ghost use Rattle.base.specs.Limits.{blockSize, checkedSize, pairLimit, payloadS
 ghost use Rattle.base.specs.Bytes.{le16};
 ghost use Rattle.base.specs.Put.{putAt};
 ghost use Rattle.base.specs.Shape.{allInSixteen};
-ghost use Rattle.table.specs.Stream.{pairsIn, costsGood, streamRefusal};
+ghost use Rattle.table.specs.Stream.{opening, unitsOf, sumList, pairsIn, pairGood, unaryGood, costsGood, streamRefusal};
+ghost use Rattle.table.specs.StreamLaws.{within, testOf};
 ghost use Rattle.table.specs.Block.{payloadCount, payloadOf, countGood, allZero, blockRefusal, readBlockOf};
 ghost use Rattle.table.specs.Written.{blockOf};
 ghost use Rattle.table.specs.File.{sizeGood, blocksRefusal, streamOf, readRefusal, readOf, readInto, storeRefusal, storeOf, storeInto};
 ghost use Rattle.table.specs.Block.{blocksFor};
 ghost use Rattle.table.specs.Written.{fileFrom};
-ghost use Rattle.table.specs.View.{BlocksAccepted, streamIn, placeInFile, Viewed, RunAt};
+ghost use Rattle.table.specs.View.{BlocksAccepted, streamIn, placeInFile, Viewed, ShapeSays, RunAt};
+
+// The two forms of a stored table. 02, job 7: form two "opens with byte 200", and has unary costs.
+pub enum Form {
+    One,
+    Two,
+}
 
 // ---- public calls
 
@@ -100,29 +111,60 @@ pub fn stream_refusal(stream: &[u8]) -> u8
     view_refusal(stream, false, stream.len())
 }
 
-// Whether the `count` costs that stand in `bytes` from byte `from` on pass check 7; bytes past the end count as 0.
-pub fn costs_good(bytes: &[u8], from: usize, count: usize) -> bool
-    ensures { λ r. ⌜ r ≡ costsGood (now (bytes .entry)) from count ⌝ }
+// How many bytes of a stream stand before n: in form two the first, in form one none.
+pub fn opening(stream: &[u8]) -> usize
+    ensures { λ r. ⌜ (r ≡ opening (now (stream .entry))) × (r ≤ 1) ⌝ }
+{
+    view_opening(stream, false, stream.len())
+}
+
+// n of a stream; 0 where the stream ends before it.
+pub fn units_of(stream: &[u8]) -> u8
+    ensures { λ r. ⌜ r ≡ unitsOf (now (stream .entry)) ⌝ }
+{
+    base::byte_at(stream, opening(stream))
+}
+
+// Whether the `count` pair costs that stand in `bytes` from byte `from` on pass check 7; bytes past the end count as 0.
+pub fn pair_costs_good(bytes: &[u8], from: usize, count: usize) -> bool
+    ensures { λ r. ⌜ r ≡ costsGood pairGood (now (bytes .entry)) from count ⌝ }
+{
+    costs_good(bytes, from, count, 1)
+}
+
+// The same of unary costs, none of which is forbidden.
+pub fn unary_costs_good(bytes: &[u8], from: usize, count: usize) -> bool
+    ensures { λ r. ⌜ r ≡ costsGood unaryGood (now (bytes .entry)) from count ⌝ }
+{
+    costs_good(bytes, from, count, 0)
+}
+
+// ---- costs
+
+// Whether costs pass check 7: pair costs, where the lift is 1, or unary costs, where it is 0. The limit is one number for both.
+fn costs_good(bytes: &[u8], from: usize, count: usize, lift: u32) -> bool
+    requires { ⌜ lift ≤ 1 ⌝ }
+    ensures { λ r. ⌜ r ≡ costsGood (testOf lift) (now (bytes .entry)) from count ⌝ }
 {
     if bytes.len() <= from {
         return true;
     }
     let whole = smaller((bytes.len() - from) / 2, count);
     let end = from + 2 * whole;
-    highest(&bytes[from..end], whole) <= PAIR_LIMIT + 1
+    highest(&bytes[from..end], whole, lift) <= PAIR_LIMIT + lift
 }
 
-// The highest of the costs that the bytes hold, each one higher, so that the forbidden one, the last of 16 bits, comes round to 0.
+// The highest of the costs that the bytes hold, each lifted: pair costs by 1, so that the forbidden one, the last of 16 bits, comes round to 0.
 // No test ends the loop early, so that a compiler can compare many costs at once.
-fn highest(costs: &[u8], count: usize) -> u32
-    requires { ⌜ length (now costs) ≡ 2 * count ⌝ }
-    ensures { λ r. ⌜ costsGood (now (costs .entry)) 0 count ≡ leb r (pairLimit + 1) ⌝ }
+fn highest(costs: &[u8], count: usize, lift: u32) -> u32
+    requires { ⌜ (length (now costs) ≡ 2 * count) × (lift ≤ 1) ⌝ }
+    ensures { λ r. ⌜ costsGood (within lift) (now (costs .entry)) 0 count ≡ leb r (pairLimit + lift) ⌝ }
 {
     let mut most: u32 = 0;
     let mut i = 0;
     while i < count {
         let cost = base::wide_u32(costs[2 * i]) + 256 * base::wide_u32(costs[2 * i + 1]);
-        most = larger(most, (cost + 1) % 65536);
+        most = larger(most, (cost + lift) % 65536);
         i += 1;
     }
     most
@@ -183,7 +225,7 @@ fn read_refusal(file: &[u8], room: usize) -> u8
     view_refusal(file, true, stream_length(file))
 }
 
-// Whether a file's length is that of 1 to 122 blocks.
+// Whether a file's length is that of 1 to 123 blocks.
 fn size_good(length: usize) -> bool
     ensures { λ r. ⌜ r ≡ sizeGood length ⌝ }
 {
@@ -348,40 +390,74 @@ fn view_refusal(bytes: &[u8], blocked: bool, count: usize) -> u8
     requires { ⌜ Viewed blocked (now bytes) count ⌝ }
     ensures { λ r. ⌜ r ≡ streamRefusal (streamIn blocked (now (bytes .entry))) ⌝ }
 {
-    if count == 0 {
+    let before = view_opening(bytes, blocked, count);
+    let refusal = shape_refusal(bytes, blocked, count, before);
+    if refusal != 0 {
+        return refusal;
+    }
+    let n = view_byte(bytes, blocked, count, before);
+    let unaries = unaries_in(bytes, blocked, count, before, n);
+    let pairs = pairs_in(bytes, blocked, count, before + 1, n);
+    let unaries_at = before + 1 + n;
+    let pairs_at = unaries_at + 2 * unaries;
+    if count != pairs_at + 2 * pairs {
         return 6;
     }
-    let n = view_byte(bytes, blocked, count, 0);
-    if !base::is_value(PLACES, n) {
-        return 5;
+    if !view_costs_good(bytes, blocked, count, unaries_at, unaries, 0) {
+        return 7;
     }
-    if !sizes_good(bytes, blocked, count, n) {
-        return 5;
-    }
-    if count < 1 + n {
-        return 6;
-    }
-    let pairs = pairs_in(bytes, blocked, count, n);
-    if count != 1 + n + 2 * pairs {
-        return 6;
-    }
-    if !view_costs_good(bytes, blocked, count, 1 + n, pairs) {
+    if !view_costs_good(bytes, blocked, count, pairs_at, pairs, 1) {
         return 7;
     }
     0
 }
 
-// Whether the sizes that are present, of n, are 1 to 16.
-fn sizes_good(bytes: &[u8], blocked: bool, count: usize, n: usize) -> bool
-    requires { ⌜ Viewed blocked (now bytes) count × (n ≤ places) ⌝ }
-    ensures { λ r. ⌜ r ≡ allInSixteen (take n (drop 1 (streamIn blocked (now (bytes .entry))))) ⌝ }
+// How many bytes of the stream stand before n.
+fn view_opening(bytes: &[u8], blocked: bool, count: usize) -> usize
+    requires { ⌜ Viewed blocked (now bytes) count ⌝ }
+    ensures { λ r. ⌜ (r ≡ opening (streamIn blocked (now (bytes .entry)))) × (r ≤ 1) ⌝ }
+{
+    if count == 0 {
+        return 0;
+    }
+    if view_byte(bytes, blocked, count, 0) == FORM_TWO as usize {
+        return 1;
+    }
+    0
+}
+
+// The refusal 5 or 6 that n and the sizes alone give: those that are present are checked by 5, then all must be. Otherwise 0.
+fn shape_refusal(bytes: &[u8], blocked: bool, count: usize, before: usize) -> u8
+    requires { ⌜ Viewed blocked (now bytes) count × (before ≡ opening (streamIn blocked (now bytes))) × (before ≤ 1) ⌝ }
+    ensures { λ r. ⌜ ShapeSays r (streamIn blocked (now (bytes .entry))) ⌝ }
+{
+    if count <= before {
+        return 6;
+    }
+    let n = view_byte(bytes, blocked, count, before);
+    if !base::is_value(PLACES, n) {
+        return 5;
+    }
+    if !sizes_good(bytes, blocked, count, before + 1, n) {
+        return 5;
+    }
+    if count < before + 1 + n {
+        return 6;
+    }
+    0
+}
+
+// Whether the sizes that are present from byte `from` on, of n, are 1 to 16.
+fn sizes_good(bytes: &[u8], blocked: bool, count: usize, from: usize, n: usize) -> bool
+    requires { ⌜ Viewed blocked (now bytes) count × (from ≤ 2) × (n ≤ places) ⌝ }
+    ensures { λ r. ⌜ r ≡ allInSixteen (take n (drop from (streamIn blocked (now (bytes .entry))))) ⌝ }
 {
     let mut i = 0;
     while i < n {
-        if count <= 1 + i {
+        if count <= from + i {
             return true;
         }
-        if !base::is_value(PLACES, view_byte(bytes, blocked, count, 1 + i)) {
+        if !base::is_value(PLACES, view_byte(bytes, blocked, count, from + i)) {
             return false;
         }
         i += 1;
@@ -389,16 +465,41 @@ fn sizes_good(bytes: &[u8], blocked: bool, count: usize, n: usize) -> bool
     true
 }
 
-// How many costs the n sizes need.
-fn pairs_in(bytes: &[u8], blocked: bool, count: usize, n: usize) -> usize
-    requires { ⌜ Viewed blocked (now bytes) count × (n ≤ places) × (1 + n ≤ count) ⌝ }
-    ensures { λ r. ⌜ (r ≡ pairsIn (take n (drop 1 (streamIn blocked (now (bytes .entry)))))) × (r < 33554432) ⌝ }
+// How many unary costs the n sizes need: one for each value, and none in form one, where no byte stands before n.
+fn unaries_in(bytes: &[u8], blocked: bool, count: usize, before: usize, n: usize) -> usize
+    requires { ⌜ Viewed blocked (now bytes) count × (before ≤ 1) × (n ≤ places) × (before + 1 + n ≤ count) ⌝ }
+    ensures { λ r. ⌜ (r ≡ before * sumList (take n (drop (before + 1) (streamIn blocked (now (bytes .entry)))))) × (r ≤ 4080) ⌝ }
+{
+    if before == 0 {
+        return 0;
+    }
+    sum_sizes(bytes, blocked, count, before + 1, n)
+}
+
+// The n sizes from byte `from` on, added up.
+fn sum_sizes(bytes: &[u8], blocked: bool, count: usize, from: usize, n: usize) -> usize
+    requires { ⌜ Viewed blocked (now bytes) count × (from ≤ 2) × (n ≤ places) × (from + n ≤ count) ⌝ }
+    ensures { λ r. ⌜ (r ≡ sumList (take n (drop from (streamIn blocked (now (bytes .entry)))))) × (r ≤ 4080) ⌝ }
+{
+    let mut sum: usize = 0;
+    let mut i = 0;
+    while i < n {
+        sum += view_byte(bytes, blocked, count, from + i);
+        i += 1;
+    }
+    sum
+}
+
+// How many pair costs the n sizes from byte `from` on need.
+fn pairs_in(bytes: &[u8], blocked: bool, count: usize, from: usize, n: usize) -> usize
+    requires { ⌜ Viewed blocked (now bytes) count × (from ≤ 2) × (n ≤ places) × (from + n ≤ count) ⌝ }
+    ensures { λ r. ⌜ (r ≡ pairsIn (take n (drop from (streamIn blocked (now (bytes .entry)))))) × (r < 33554432) ⌝ }
 {
     let mut earlier: usize = 0;
     let mut pairs: usize = 0;
     let mut i = 0;
     while i < n {
-        let size = view_byte(bytes, blocked, count, 1 + i);
+        let size = view_byte(bytes, blocked, count, from + i);
         pairs += earlier * size;
         earlier += size;
         i += 1;
@@ -406,27 +507,34 @@ fn pairs_in(bytes: &[u8], blocked: bool, count: usize, n: usize) -> usize
     pairs
 }
 
-// Whether the costs from byte `from` of the stream on, its last bytes, are within the limit.
-fn view_costs_good(bytes: &[u8], blocked: bool, count: usize, from: usize, pairs: usize) -> bool
-    requires { ⌜ Viewed blocked (now bytes) count × (count ≡ from + 2 * pairs) × (count < 268435456) ⌝ }
-    ensures { λ r. ⌜ r ≡ costsGood (streamIn blocked (now (bytes .entry))) from pairs ⌝ }
+// Whether so many costs from byte `from` of the stream on pass check 7, by the lift.
+fn view_costs_good(
+    bytes: &[u8],
+    blocked: bool,
+    count: usize,
+    from: usize,
+    costs: usize,
+    lift: u32,
+) -> bool
+    requires { ⌜ Viewed blocked (now bytes) count × (from + 2 * costs ≤ count) × (count < 268435456) × (lift ≤ 1) ⌝ }
+    ensures { λ r. ⌜ r ≡ costsGood (testOf lift) (streamIn blocked (now (bytes .entry))) from costs ⌝ }
 {
     if blocked {
-        return file_costs_good(bytes, count, from, pairs);
+        return file_costs_good(bytes, count, from, costs, lift);
     }
-    costs_good(bytes, from, pairs)
+    costs_good(bytes, from, costs, lift)
 }
 
 // The same of a file, a run at a time of costs that stand in one block.
-fn file_costs_good(file: &[u8], count: usize, from: usize, pairs: usize) -> bool
-    requires { ⌜ Viewed true (now file) count × (count ≡ from + 2 * pairs) × (count < 268435456) ⌝ }
-    ensures { λ r. ⌜ r ≡ costsGood (streamOf (now (file .entry))) from pairs ⌝ }
+fn file_costs_good(file: &[u8], count: usize, from: usize, costs: usize, lift: u32) -> bool
+    requires { ⌜ Viewed true (now file) count × (from + 2 * costs ≤ count) × (count < 268435456) × (lift ≤ 1) ⌝ }
+    ensures { λ r. ⌜ r ≡ costsGood (testOf lift) (streamOf (now (file .entry))) from costs ⌝ }
 {
     let mut at = from;
-    let mut left = pairs;
+    let mut left = costs;
     while 0 < left {
         let run = run_at(at, left);
-        if !run_good(file, count, at, run) {
+        if !run_good(file, count, at, run, lift) {
             return false;
         }
         at += 2 * run;
@@ -447,19 +555,19 @@ fn run_at(at: usize, left: usize) -> usize
     smaller((PAYLOAD_SIZE - inside) / 2, left)
 }
 
-// Whether such a run of costs is within the limit.
-fn run_good(file: &[u8], count: usize, at: usize, run: usize) -> bool
-    requires { ⌜ Viewed true (now file) count × (at + 2 * run ≤ count) × (count < 268435456) × (1 ≤ run) × RunAt at run ⌝ }
-    ensures { λ r. ⌜ r ≡ costsGood (streamOf (now (file .entry))) at run ⌝ }
+// Whether such a run of costs passes check 7.
+fn run_good(file: &[u8], count: usize, at: usize, run: usize, lift: u32) -> bool
+    requires { ⌜ Viewed true (now file) count × (at + 2 * run ≤ count) × (count < 268435456) × (1 ≤ run) × RunAt at run × (lift ≤ 1) ⌝ }
+    ensures { λ r. ⌜ r ≡ costsGood (testOf lift) (streamOf (now (file .entry))) at run ⌝ }
 {
     if at % PAYLOAD_SIZE + 1 == PAYLOAD_SIZE {
         let cost = [
             base::byte_at(file, place_in_file(at)),
             base::byte_at(file, place_in_file(at + 1)),
         ];
-        return costs_good(&cost, 0, 1);
+        return costs_good(&cost, 0, 1, lift);
     }
-    costs_good(file, place_in_file(at), run)
+    costs_good(file, place_in_file(at), run, lift)
 }
 
 // Byte k of the stream.

@@ -30,14 +30,17 @@ near c =
     let m : c .before .before .before .before .before .before .before .before .args .v - 1 ≤ 254 = omega arith in
     (mul-le-mul (c .before .before .before .before .before .size-of .ensures .1) o, mul-le-mul m (c .size-of2 .ensures .1))
 
-mul-least-run : tie.Need-mul-least-run Inv-loop μ-loop
-mul-least-run c = omega (arith, near c)
+mul-start : tie.Need-mul-start Inv-loop μ-loop
+mul-start c = omega (arith, near c)
 
-mul-least-run-2 : tie.Need-mul-least-run-2 Inv-loop μ-loop
-mul-least-run-2 c = omega (arith, near c)
+add-start : tie.Need-add-start Inv-loop μ-loop
+add-start c = omega (arith, near c)
 
-add-least-run : tie.Need-add-least-run Inv-loop μ-loop
-add-least-run c = omega (arith, near c)
+mul-start-2 : tie.Need-mul-start-2 Inv-loop μ-loop
+mul-start-2 c = omega (arith, near c)
+
+add-start-2 : tie.Need-add-start-2 Inv-loop μ-loop
+add-start-2 c = omega (arith, near c)
 
 least-run-requires : tie.Need-least-run-requires Inv-loop μ-loop
 least-run-requires c κs = (omega (arith, near c), c .size-of2 .ensures .1)
@@ -99,10 +102,11 @@ least-runs-spec =
     (λ c. search needs)
     loop-holds
     (λ c κs. search needs)
-    mul-least-run
+    mul-start
+    add-start
     (λ c. search needs)
-    mul-least-run-2
-    add-least-run
+    mul-start-2
+    add-start-2
     least-run-requires
     (λ c κs. search needs)
     (λ c. search needs)

@@ -30,6 +30,9 @@ returns-3 c =
 mul-cost-number : tie.Need-mul-cost-number
 mul-cost-number c = let a = c .before .before .before .before .before .before .before .args in omega (arith, mul-le-mul (c .before .before .before .before .before .before .before .pre .0) (c .before .before .before .before .before .before .before .pre .2))
 
+add-cost-number : tie.Need-add-cost-number
+add-cost-number c = let a = c .before .before .before .before .before .before .before .args in omega (arith, mul-le-mul (c .before .before .before .before .before .before .before .pre .0) (c .before .before .before .before .before .before .before .pre .2))
+
 cost-number-requires : tie.Need-cost-number-requires
 cost-number-requires c κs =
     let z = c .before .before .before .before .before .before .before in
@@ -47,6 +50,9 @@ returns-4 c =
 
 mul-cost-number-2 : tie.Need-mul-cost-number-2
 mul-cost-number-2 c = let a = c .before .before .before .before .before .before .before .args in omega (arith, mul-le-mul (c .before .before .before .before .before .before .before .pre .0) (c .before .before .before .before .before .before .before .pre .2))
+
+add-cost-number-2 : tie.Need-add-cost-number-2
+add-cost-number-2 c = let a = c .before .before .before .before .before .before .before .args in omega (arith, mul-le-mul (c .before .before .before .before .before .before .before .pre .0) (c .before .before .before .before .before .before .before .pre .2))
 
 cost-number-requires-2 : tie.Need-cost-number-requires-2
 cost-number-requires-2 c κs =
@@ -74,8 +80,10 @@ pair-cost-spec =
     (λ c κs. search needs)
     returns-3
     mul-cost-number
+    add-cost-number
     cost-number-requires
     returns-4
     mul-cost-number-2
+    add-cost-number-2
     cost-number-requires-2
     returns-5)

@@ -11,7 +11,7 @@ use lib.Dec.{ltb, leb, eqb}
 use borrow.Author.Tests.{leb-true, leb-false, ltb-true, ltb-false, le-ltb, eqb-true, eqb-false, ne-eqb}
 use Rattle.base.specs.Sums as N
 use Rattle.base.specs.Limits.{NONE, pairLimit, forbiddenPair}
-use Rattle.table.specs.Stream.{costGood}
+use Rattle.table.specs.Stream.{pairGood}
 use Rattle.costs.specs.Cost.{Cost, Of, Forbidden, _⊕_, sumFrom, sumTo, lesser, least, below, asNumber, pairCost}
 
 -- ---- sums
@@ -336,8 +336,8 @@ pair-lesser x y p q = go (eqb x forbiddenPair) (eqb y forbiddenPair) refl refl
         rw (a, b, ne-eqb (min x y) forbiddenPair ne)
 
 -- a number that passes check 7 is forbidden, or a cost within the limit
-pub good-cost : (x : ℕ) → costGood x ≡ true → AtMost pairLimit (pairCost x)
-unfolding costGood
+pub good-cost : (x : ℕ) → pairGood x ≡ true → AtMost pairLimit (pairCost x)
+unfolding pairGood
 good-cost x e = go (eqb x forbiddenPair) (leb x pairLimit) refl refl e
   where
     go : (t r : Bool) → eqb x forbiddenPair ≡ t → leb x pairLimit ≡ r → (r || t) ≡ true → AtMost pairLimit (cond t Forbidden (Of x))

@@ -18,7 +18,7 @@ use Rattle.costs.specs.declared.Seat.{Seat}
 use Rattle.costs.specs.Lent.Parts.{domFrom}
 use Rattle.costs.specs.Instance.{otherStart}
 use Rattle.costs.specs.Lent.{lentCount}
-use Rattle.costs.specs.Laws.Stream.{accepted-fit}
+use Rattle.costs.specs.Laws.Stream.{accepted-fit, dom-most}
 use Rattle.costs.specs.Gather.Steps.{SeatIn}
 use Rattle.costs.specs.Gather.{sizesIn, gatherRefusal, gatherOf, gatherInto}
 use Rattle.costs.specs.Gathered.{gathered}
@@ -91,7 +91,7 @@ module _ (s : List ℕ) (own : ℕ) (l : List ℕ) where
 
 module _ (s : List ℕ) (seat : Seat) (units : seat .n ≡ unitsOf s) (array : seat .sizes ≡ sizesIn s) (ok : Accepted s) where
   pub seated : SeatIn s seat
-  seated = record { units = units; array = array; most = omega (arith, accepted-units s ok); long = accepted-fit s ok }
+  seated = record { units = units; array = array; most = omega (arith, accepted-units s ok); small = dom-most s ok; long = accepted-fit s ok }
 
   -- the costs that touch it are as many as the code counts
   pub gathered-count : 1 ≤ seat .own → seat .own ≤ unitsOf s → length (gathered s (seat .own)) ≡ 2 * lentCount (seat .own) (seat .n) (seat .sizes)

@@ -16,7 +16,7 @@ use Rattle.costs.specs.Cost.{Cost, Of, Forbidden, _⊕_, sumTo, least, a
 use Rattle.costs.specs.Instance.{Instance, viewOf}
 use Rattle.costs.specs.Bounds.{costWith, h, estimate, Permitted, Assignment, total, Reported}
 use Rattle.costs.specs.Problem.{InDomains, Full, Closed, closed-least}
-use Rattle.costs.specs.Cost.Laws.{add-comm, sumFrom-cong, sumTo-cong, least-cong, sums-number, sums-part, AtMost, number-below, number-is}
+use Rattle.costs.specs.Cost.Laws.{add-assoc, add-zero, add-comm, sumFrom-cong, sumTo-cong, least-cong, number-not-forbidden, sum-right, sum-number, sums-number, sums-part, AtMost, number-below, number-is}
 use Rattle.costs.specs.Laws.{Sound, against, costOf, hOf, lookaheadOf, estimateOf, problemOf, full-limit, permitted-below}
 
 -- ---- the first k places, the last first
@@ -63,16 +63,19 @@ module _ (I : Instance) (k : ℕ) where
   pair-after j u v l = let q : k ≤ j = omega arith in simp (le-ltb j k q)
 
   -- against an array, unit by unit
-  against-sum : (v m : ℕ) (l : List ℕ) → sumTo (λ j. I .cost j (getD l j 0) k v) m ≡ against I k v (pre m l)
-  against-sum v zero l = refl
+  against-sum : (v m : ℕ) (l : List ℕ) → Of (I .unary k v) ⊕ sumTo (λ j. I .cost j (getD l j 0) k v) m ≡ against I k v (pre m l)
+  against-sum v zero l = add-zero (Of (I .unary k v))
   against-sum v (suc m) l =
       rw (length-pre m l)
-      (ap (λ (x : Cost). x ⊕ I .cost m (getD l m 0) k v) (against-sum v m l) ∙ add-comm (against I k v (pre m l)) (I .cost m (getD l m 0) k v))
+      (sym (add-assoc (Of (I .unary k v)) (sumTo (λ j. I .cost j (getD l j 0) k v) m) (I .cost m (getD l m 0) k v))
+      ∙ ap (λ (x : Cost). x ⊕ I .cost m (getD l m 0) k v) (against-sum v m l) ∙ add-comm (against I k v (pre m l)) (I .cost m (getD l m 0) k v))
 
   pub cost-with-prefix : (values : List ℕ) (m v : ℕ) → m ≤ k → costWith (viewOf I k) values m v ≡ against I k v (pre m values)
   unfolding costWith
   cost-with-prefix values m v le =
-      sumTo-cong (λ j. viewOf I k .pair j (getD values j 0) v) (λ j. I .cost j (getD values j 0) k v) m (λ j l. pair-before j (getD values j 0) v (omega arith)) ∙ against-sum v m values
+      ap (λ (x : Cost). Of (I .unary k v) ⊕ x)
+      (sumTo-cong (λ j. viewOf I k .pair j (getD values j 0) v) (λ j. I .cost j (getD values j 0) k v) m (λ j l. pair-before j (getD values j 0) v (omega arith)))
+      ∙ against-sum v m values
 
   pub h-of-view : (v : ℕ) → h (viewOf I k) v ≡ hOf I k v
   unfolding h
@@ -96,7 +99,7 @@ module _ (I : Instance) (k : ℕ) where
 -- ---- assignments
 
 module _ (I : Instance) where
-  sum-of-prefix : (k : ℕ) (l : List ℕ) → sumTo (λ j. sumTo (λ i. I .cost i (getD l i 0) j (getD l j 0)) j) k ≡ costOf I (pre k l)
+  sum-of-prefix : (k : ℕ) (l : List ℕ) → sumTo (λ j. Of (I .unary j (getD l j 0)) ⊕ sumTo (λ i. I .cost i (getD l i 0) j (getD l j 0)) j) k ≡ costOf I (pre k l)
   sum-of-prefix zero l = refl
   sum-of-prefix (suc k) l = rw (length-pre k l, sum-of-prefix k l, against-sum I k (getD l k 0) k l)
 
@@ -108,14 +111,16 @@ module _ (I : Instance) where
   pub permitted-total : (l : List ℕ) → Permitted I l → total I l ≢ Forbidden
   unfolding total
   permitted-total l p =
-      sums-number (λ k. sumTo (λ i. I .cost i (getD l i 0) k (getD l k 0)) k) (I .n)
-      (λ k b. sums-number (λ i. I .cost i (getD l i 0) k (getD l k 0)) k (λ i a. p i k a b))
+      sums-number (λ k. Of (I .unary k (getD l k 0)) ⊕ sumTo (λ i. I .cost i (getD l i 0) k (getD l k 0)) k) (I .n)
+      (λ k b. sum-number (Of (I .unary k (getD l k 0))) (sumTo (λ i. I .cost i (getD l i 0) k (getD l k 0)) k) (number-not-forbidden (I .unary k (getD l k 0)))
+      (sums-number (λ i. I .cost i (getD l i 0) k (getD l k 0)) k (λ i a. p i k a b)))
 
   pub total-permitted : (l : List ℕ) → total I l ≢ Forbidden → Permitted I l
   unfolding total
   total-permitted l t i j a b =
       sums-part (λ i. I .cost i (getD l i 0) j (getD l j 0)) j
-      (sums-part (λ k. sumTo (λ i. I .cost i (getD l i 0) k (getD l k 0)) k) (I .n) t j b) i a
+      (sum-right (Of (I .unary j (getD l j 0))) (sumTo (λ i. I .cost i (getD l i 0) j (getD l j 0)) j)
+      (sums-part (λ k. Of (I .unary k (getD l k 0)) ⊕ sumTo (λ i. I .cost i (getD l i 0) k (getD l k 0)) k) (I .n) t j b)) i a
 
   pub prefix-in-dom : (k : ℕ) (l : List ℕ) → ((i : ℕ) → i < k → (1 ≤ getD l i 0) × (getD l i 0 ≤ I .dom i)) → InDomains (problemOf I) (pre k l)
   prefix-in-dom zero l a = tt

@@ -20,19 +20,23 @@ abbrev pub othersBefore : Seat → ℕ → ℕ
 othersBefore seat j = Number.sumTo (λ b. cond (eqb b (pred (seat .own))) 0 (domFrom seat b)) j
 
 -- the cost of own value v with value u of unit j, where the own unit, at place k, has d values and unit j has e,
--- and the others before unit j have `before` values together
+-- and the others before unit j have `before` values together; d unary costs stand in front
 abbrev pub pairFrom : List ℕ → ℕ → ℕ → ℕ → ℕ → ℕ → ℕ → ℕ → Cost
 pairFrom costs k j d e before u v =
-    cond (not (eqb j k) && isValue e u && isValue d v) (pairCost (costNumber costs (d * before + cond (ltb j k) (inPair d u v) (inPair e v u)))) (Of 0)
+    cond (not (eqb j k) && isValue e u && isValue d v) (pairCost (costNumber costs (d + d * before + cond (ltb j k) (inPair d u v) (inPair e v u)))) (Of 0)
 
 -- the least of the e costs from number `start` on
 abbrev pub leastRun : List ℕ → ℕ → ℕ → Cost
 leastRun costs start e = least (λ u. pairCost (costNumber costs (start + (u - 1)))) e
 
+-- where the run of own value v with the unit at place j starts
+abbrev pub runStart : Seat → ℕ → ℕ → ℕ
+runStart seat v j = domFrom seat (pred (seat .own)) + domFrom seat (pred (seat .own)) * othersBefore seat j + (v - 1) * domFrom seat j
+
 -- the runs of own value v with the units at place j and after, the least of each added up
 unfoldable pub runsFrom : Seat → List ℕ → ℕ → ℕ → Cost
 runsFrom seat costs v j =
-    sumFrom (λ i. leastRun costs (domFrom seat (pred (seat .own)) * othersBefore seat i + (v - 1) * domFrom seat i) (domFrom seat i)) j (seat .n - j)
+    sumFrom (λ i. leastRun costs (runStart seat v i) (domFrom seat i)) j (seat .n - j)
 
 -- the least, over own values up to d, of the cost with a prefix of k units and h
 unfoldable pub leastCost : View → List ℕ → ℕ → ℕ → Cost

@@ -16,12 +16,12 @@ use Rattle.base.specs.Sums as Number
 use Rattle.base.specs.Sums.Laws.{sumTo-cong, sumTo-sumFrom}
 use Rattle.base.specs.Shape.{isValue}
 use Rattle.base.specs.Shape.Laws.{range-value}
-use Rattle.costs.specs.Cost.{Cost, Of, Forbidden, _⊕_, lesser, least, pairCost}
-use Rattle.costs.specs.Cost.Laws.{sumFrom-cong, sum-forbidden}
-use Rattle.costs.specs.Instance.{View, domIn, inPair, costNumber, lentCost, lentView, viewFrom}
+use Rattle.costs.specs.Cost.{Cost, Of, Forbidden, _⊕_, sumTo, lesser, least, pairCost}
+use Rattle.costs.specs.Cost.Laws.{add-assoc as sum-assoc, add-zero, sumFrom-cong, sum-forbidden}
+use Rattle.costs.specs.Instance.{View, domIn, inPair, costNumber, lentUnary, lentCost, lentView, viewFrom}
 use Rattle.costs.specs.declared.Seat.{Seat}
 use Rattle.costs.specs.Bounds.{costWith, h, estimate}
-use Rattle.costs.specs.Lent.Parts.{othersBefore, pairFrom, leastRun, runsFrom, leastCost, domFrom}
+use Rattle.costs.specs.Lent.Parts.{othersBefore, pairFrom, leastRun, runStart, runsFrom, leastCost, domFrom}
 
 -- ---- domain sizes
 
@@ -68,10 +68,10 @@ module _ (costs : List ℕ) (k j d e before u v : ℕ) where
   pub pair-no-own : (j ≡ k → ⊥) → isValue e u ≡ true → isValue d v ≡ false → pairFrom costs k j d e before u v ≡ Of 0
   pair-no-own h a b = rw (ne-eqb j k h, a, b)
 
-  pub pair-lower : j < k → isValue e u ≡ true → isValue d v ≡ true → pairFrom costs k j d e before u v ≡ pairCost (costNumber costs (d * before + inPair d u v))
+  pub pair-lower : j < k → isValue e u ≡ true → isValue d v ≡ true → pairFrom costs k j d e before u v ≡ pairCost (costNumber costs (d + d * before + inPair d u v))
   pair-lower h a b = rw (ne-eqb j k (λ q. omega arith), a, b, lt-ltb j k h)
 
-  pub pair-higher : k < j → isValue e u ≡ true → isValue d v ≡ true → pairFrom costs k j d e before u v ≡ pairCost (costNumber costs (d * before + inPair e v u))
+  pub pair-higher : k < j → isValue e u ≡ true → isValue d v ≡ true → pairFrom costs k j d e before u v ≡ pairCost (costNumber costs (d + d * before + inPair e v u))
   pair-higher h a b = rw (ne-eqb j k (λ q. omega arith), a, b, le-ltb j k (omega arith))
 
 -- the view's pair cost is made of these
@@ -89,18 +89,23 @@ pair-from seat costs j u v = go (ltb j (seat .n)) refl
 
 -- ---- the cost with a prefix
 
-pub cost-none : (w : View) (values : List ℕ) (v : ℕ) → costWith w values 0 v ≡ Of 0
+pub unary-from : (seat : Seat) (costs : List ℕ) (v : ℕ) → viewFrom seat costs .unary v ≡ lentUnary (domFrom seat (pred (seat .own))) costs v
+unfolding lentView
+unary-from seat costs v = refl
+
+-- a prefix of no units leaves the unary cost
+pub cost-none : (w : View) (values : List ℕ) (v : ℕ) → costWith w values 0 v ≡ Of (w .unary v)
 unfolding costWith
-cost-none w values v = refl
+cost-none w values v = add-zero (Of (w .unary v))
 
 pub cost-more : (w : View) (values : List ℕ) (j v : ℕ) → costWith w values (j + 1) v ≡ costWith w values j v ⊕ w .pair j (getD values j 0) v
 unfolding costWith
-cost-more w values j v = rw add-one
+cost-more w values j v = rw add-one (sym (sum-assoc (Of (w .unary v)) (sumTo (λ i. w .pair i (getD values i 0) v) j) (w .pair j (getD values j 0) v)))
 
 -- forbidden as soon as one pair is
 pub cost-forbidden : (w : View) (values : List ℕ) (j k v : ℕ) → j < k → w .pair j (getD values j 0) v ≡ Forbidden → costWith w values k v ≡ Forbidden
 unfolding costWith
-cost-forbidden w values j k v l e = sum-forbidden (λ i. w .pair i (getD values i 0) v) j k l e
+cost-forbidden w values j k v l e = rw (sum-forbidden (λ i. w .pair i (getD values i 0) v) j k l e)
 
 -- ---- h
 
@@ -132,10 +137,10 @@ module _ (seat : Seat) where
   module _ (costs : List ℕ) (v : ℕ) where
     -- the costs of v with the values of a later unit are a run
     later-run : (j : ℕ) → pred (seat .own) < j → isValue (domFrom seat (pred (seat .own))) v ≡ true
-        → least (λ u. viewFrom seat costs .pair j u v) (domFrom seat j) ≡ leastRun costs (domFrom seat (pred (seat .own)) * othersBefore seat j + (v - 1) * domFrom seat j) (domFrom seat j)
+        → least (λ u. viewFrom seat costs .pair j u v) (domFrom seat j) ≡ leastRun costs (runStart seat v j) (domFrom seat j)
     later-run j a c =
         let d : ℕ = domFrom seat (pred (seat .own)) in
-        let start : ℕ = d * othersBefore seat j in
+        let start : ℕ = d + d * othersBefore seat j in
         least-same (λ u. viewFrom seat costs .pair j u v) (λ u. pairCost (costNumber costs (start + (v - 1) * domFrom seat j + (u - 1)))) (domFrom seat j)
         (λ u lo hi. pair-from seat costs j u v
         ∙ pair-higher costs (pred (seat .own)) j d (domFrom seat j) (othersBefore seat j) u v a (range-value (domFrom seat j) u lo hi) c
@@ -147,7 +152,7 @@ module _ (seat : Seat) where
     later-value c =
         rw add-one
         (sumFrom-cong (λ j. least (λ u. viewFrom seat costs .pair j u v) (domFrom seat j))
-        (λ j. leastRun costs (domFrom seat (pred (seat .own)) * othersBefore seat j + (v - 1) * domFrom seat j) (domFrom seat j)) (suc (pred (seat .own))) (seat .n - suc (pred (seat .own)))
+        (λ j. leastRun costs (runStart seat v j) (domFrom seat j)) (suc (pred (seat .own))) (seat .n - suc (pred (seat .own)))
         (λ j l m. later-run j l c))
 
     -- what is no value costs nothing, as in runs of no bytes
@@ -156,7 +161,7 @@ module _ (seat : Seat) where
     later-no-value x c =
         rw add-one
         (sumFrom-cong (λ j. least (λ u. viewFrom seat costs .pair j u v) (domFrom seat j))
-        (λ j. leastRun [] (domFrom seat (pred (seat .own)) * othersBefore seat j + (x - 1) * domFrom seat j) (domFrom seat j)) (suc (pred (seat .own))) (seat .n - suc (pred (seat .own)))
+        (λ j. leastRun [] (runStart seat x j) (domFrom seat j)) (suc (pred (seat .own))) (seat .n - suc (pred (seat .own)))
         (λ j l m. least-same _ _ (domFrom seat j) (λ u lo hi. simp (c, and-false))))
 
     -- the runs, unit by unit
@@ -165,7 +170,7 @@ module _ (seat : Seat) where
     runs-done j l = let e : seat .n - j ≡ 0 = omega arith in rw e
 
     pub runs-step : (j : ℕ) → j < seat .n
-        → runsFrom seat costs v j ≡ leastRun costs (domFrom seat (pred (seat .own)) * othersBefore seat j + (v - 1) * domFrom seat j) (domFrom seat j) ⊕ runsFrom seat costs v (j + 1)
+        → runsFrom seat costs v j ≡ leastRun costs (runStart seat v j) (domFrom seat j) ⊕ runsFrom seat costs v (j + 1)
     unfolding runsFrom
     runs-step j b = let e : seat .n - j ≡ suc (seat .n - (j + 1)) = omega arith in rw (e, add-one)
 

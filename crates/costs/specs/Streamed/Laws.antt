@@ -8,11 +8,11 @@ use mathlib.Core.Bool.{Bool, true, false}
 use mathlib.Core.List.{List, [], _∷_, _++_}
 use native.Mathlib.Omega.{arith}
 use native.Mathlib.Nat.{mul-comm, mul-assoc, suc-mul, zero-add, add-zero, le-refl, mul-le-mul}
-use lib.Dec.{ltb, eqb}
+use lib.Dec.{ltb}
 use lib.ListN.{length, getD, take, drop, length-append, List·getD-append, List·getD-eq-default}
 use lib.Seq.{getD-drop, getD-append-add, take-at, drop-at}
 use borrow.Author.Tests.{lt-ltb, ltb-true, ltb-false, ne-eqb}
-use Rattle.base.specs.Limits.{pairLimit}
+use Rattle.base.specs.Limits.{formTwo, pairLimit}
 use Rattle.base.specs.Bytes.{le16}
 use Rattle.base.specs.Bytes.Laws.{u16-of-le16}
 use Rattle.base.specs.Join.{joinTo}
@@ -21,8 +21,8 @@ use Rattle.base.specs.Shape.{isValue, allInSixteen}
 use Rattle.base.specs.Shape.Laws.{inSixteen, and-left, and-right, value-range, range-value}
 use Rattle.base.specs.Sums.{sumFrom, sumTo}
 use Rattle.base.specs.Sums.Laws.{sumTo-same, sumTo-scaled, sumTo-shifted}
-use Rattle.table.specs.Stream.{unitsOf, pairsIn, costGood, costsGood, Accepted}
-use Rattle.table.specs.StreamLaws.{costs-same, costs-split, good-small, good-forbidden, accepted-by-tests}
+use Rattle.table.specs.Stream.{inFormTwo, opening, unitsOf, afterUnits, sizesOf, unariesIn, pairsIn, unariesAt, pairsAt, pairGood, unaryGood, costsGood, Accepted}
+use Rattle.table.specs.StreamLaws.{opening-one, unaries-one, costs-same, costs-split, pair-small, pair-forbidden as forbidden-good, accepted-by-tests}
 use Rattle.costs.specs.Cost.{Cost, Of, Forbidden, pairCost}
 use Rattle.costs.specs.Cost.Laws.{AtMost, pair-forbidden, pair-number}
 use Rattle.costs.specs.Instance.{Instance, pairStart, costNumber, tableCost, instanceOf, domOf}
@@ -37,9 +37,9 @@ number-small (Of x) h = omega arith
 number-small Forbidden h = omega arith
 
 -- it passes check 7
-number-good : (c : Cost) → AtMost pairLimit c → costGood (pairNumber c) ≡ true
-number-good (Of x) h = good-small x h
-number-good Forbidden h = good-forbidden
+number-good : (c : Cost) → AtMost pairLimit c → pairGood (pairNumber c) ≡ true
+number-good (Of x) h = pair-small x h
+number-good Forbidden h = forbidden-good
 
 -- and stands for that cost
 number-cost : (c : Cost) → AtMost pairLimit c → pairCost (pairNumber c) ≡ c
@@ -122,38 +122,38 @@ module _ (I : Instance) (i j u v : ℕ) (order : i < j) (inside : j < I .n) (low
 -- ---- tests of joined lists
 
 -- costs within the limit, one list behind the other
-good-append : (a b : List ℕ) (m k : ℕ) → length a ≡ 2 * m → costsGood a 0 m ≡ true → costsGood b 0 k ≡ true → costsGood (a ++ b) 0 (m + k) ≡ true
+good-append : (a b : List ℕ) (m k : ℕ) → length a ≡ 2 * m → costsGood pairGood a 0 m ≡ true → costsGood pairGood b 0 k ≡ true → costsGood pairGood (a ++ b) 0 (m + k) ≡ true
 good-append a b m k l p q =
-    let x : costsGood (a ++ b) 0 m ≡ costsGood a 0 m = costs-same (a ++ b) a 0 0 m (λ i h. rw (zero-add i) (List·getD-append a b 0 i (omega arith))) in
-    let y : costsGood (a ++ b) (0 + 2 * m) k ≡ costsGood b 0 k = costs-same (a ++ b) b (0 + 2 * m) 0 k (λ i h. rw (zero-add i, zero-add (2 * m), ← l) (getD-append-add a b i 0)) in
-    costs-split (a ++ b) 0 m k ∙ rw (x, y, p, q)
+    let x : costsGood pairGood (a ++ b) 0 m ≡ costsGood pairGood a 0 m = costs-same pairGood (a ++ b) a 0 0 m (λ i h. rw (zero-add i) (List·getD-append a b 0 i (omega arith))) in
+    let y : costsGood pairGood (a ++ b) (0 + 2 * m) k ≡ costsGood pairGood b 0 k = costs-same pairGood (a ++ b) b (0 + 2 * m) 0 k (λ i h. rw (zero-add i, zero-add (2 * m), ← l) (getD-append-add a b i 0)) in
+    costs-split pairGood (a ++ b) 0 m k ∙ rw (x, y, p, q)
 
-good-join : (f : ℕ → List ℕ) (count : ℕ → ℕ) → ((k : ℕ) → length (f k) ≡ 2 * count k) → ((k : ℕ) → costsGood (f k) 0 (count k) ≡ true) → (m : ℕ) → costsGood (joinTo f m) 0 (sumTo count m) ≡ true
+good-join : (f : ℕ → List ℕ) (count : ℕ → ℕ) → ((k : ℕ) → length (f k) ≡ 2 * count k) → ((k : ℕ) → costsGood pairGood (f k) 0 (count k) ≡ true) → (m : ℕ) → costsGood pairGood (joinTo f m) 0 (sumTo count m) ≡ true
 unfolding costsGood
 good-join f count sized good zero = refl
 good-join f count sized good (suc m) =
     good-append (joinTo f m) (f m) (sumTo count m) (count m) (length-join f (λ k. 2 * count k) sized m ∙ sumTo-scaled 2 count m) (good-join f count sized good m) (good m)
 
-good-one : (c : Cost) → AtMost pairLimit c → costsGood (le16 (pairNumber c)) 0 1 ≡ true
+good-one : (c : Cost) → AtMost pairLimit c → costsGood pairGood (le16 (pairNumber c)) 0 1 ≡ true
 unfolding costsGood
 good-one c h = rw (u16-of-le16 (pairNumber c) (number-small c h), number-good c h)
 
 module _ (I : Instance) (small : (i u j v : ℕ) → AtMost pairLimit (I .cost i u j v)) where
-  row-good : (i j u : ℕ) → costsGood (rowCosts I i j u) 0 (I .dom j) ≡ true
+  row-good : (i j u : ℕ) → costsGood pairGood (rowCosts I i j u) 0 (I .dom j) ≡ true
   row-good i j u =
       let e : sumTo (λ v. 1) (I .dom j) ≡ I .dom j = sumTo-same 1 (I .dom j) ∙ omega arith in
       rw e at (good-join (λ v. le16 (pairNumber (I .cost i (suc u) j (suc v)))) (λ v. 1) (λ v. refl) (λ v. good-one (I .cost i (suc u) j (suc v)) (small i (suc u) j (suc v))) (I .dom j))
 
-  pair-good : (i j : ℕ) → costsGood (pairCosts I i j) 0 (I .dom i * I .dom j) ≡ true
+  pair-good : (i j : ℕ) → costsGood pairGood (pairCosts I i j) 0 (I .dom i * I .dom j) ≡ true
   pair-good i j = rw (sumTo-same (I .dom j) (I .dom i)) at (good-join (rowCosts I i j) (λ u. I .dom j) (row-length I i j) (row-good i j) (I .dom i))
 
-  later-good : (i : ℕ) → costsGood (laterCosts I i) 0 (I .dom i * sumFrom (I .dom) (suc i) (I .n - suc i)) ≡ true
+  later-good : (i : ℕ) → costsGood pairGood (laterCosts I i) 0 (I .dom i * sumFrom (I .dom) (suc i) (I .n - suc i)) ≡ true
   later-good i =
       let e : sumTo (λ k. I .dom i * I .dom (suc i + k)) (I .n - suc i) ≡ I .dom i * sumFrom (I .dom) (suc i) (I .n - suc i) =
       sumTo-scaled (I .dom i) (λ k. I .dom (suc i + k)) (I .n - suc i) ∙ ap (λ x. I .dom i * x) (sumTo-shifted (I .dom) (suc i) (I .n - suc i)) in
       rw e at (good-join (λ k. pairCosts I i (suc i + k)) (λ k. I .dom i * I .dom (suc i + k)) (λ k. pair-length I i (suc i + k)) (λ k. pair-good i (suc i + k)) (I .n - suc i))
 
-  all-good : costsGood (joinTo (laterCosts I) (I .n)) 0 (rowStart (I .dom) (I .n) (I .n)) ≡ true
+  all-good : costsGood pairGood (joinTo (laterCosts I) (I .n)) 0 (rowStart (I .dom) (I .n) (I .n)) ≡ true
   all-good = good-join (laterCosts I) (λ i. I .dom i * sumFrom (I .dom) (suc i) (I .n - suc i)) (later-length I) later-good (I .n)
 
 -- sizes in range, one list behind the other
@@ -186,40 +186,68 @@ module _ (I : Instance) (s : Sound I) (past : (k : ℕ) → I .n ≤ k → I .do
       sym (costs-count (sizesFor I)) ∙ ap (λ (f : ℕ → ℕ). rowStart f (length (sizesFor I)) (length (sizesFor I))) (fun-ext size-at)
       ∙ ap (λ (m : ℕ). rowStart (I .dom) m m) (sizes-length I)
 
+  -- it is of form one
+  pub stream-form : inFormTwo (streamFor I) ≡ false
+  unfolding streamFor
+  stream-form = ne-eqb (I .n) formTwo (λ e. omega (arith, s .n16))
+
+  begins : opening (streamFor I) ≡ 0
+  begins = opening-one (streamFor I) stream-form
+
   -- its parts
   pub stream-units : unitsOf (streamFor I) ≡ I .n
   unfolding streamFor
-  stream-units = refl
+  stream-units = ap (λ (o : ℕ). getD (I .n ∷ (sizesFor I ++ joinTo (laterCosts I) (I .n))) o 0) begins
 
-  sizes-there : take (I .n) (drop 1 (streamFor I)) ≡ sizesFor I
+  first-sizes : take (I .n) (drop 1 (streamFor I)) ≡ sizesFor I
   unfolding streamFor
-  sizes-there = take-at (sizesFor I) (joinTo (laterCosts I) (I .n)) (I .n) (sizes-length I)
+  first-sizes = take-at (sizesFor I) (joinTo (laterCosts I) (I .n)) (I .n) (sizes-length I)
 
-  costs-there : drop (1 + I .n) (streamFor I) ≡ joinTo (laterCosts I) (I .n)
+  sizes-there : sizesOf (streamFor I) ≡ sizesFor I
+  sizes-there = ap (λ (m : ℕ). take m (afterUnits (streamFor I))) stream-units ∙ ap (λ (o : ℕ). take (I .n) (drop (o + 1) (streamFor I))) begins ∙ first-sizes
+
+  unaries-begin : unariesAt (streamFor I) ≡ suc (I .n)
+  unaries-begin = omega (arith, begins, stream-units)
+
+  pairs-begin : pairsAt (streamFor I) ≡ suc (I .n)
+  pairs-begin = omega (arith, unaries-begin, unaries-one (streamFor I) stream-form)
+
+  last-costs : drop (suc (I .n)) (streamFor I) ≡ joinTo (laterCosts I) (I .n)
   unfolding streamFor
-  costs-there = let e : 1 + I .n ≡ suc (I .n) = omega arith in rw e (drop-at (sizesFor I) (joinTo (laterCosts I) (I .n)) (I .n) (sizes-length I))
+  last-costs = drop-at (sizesFor I) (joinTo (laterCosts I) (I .n)) (I .n) (sizes-length I)
+
+  costs-there : drop (pairsAt (streamFor I)) (streamFor I) ≡ joinTo (laterCosts I) (I .n)
+  costs-there = ap (λ (k : ℕ). drop k (streamFor I)) pairs-begin ∙ last-costs
 
   pub stream-length : length (streamFor I) ≡ 1 + I .n + 2 * rowStart (I .dom) (I .n) (I .n)
   unfolding streamFor
   stream-length = omega (arith, length-append (sizesFor I) (joinTo (laterCosts I) (I .n)), sizes-length I, costs-length I)
 
-  good-there : costsGood (streamFor I) (1 + I .n) (rowStart (I .dom) (I .n) (I .n)) ≡ true
+  good-there : costsGood pairGood (streamFor I) (pairsAt (streamFor I)) (rowStart (I .dom) (I .n) (I .n)) ≡ true
   good-there =
-      costs-same (streamFor I) (joinTo (laterCosts I) (I .n)) (1 + I .n) 0 (rowStart (I .dom) (I .n) (I .n))
-      (λ i h. rw (zero-add i) (sym (getD-drop (1 + I .n) (streamFor I) i 0) ∙ ap (λ (l : List ℕ). getD l i 0) costs-there))
+      costs-same pairGood (streamFor I) (joinTo (laterCosts I) (I .n)) (pairsAt (streamFor I)) 0 (rowStart (I .dom) (I .n) (I .n))
+      (λ i h. rw (zero-add i) (sym (getD-drop (pairsAt (streamFor I)) (streamFor I) i 0) ∙ ap (λ (l : List ℕ). getD l i 0) costs-there))
       ∙ all-good I (s .small)
+
+  unaries-there : costsGood unaryGood (streamFor I) (unariesAt (streamFor I)) (unariesIn (streamFor I)) ≡ true
+  unfolding costsGood
+  unaries-there = rw (unaries-one (streamFor I) stream-form)
 
   pub stream-accepted : Accepted (streamFor I)
   unfolding Accepted
   stream-accepted =
-      let some : eqb (length (streamFor I)) 0 ≡ false = ne-eqb (length (streamFor I)) 0 (λ e. omega (arith, stream-length)) in
+      let count : pairsIn (sizesOf (streamFor I)) ≡ rowStart (I .dom) (I .n) (I .n) = ap pairsIn sizes-there ∙ pairs-there in
       sym
-      (accepted-by-tests (streamFor I) (I .n) (sym stream-units) some (range-value 16 (I .n) (s .n1) (s .n16)) (rw sizes-there (sizes-in (I .n) (le-refl (I .n))))
-      (rw (sizes-there, pairs-there) stream-length) (rw (sizes-there, pairs-there) good-there))
+      (accepted-by-tests (streamFor I) (omega (arith, begins, stream-length)) (rw stream-units (range-value 16 (I .n) (s .n1) (s .n16)))
+      (rw sizes-there (sizes-in (I .n) (le-refl (I .n)))) (rw (pairs-begin, count) (omega (arith, stream-length))) unaries-there (rw count good-there))
 
   -- its instance
   pub stream-dom : domOf (streamFor I) ≡ I .dom
-  stream-dom = fun-ext (λ k. ap (λ (m : ℕ). getD (take m (drop 1 (streamFor I))) k 0) stream-units ∙ ap (λ (l : List ℕ). getD l k 0) sizes-there ∙ size-at k)
+  stream-dom = fun-ext (λ k. ap (λ (l : List ℕ). getD l k 0) sizes-there ∙ size-at k)
+
+  pub stream-unary : (k v : ℕ) → instanceOf (streamFor I) .unary k v ≡ 0
+  unfolding instanceOf
+  stream-unary k v = rw stream-form
 
   pub stream-cost : (i u j v : ℕ) → i < j → j < I .n → isValue (I .dom i) u ≡ true → isValue (I .dom j) v ≡ true → instanceOf (streamFor I) .cost i u j v ≡ I .cost i u j v
   unfolding instanceOf
@@ -230,6 +258,6 @@ module _ (I : Instance) (s : Sound I) (past : (k : ℕ) → I .n ≤ k → I .do
       let y : suc (v - 1) ≡ v = omega arith in
       let small : pairNumber (I .cost i (suc (u - 1)) j (suc (v - 1))) < 65536 = number-small (I .cost i (suc (u - 1)) j (suc (v - 1))) (s .small i (suc (u - 1)) j (suc (v - 1))) in
       let there = cost-there I i j (u - 1) (v - 1) order inside (omega arith) (omega arith) small in
-      ap (λ (f : ℕ → ℕ). tableCost (unitsOf (streamFor I)) f (drop (1 + unitsOf (streamFor I)) (streamFor I)) i u j v) stream-dom
-      ∙ ap (λ (m : ℕ). tableCost m (I .dom) (drop (1 + m) (streamFor I)) i u j v) stream-units ∙ ap (λ (l : List ℕ). tableCost (I .n) (I .dom) l i u j v) costs-there
+      ap (λ (f : ℕ → ℕ). tableCost (unitsOf (streamFor I)) f (drop (pairsAt (streamFor I)) (streamFor I)) i u j v) stream-dom
+      ∙ ap (λ (m : ℕ). tableCost m (I .dom) (drop (pairsAt (streamFor I)) (streamFor I)) i u j v) stream-units ∙ ap (λ (l : List ℕ). tableCost (I .n) (I .dom) l i u j v) costs-there
       ∙ rw (lt-ltb i j order, lt-ltb j (I .n) inside, p, q) (ap pairCost (rw (x, y) at there) ∙ number-cost (I .cost i u j v) (s .small i u j v))

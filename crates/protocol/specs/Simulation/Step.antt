@@ -46,11 +46,11 @@ use Rattle.protocol.specs.Simulation.Resume.{ReadyToAssign, assign-agree
 
 -- A unit without a value costs nothing.
 abbrev pub FreeWhenUnassigned : Instance → Type 0
-FreeWhenUnassigned I = (i u j : ℕ) → I .cost i u j 0 ≡ Of 0
+FreeWhenUnassigned I = ((j : ℕ) → I .unary j 0 ≡ 0) × ((i u j : ℕ) → I .cost i u j 0 ≡ Of 0)
 
 against-unassigned : (I : Instance) → FreeWhenUnassigned I → (j : ℕ) (b : List ℕ) → against I j 0 b ≡ Of 0
-against-unassigned I free j [] = refl
-against-unassigned I free j (u ∷ b) = rw (free (length b) u j, against-unassigned I free j b)
+against-unassigned I free j [] = ap (λ x. Of x) (free .0 j)
+against-unassigned I free j (u ∷ b) = rw (free .1 (length b) u j, against-unassigned I free j b)
 
 -- What the theory knows of its unit: it is good, and the message is valid.
 module _ (I : Instance) (free : FreeWhenUnassigned I) (laws : Laws (problemOf I)) (n16 : I .n ≤ 16) (k : ℕ) (k<n : k < I .n) (Past : History) (X : ℕ)

@@ -15,12 +15,12 @@ use Rattle.report.proofs.print_file.Tie as tie
 returns : tie.Need-returns
 returns c =
     let x = c .before .before .before in
-    unread (x .before .before .before .args .file .now) (replicate 61457 0) (x .read .result) (x .read .ensures .0) (length-replicate {A = ℕ} 61457 0) (refusalBy (x .before .before .before .args .settled)) (c .before .if1 .taken)
+    unread (x .before .before .before .args .file .now) (replicate 61970 0) (x .read .result) (x .read .ensures .0) (length-replicate {A = ℕ} 61970 0) (refusalBy (x .before .before .before .args .settled)) (c .before .if1 .taken)
 
 part-print-stream-end : tie.Need-part-print-stream-end
 part-print-stream-end c =
     let x = c .before .before .before in
-    let p = read-fits (x .before .before .before .args .file .now) (replicate 61457 0) (x .read .result) (x .read .ensures .0) (length-replicate {A = ℕ} 61457 0) (c .before .if1 .left) in
+    let p = read-fits (x .before .before .before .args .file .now) (replicate 61970 0) (x .read .result) (x .read .ensures .0) (length-replicate {A = ℕ} 61970 0) (c .before .if1 .left) in
     search needs
 
 returns-2 : tie.Need-returns-2
@@ -29,9 +29,9 @@ returns-2 c =
     let f = x .before .before .before .args .file .now in
     let h = c .before .before .before .if1 .left in
     let r = x .read .result in
-    let none : List ℕ = replicate 61457 0 in
-    let p : take (r .length - 0) (x .read .last .1 .0) ≡ streamOf f = rw sub-zero (read-front f none r (x .read .ensures .0) (length-replicate {A = ℕ} 61457 0) h (x .read .last .1 .0) (x .read .ensures .1)) in
-    read-report f none r (x .read .ensures .0) (length-replicate {A = ℕ} 61457 0) h (refusalBy (x .before .before .before .args .settled)) (c .print-stream .result) (take (r .length - 0) (x .read .last .1 .0)) p (c .print-stream .ensures)
+    let none : List ℕ = replicate 61970 0 in
+    let p : take (r .length - 0) (x .read .last .1 .0) ≡ streamOf f = rw sub-zero (read-front f none r (x .read .ensures .0) (length-replicate {A = ℕ} 61970 0) h (x .read .last .1 .0) (x .read .ensures .1)) in
+    read-report f none r (x .read .ensures .0) (length-replicate {A = ℕ} 61970 0) h (refusalBy (x .before .before .before .args .settled)) (c .print-stream .result) (take (r .length - 0) (x .read .last .1 .0)) p (c .print-stream .ensures)
 
 pub print-file-spec : {M : Type 1} → statement M
 print-file-spec =

@@ -10,7 +10,7 @@ use lib.Dec.{leb, eqb}
 use lib.ListN.{length, getD, set, length-set}
 use lib.Seq.{getD-set-same, getD-set-other}
 use borrow.Author.Tests.{eqb-true, eqb-false}
-use Rattle.base.specs.Limits.{estimateLimit, pairLimit, prefixLimit}
+use Rattle.base.specs.Limits.{estimateLimit, pairLimit, unaryLimit, prefixLimit}
 use Rattle.base.specs.Members.{Every}
 use Rattle.costs.specs.declared.Cost.{Cost}
 use Rattle.costs.specs.declared.Cost.the-variants.{Of}
@@ -18,6 +18,7 @@ use Rattle.costs.specs.Cost.{_⊕_, sumTo, below, asNumber}
 use Rattle.costs.specs.Cost.Laws.{AtMost, below-numbers, number-behind}
 use Rattle.costs.specs.Instance.{View}
 use Rattle.costs.specs.Bounds.{costWith, h}
+use Rattle.costs.specs.Laws.{limit-next, limit-total}
 use Rattle.costs.specs.Lent.Bounds.{cost-most}
 use Rattle.message.specs.Message.{filledTo, boundGood, noneOrBound}
 use Rattle.message.specs.Laws.{blank-filled, bound-by}
@@ -30,7 +31,7 @@ use Rattle.rules.specs.Tests.{isLast, costAt, tryValue, reachedBound}
 use Rattle.rules.specs.Send.{packets}
 use Rattle.rules.specs.Laws.Views.{GoodView, units-most, place-16, size-most}
 use Rattle.rules.specs.Laws.Stamps.{places-equal}
-use Rattle.rules.specs.Laws.Filled.{filled-own, filled-off, filled-most, zeros-at, set-most, good-or-none, bound-32, limit-next, limit-total}
+use Rattle.rules.specs.Laws.Filled.{filled-own, filled-off, filled-most, zeros-at, set-most, good-or-none, bound-32}
 use Rattle.rules.specs.Laws.Range.{SizedUnit, InRange, range-tests}
 use Rattle.rules.specs.Laws.Packets.{Sendable, Carries, Improved, forward-sendable, back-sendable, forward-few, back-few}
 
@@ -117,7 +118,7 @@ module _ (n : ℕ) (sizes : List ℕ) (w : View) (g : GoodView n sizes w) where
 
   cost-set : (l : List ℕ) (a x : ℕ) → costWith w (set l (w .place) a) (w .place) x ≡ costWith w l (w .place) x
   unfolding costWith
-  cost-set l a x = sum-set l a x (w .place) (w .place) (omega arith)
+  cost-set l a x = ap (λ (c : Cost). Of (w .unary x) ⊕ c) (sum-set l a x (w .place) (w .place) (omega arith))
 
   module _ (u : State) (v : ℕ) (i : InHand n sizes w u) (tried : u .counter ≤ v) (left : v < getD sizes (w .place) 0)
       (number : costWith w (u .values) (w .place) (suc v) ≡ Of (asNumber (costWith w (u .values) (w .place) (suc v)))) where
@@ -150,8 +151,8 @@ module _ (n : ℕ) (sizes : List ℕ) (w : View) (g : GoodView n sizes w) where
 
     cost-limit : next-cost ≤ prefixLimit (suc (w .place))
     cost-limit =
-        let paid : asNumber (costWith w (u .values) (w .place) (suc v)) ≤ pairLimit * w .place =
-        subst (λ c. AtMost (pairLimit * w .place) c) number (cost-most w (g .small) (u .values) (w .place) (suc v)) in
+        let paid : asNumber (costWith w (u .values) (w .place) (suc v)) ≤ unaryLimit + pairLimit * w .place =
+        subst (λ c. AtMost (unaryLimit + pairLimit * w .place) c) number (cost-most w (g .unary-small) (g .small) (u .values) (w .place) (suc v)) in
         omega (arith, i .cost, paid, next-is, limit-next (w .place))
 
     stamp-most : (j : ℕ) → j < 16 → getD (written .stamp) j 0 ≤ 16

@@ -1,17 +1,17 @@
 -- Stamps and values filled for the first units, with the own place set or cleared; the limits of what they hold; the limits of costs.
 -- Place by place, by message's laws of `filledTo`. Assumes nothing.
-use Prim.Native.Nat.{ℕ, zero, suc, _+_, _*_, _-_, _≤_, _<_}
+use Prim.Native.Nat.{ℕ, suc, _≤_, _<_}
 use mathlib.Core.Logic.{⊎-elim}
 use mathlib.Core.Path.{_≡_, refl, sym, _∙_}
 use mathlib.Core.Bool.{Bool, true, false, cond, _&&_}
 use mathlib.Core.List.{List}
 use native.Mathlib.Omega.{arith}
-use native.Mathlib.Nat.{eq-or-lt-of-le, mul-le-mul}
+use native.Mathlib.Nat.{eq-or-lt-of-le}
 use lib.Dec.{ltb, leb, eqb}
 use lib.ListN.{length, getD, set, getD-replicate}
 use lib.Seq.{getD-set-same, getD-set-other}
 use borrow.Author.Tests.{leb-true, le-leb, ltb-true, ltb-false, eqb-true, eqb-false}
-use Rattle.base.specs.Limits.{NONE, totalLimit, prefixLimit, prefixFactor, pairLimit}
+use Rattle.base.specs.Limits.{NONE, totalLimit}
 use Rattle.base.specs.Shape.Laws.{and-left}
 use Rattle.message.specs.Message.{filledTo, boundGood, noneOrBound}
 use Rattle.base.specs.Every.Laws.{every-at, every-by}
@@ -96,18 +96,3 @@ bound-32 n sizes bound best e = go (eqb bound NONE) refl e
     go : (t : Bool) → eqb bound NONE ≡ t → cond t (filledTo 0 sizes best) (leb bound totalLimit && filledTo n sizes best) ≡ true → bound < 4294967296
     go true q h = omega (arith, eqb-true bound NONE q)
     go false q h = omega (arith, leb-true bound totalLimit (and-left _ _ h))
-
--- ---- costs
-
--- one unit more
-limit-suc : (k : ℕ) → prefixLimit (suc k) ≡ prefixFactor * (suc k * k)
-limit-suc k = let e : suc k - 1 ≡ k = omega arith in rw e (omega arith)
-
-pub limit-next : (k : ℕ) → prefixLimit k + pairLimit * k ≤ prefixLimit (suc k)
-limit-next zero = omega arith
-limit-next (suc k) = omega (arith, limit-suc k, limit-suc (suc k))
-
--- of 16 units
-pub limit-total : (k : ℕ) → k ≤ 16 → prefixLimit k ≤ totalLimit
-limit-total zero h = omega arith
-limit-total (suc k) h = let l : k ≤ 15 = omega arith in let p : suc k * k ≤ 16 * 15 = mul-le-mul h l in omega (arith, limit-suc k)

@@ -13,6 +13,7 @@ use Rattle.base.specs.Limits.{NONE}
 use Rattle.base.specs.Sums.Laws.{sumFrom-part}
 use Rattle.costs.specs.declared.Cost.the-variants.{Forbidden}
 use Rattle.costs.specs.Cost.{asNumber}
+use Rattle.costs.specs.Laws.{limit-total}
 use Rattle.costs.specs.Cost.Laws.{add-forbidden}
 use Rattle.costs.specs.Instance.{View}
 use Rattle.costs.specs.Bounds.{costWith, h}
@@ -22,7 +23,6 @@ use Rattle.rules.specs.declared.Ordering.the-variants.{Equal}
 use Rattle.rules.specs.State.{ownValue, compareOn, sameOn, inRange}
 use Rattle.rules.specs.Step.{tryAfter, assign, isOut, onEstimate}
 use Rattle.rules.specs.Tests.{costAt, sumLater, stored}
-use Rattle.rules.specs.Laws.Filled.{limit-total}
 use Rattle.rules.specs.Laws.Range.{range-facts}
 
 -- 02: "if there are none, the value can't be written, even with no bound"

@@ -9,14 +9,14 @@ use lib.Dec.{ltb, leb}
 use lib.ListN.{length, getD}
 use lib.Seq.{getD-take}
 use borrow.Author.Tests.{leb-true}
-use Rattle.base.specs.Limits.{pairLimit}
+use Rattle.base.specs.Limits.{pairLimit, unaryLimit}
 use Rattle.base.specs.Shape.{shapeGood}
 use Rattle.base.specs.Shape.Laws.{shape-n, shape-size, and-left, and-right}
 use Rattle.costs.specs.Cost.Laws.{AtMost}
 use Rattle.costs.specs.Instance.{Instance, View, viewOf, lentView}
 use Rattle.costs.specs.Laws.{Sound}
 use Rattle.costs.specs.Lent.{lentRefusal}
-use Rattle.costs.specs.Lent.Bounds.{lent-pair-most}
+use Rattle.costs.specs.Lent.Bounds.{lent-unary-most, lent-pair-most}
 use Rattle.message.specs.Message.{isUnit}
 
 pub record GoodView (n : ℕ) (sizes : List ℕ) (w : View) : Type 0 where
@@ -25,6 +25,7 @@ pub record GoodView (n : ℕ) (sizes : List ℕ) (w : View) : Type 0 where
   pub units : w .n ≡ n
   pub place : w .place < n
   pub dom : w .dom (w .place) ≡ getD sizes (w .place) 0
+  pub unary-small : (v : ℕ) → w .unary v ≤ unaryLimit
   pub small : (j u v : ℕ) → AtMost pairLimit (w .pair j u v)
 
 module _ (n : ℕ) (sizes : List ℕ) (w : View) (g : GoodView n sizes w) where
@@ -51,6 +52,7 @@ lent-good own n sizes costs s l i r =
       units = refl;
       place = below;
       dom = getD-take n sizes (pred own) 0 below;
+      unary-small = lent-unary-most own n sizes costs r;
       small = lent-pair-most own n sizes costs r;
     }
   where
@@ -59,7 +61,7 @@ lent-good own n sizes costs s l i r =
 
 -- what a unit sees of a sound instance of these sizes
 pub view-good : (I : Instance) (sizes : List ℕ) (k : ℕ) → Sound I → shapeGood (I .n) sizes ≡ true → I .n ≤ length sizes → k < I .n → I .dom k ≡ getD sizes k 0 → GoodView (I .n) sizes (viewOf I k)
-view-good I sizes k s g l b d = record { shape = g; long = l; units = refl; place = b; dom = d; small = λ j u v. go (ltb j k) j u v }
+view-good I sizes k s g l b d = record { shape = g; long = l; units = refl; place = b; dom = d; unary-small = s .unary-small k; small = λ j u v. go (ltb j k) j u v }
   where
     go : (t : Bool) (j u v : ℕ) → AtMost pairLimit (cond t (I .cost j u k v) (I .cost k v j u))
     go true j u v = s .small j u k v

@@ -9,13 +9,13 @@ use mathlib.Core.List.{List, [], _∷_, _++_}
 use native.Mathlib.Omega.{arith}
 use native.Mathlib.Nat.{zero-add}
 use lib.Dec.{ltb}
-use lib.ListN.{length, getD, set, take, drop, replicate, length-append}
-use Rattle.table.specs.Stream.{unitsOf, Accepted}
+use lib.ListN.{length, set, replicate, length-append}
+use Rattle.table.specs.Stream.{inFormTwo, unitsOf, Accepted}
 use Rattle.table.specs.StreamLaws.{accepted-units}
 use Rattle.base.specs.Shape.{isValue}
 use Rattle.costs.specs.declared.Cost.{Cost}
 use Rattle.costs.specs.declared.Cost.the-variants.{Of}
-use Rattle.costs.specs.Instance.{viewOf, instanceOf}
+use Rattle.costs.specs.Instance.{viewOf, instanceOf, domOf}
 use Rattle.costs.specs.Laws.{laws-of, problemOf}
 use Rattle.costs.specs.Laws.Stream.{sound-of}
 use Rattle.costs.specs.Gather.{sizesIn}
@@ -58,8 +58,12 @@ packetBytes p = encode (p .kind) (p .message)
 -- a unit without a value costs nothing
 pub stream-free : (s : List ℕ) → FreeWhenUnassigned (instanceOf s)
 unfolding instanceOf
-stream-free s i u j = never _ (ltb i j) (ltb j (getD s 0 0)) (isValue (getD (take (getD s 0 0) (drop 1 s)) i 0) u)
+stream-free s = (λ j. no-value (inFormTwo s), λ i u j. never _ (ltb i j) (ltb j (unitsOf s)) (isValue (domOf s i) u))
   where
+    no-value : (t : Bool) → _≡_ {A = ℕ} (cond t 0 0) 0
+    no-value true = refl
+    no-value false = refl
+
     never : (x : Cost) (a b c : Bool) → cond (a && b && c && false) x (Of 0) ≡ Of 0
     never x true true true = refl
     never x true true false = refl

@@ -5,14 +5,14 @@ use Prim.Native.Nat.{ℕ, _+_, _-_, _≤_, _<_}
 use mathlib.Core.Path.{_≡_, sym, _∙_}
 use mathlib.Core.Logic.{⊎-elim}
 use native.Mathlib.Omega.{arith}
-use lib.ListN.{length, getD}
+use lib.ListN.{length}
 use borrow.Author.Needs.{needs}
 use Rattle.base.specs.Limits.{NONE}
 use Rattle.costs.specs.Cost.Laws.{most-is}
-use Rattle.costs.specs.Instance.{instanceOf, viewOf}
+use Rattle.costs.specs.Instance.{instanceOf, viewOf, domOf}
 use Rattle.costs.specs.Bounds.{costWith}
 use Rattle.search.specs.Best.{inTurn, bestFrom}
-use Rattle.search.specs.Steps.{withValue, in-turn-next, in-turn-done, best-of-values, best-full, cost-is-total, size-is-dom, next-most, forbidden-next, extending-next}
+use Rattle.search.specs.Steps.{withValue, in-turn-next, in-turn-done, best-of-values, best-full, cost-is-total, next-size, size-is-dom, next-most, forbidden-next, extending-next}
 use borrow.Fn.Kinds.{In}
 use borrow.Fn.PlainCycle.{Measures, is, falls, and}
 use Rattle.search.proofs.extend.Reads as extend
@@ -25,7 +25,7 @@ use Rattle.search.proofs.+extend.{statement}
 use Rattle.search.proofs.+extend.Tie.{close}
 
 abbrev μ-extend : Measures 2 extend-kinds.ps ℕ
-μ-extend κs a = a .1 .1 .0
+μ-extend κs a = a .1 .1 .1 .0
 
 abbrev extend-at : ℕ → In 2 extend-kinds.ps
 extend-at t = and 2 extend-kinds.ps (is 2 extend-kinds.ps μ-extend t) extend.Pre
@@ -34,10 +34,10 @@ abbrev extend-below : ℕ → In 2 extend-kinds.ps
 extend-below t = and 2 extend-kinds.ps (falls 2 extend-kinds.ps _<_ μ-extend t) extend.Pre
 
 abbrev extend-Inv-loop : extend-lts.InvT-loop
-extend-Inv-loop stream starts left level cost chosen d best₀ v₀ best v = (1 ≤ v) × (v ≤ d + 1) × (d < 256) × (d ≡ getD stream (1 + level) 0) × (bestFrom (instanceOf stream) left level chosen best₀ ≡ inTurn (withValue (instanceOf stream) left level chosen) v (d + 1 - v) best) × (best .total ≤ NONE)
+extend-Inv-loop stream first starts left level cost chosen d best₀ v₀ best v = (1 ≤ v) × (v ≤ d + 1) × (d < 256) × (d ≡ domOf stream level) × (bestFrom (instanceOf stream) left level chosen best₀ ≡ inTurn (withValue (instanceOf stream) left level chosen) v (d + 1 - v) best) × (best .total ≤ NONE)
 
 abbrev extend-μ-loop : extend-lts.MeasureT-loop
-extend-μ-loop stream starts left level cost chosen d best₀ v₀ best v = d + 1 - v
+extend-μ-loop stream first starts left level cost chosen d best₀ v₀ best v = d + 1 - v
 
 -- what each call asks and gives, the call of itself at a smaller measure
 abbrev said : ℕ → extend-lts.Claims
@@ -80,7 +80,7 @@ extend-loop-holds t c =
     let z = c .before .before .before .before in
     let a = z .args in
     let some = c .before .if1 .left in
-    let size = c .byte .ensures .0 in
+    let size = next-size (z .pre .1) (c .byte .result) some (c .byte .ensures .0) in
     (omega arith, omega arith, omega arith, size, best-of-values (instanceOf (a .stream .now)) (a .left) (a .level) (c .byte .result) (a .chosen) (a .b) some (size-is-dom (z .pre .1) (c .byte .result) some size), most t z)
 
 extend-cast-next : (t : ℕ) → extend-lts.Need-cast-next (said t) (extend-at t) extend.Post extend-Inv-loop extend-μ-loop
@@ -101,14 +101,14 @@ added t c = sym (c .added-cost .ensures .0)
 extend-enum-known-more : (t : ℕ) → extend-lts.Need-enum-known-more (said t) (extend-at t) extend.Post extend-Inv-loop extend-μ-loop
 extend-enum-known-more t c = search needs
 
+extend-add-sum : (t : ℕ) → extend-lts.Need-add-sum (said t) (extend-at t) extend.Post extend-Inv-loop extend-μ-loop
+extend-add-sum t c = omega (arith, most-is _ (c .before .more .given .0 .0) (c .before .before .before .added-cost .result) (c .before .more .given .1) (c .before .before .before .added-cost .ensures .1))
+
 extend-sub-extend : (t : ℕ) → extend-lts.Need-sub-extend (said t) (extend-at t) extend.Post extend-Inv-loop extend-μ-loop
 extend-sub-extend t c = search needs
 
 extend-add-extend : (t : ℕ) → extend-lts.Need-add-extend (said t) (extend-at t) extend.Post extend-Inv-loop extend-μ-loop
 extend-add-extend t c = search needs
-
-extend-add-extend-2 : (t : ℕ) → extend-lts.Need-add-extend-2 (said t) (extend-at t) extend.Post extend-Inv-loop extend-μ-loop
-extend-add-extend-2 t c = omega (arith, most-is _ (c .before .more .given .0 .0) (c .before .before .before .added-cost .result) (c .before .more .given .1) (c .before .before .before .added-cost .ensures .1))
 
 extend-extend-requires : (t : ℕ) → extend-lts.Need-extend-requires (said t) (extend-at t) extend.Post extend-Inv-loop extend-μ-loop
 extend-extend-requires t c κs =
@@ -176,9 +176,9 @@ pub +extend-spec : {M : Type 1} → statement M
     (extend-array-write-next t)
     (extend-added-cost-requires t)
     (extend-enum-known-more t)
+    (extend-add-sum t)
     (extend-sub-extend t)
     (extend-add-extend t)
-    (extend-add-extend-2 t)
     (extend-extend-requires t)
     (extend-enum-told t)
     (extend-add-v t)

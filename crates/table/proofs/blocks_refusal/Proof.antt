@@ -13,7 +13,7 @@ use Rattle.table.proofs.blocks_refusal.Tie as tie
 
 abbrev Inv-loop : tie.InvT-loop
 Inv-loop file blocks k₀ k =
-    (blocks ≡ length file / 512) × (length file ≡ 512 * blocks) × (blocks ≤ 122) × (k ≤ blocks)
+    (blocks ≡ length file / 512) × (length file ≡ 512 * blocks) × (blocks ≤ 123) × (k ≤ blocks)
     × (blocksRefusal 0 blocks file ≡ blocksRefusal k (blocks - k) (drop (512 * k) file))
 
 abbrev μ-loop : tie.MeasureT-loop

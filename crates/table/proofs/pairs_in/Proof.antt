@@ -14,13 +14,13 @@ use Rattle.table.proofs.pairs_in.Statement.{statement}
 use Rattle.table.proofs.pairs_in.Tie as tie
 
 abbrev Inv-loop : tie.InvT-loop
-Inv-loop bytes blocked count n earlier₀ pairs₀ i₀ earlier pairs i =
+Inv-loop bytes blocked count from n earlier₀ pairs₀ i₀ earlier pairs i =
     (i ≤ n) × (earlier ≤ 255 * i) × (pairs ≤ 1040400 * i)
-    × (earlier ≡ sumList (take i (take n (drop 1 (streamIn blocked bytes)))))
-    × (pairs ≡ pairsIn (take i (take n (drop 1 (streamIn blocked bytes)))))
+    × (earlier ≡ sumList (take i (take n (drop from (streamIn blocked bytes)))))
+    × (pairs ≡ pairsIn (take i (take n (drop from (streamIn blocked bytes)))))
 
 abbrev μ-loop : tie.MeasureT-loop
-μ-loop bytes blocked count n earlier₀ pairs₀ i₀ earlier pairs i = n - i
+μ-loop bytes blocked count from n earlier₀ pairs₀ i₀ earlier pairs i = n - i
 
 loop-holds : tie.Need-loop-holds Inv-loop μ-loop
 unfolding sumList pairsIn
@@ -52,15 +52,15 @@ loop-again c =
     let s = streamIn (st .args .blocked) (st .args .bytes .now) in
     let e = c .view-byte .ensures .0 in
     let h : l .i < st .args .n = omega arith in
-    let k : 1 + l .i < length s = omega (arith, st .pre .0 .counted) in
-    (omega arith, omega arith, omega arith, rw (sum-more s (st .args .n) (l .i) h k, ← e, ← l .inv .3), rw (pairs-more s (st .args .n) (l .i) h k, ← e, ← l .inv .3, ← l .inv .4))
+    let k : st .args .from + l .i < length s = omega (arith, st .pre .0 .counted) in
+    (omega arith, omega arith, omega arith, rw (sum-more s (st .args .from) (st .args .n) (l .i) h k, ← e, ← l .inv .3), rw (pairs-more s (st .args .from) (st .args .n) (l .i) h k, ← e, ← l .inv .3, ← l .inv .4))
 
 returns : tie.Need-returns Inv-loop μ-loop
 returns c =
     let st = c .before .before .before in
     let l = c .before .loop in
     let e : l .i ≡ st .args .n = omega arith in
-    (l .inv .4 ∙ rw (e, take-take (st .args .n) (st .args .n) (drop 1 (streamIn (st .args .blocked) (st .args .bytes .now))) (le-refl (st .args .n))), omega arith)
+    (l .inv .4 ∙ rw (e, take-take (st .args .n) (st .args .n) (drop (st .args .from) (streamIn (st .args .blocked) (st .args .bytes .now))) (le-refl (st .args .n))), omega arith)
 
 pub pairs-in-spec : {M : Type 1} → statement M
 pairs-in-spec =

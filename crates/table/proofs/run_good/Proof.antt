@@ -5,6 +5,7 @@ use mathlib.Core.Path.{_≡_, ap, _∙_}
 use native.Mathlib.Omega.{arith}
 use borrow.Author.Needs.{needs}
 use lib.ListN.{getD}
+use Rattle.table.specs.StreamLaws.{testOf}
 use Rattle.table.specs.FileLaws.{run-in-block, cost-in-two}
 use Rattle.table.proofs.run_good.Statement.{statement}
 use Rattle.table.proofs.run_good.Tie as tie
@@ -15,12 +16,12 @@ returns c =
     let one : st .args .run ≡ 1 = st .pre .4 .1 (omega arith) in
     let a = c .before .before .before .before .byte-at .ensures ∙ ap (λ (x : ℕ). getD (st .args .file .now) x 0) (c .before .before .before .before .before .place-in-file .ensures) in
     let b = c .before .before .byte-at2 .ensures ∙ ap (λ (x : ℕ). getD (st .args .file .now) x 0) (c .before .before .before .place-in-file2 .ensures) in
-    c .costs-good .ensures ∙ rw one (cost-in-two (st .args .file .now) (st .args .count) (st .pre .0) (st .args .at) (c .before .before .before .before .byte-at .result) (c .before .before .byte-at2 .result) (omega arith) a b)
+    c .costs-good .ensures ∙ rw one (cost-in-two (st .args .file .now) (st .args .count) (st .pre .0) (testOf (st .args .lift)) (st .args .at) (c .before .before .before .before .byte-at .result) (c .before .before .byte-at2 .result) (omega arith) a b)
 
 returns-2 : tie.Need-returns-2
 returns-2 c =
     let st = c .before .before .before .before in
-    c .costs-good2 .ensures ∙ rw (c .before .place-in-file3 .ensures) (run-in-block (st .args .file .now) (st .args .count) (st .pre .0) (st .args .at) (st .args .run) (st .pre .1) (st .pre .4 .0 (omega arith)))
+    c .costs-good2 .ensures ∙ rw (c .before .place-in-file3 .ensures) (run-in-block (st .args .file .now) (st .args .count) (st .pre .0) (testOf (st .args .lift)) (st .args .at) (st .args .run) (st .pre .1) (st .pre .4 .0 (omega arith)))
 
 pub run-good-spec : {M : Type 1} → statement M
 run-good-spec =

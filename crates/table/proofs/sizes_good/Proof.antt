@@ -15,38 +15,39 @@ use Rattle.table.proofs.sizes_good.Statement.{statement}
 use Rattle.table.proofs.sizes_good.Tie as tie
 
 abbrev Inv-loop : tie.InvT-loop
-Inv-loop bytes blocked count n i₀ i = (i ≤ n) × (allInSixteen (take n (drop 1 (streamIn blocked bytes))) ≡ allInSixteen (drop i (take n (drop 1 (streamIn blocked bytes)))))
+Inv-loop bytes blocked count from n i₀ i =
+    (i ≤ n) × (allInSixteen (take n (drop from (streamIn blocked bytes))) ≡ allInSixteen (drop i (take n (drop from (streamIn blocked bytes)))))
 
 abbrev μ-loop : tie.MeasureT-loop
-μ-loop bytes blocked count n i₀ i = n - i
+μ-loop bytes blocked count from n i₀ i = n - i
 
 returns : tie.Need-returns Inv-loop μ-loop
 returns c =
     let st = c .before .before .before .before in
     let l = c .before .before .loop in
-    sizes-end (streamIn (st .args .blocked) (st .args .bytes .now)) (st .args .n) (l .i) (l .inv .1) (omega (arith, st .pre .0 .counted))
+    sizes-end (streamIn (st .args .blocked) (st .args .bytes .now)) (st .args .from) (st .args .n) (l .i) (l .inv .1) (omega (arith, st .pre .0 .counted))
 
 returns-2 : tie.Need-returns-2 Inv-loop μ-loop
 returns-2 c =
     let st = c .before .before .before .before .before .before .before in
     let l = c .before .before .before .before .before .loop in
     let s = streamIn (st .args .blocked) (st .args .bytes .now) in
-    let e : inSixteen (getD s (1 + l .i) 0) ≡ false = ap inSixteen (sym (c .before .before .view-byte .ensures .0)) ∙ sym (c .before .is-value .ensures) ∙ not-true _ (c .if2 .taken) in
-    sizes-bad s (st .args .n) (l .i) (l .inv .1) (omega arith) (omega (arith, st .pre .0 .counted)) e
+    let e : inSixteen (getD s (st .args .from + l .i) 0) ≡ false = ap inSixteen (sym (c .before .before .view-byte .ensures .0)) ∙ sym (c .before .is-value .ensures) ∙ not-true _ (c .if2 .taken) in
+    sizes-bad s (st .args .from) (st .args .n) (l .i) (l .inv .1) (omega arith) (omega (arith, st .pre .0 .counted)) e
 
 loop-again : tie.Need-loop-again Inv-loop μ-loop
 loop-again c =
     let st = c .before .before .before .before .before .before .before in
     let l = c .before .before .before .before .before .loop in
     let s = streamIn (st .args .blocked) (st .args .bytes .now) in
-    let e : inSixteen (getD s (1 + l .i) 0) ≡ true = ap inSixteen (sym (c .before .before .view-byte .ensures .0)) ∙ sym (c .before .is-value .ensures) ∙ not-false _ (c .if2 .left) in
-    (omega arith, sizes-next s (st .args .n) (l .i) (l .inv .1) (omega arith) (omega (arith, st .pre .0 .counted)) e)
+    let e : inSixteen (getD s (st .args .from + l .i) 0) ≡ true = ap inSixteen (sym (c .before .before .view-byte .ensures .0)) ∙ sym (c .before .is-value .ensures) ∙ not-false _ (c .if2 .left) in
+    (omega arith, sizes-next s (st .args .from) (st .args .n) (l .i) (l .inv .1) (omega arith) (omega (arith, st .pre .0 .counted)) e)
 
 returns-3 : tie.Need-returns-3 Inv-loop μ-loop
 returns-3 c =
     let st = c .before .before .before in
     let l = c .before .loop in
-    sizes-end (streamIn (st .args .blocked) (st .args .bytes .now)) (st .args .n) (l .i) (l .inv .1) (omega arith)
+    sizes-end (streamIn (st .args .blocked) (st .args .bytes .now)) (st .args .from) (st .args .n) (l .i) (l .inv .1) (omega arith)
 
 pub sizes-good-spec : {M : Type 1} → statement M
 sizes-good-spec =

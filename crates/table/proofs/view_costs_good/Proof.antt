@@ -8,7 +8,7 @@ use Rattle.table.proofs.view_costs_good.Tie as tie
 file-costs-good-requires : tie.Need-file-costs-good-requires
 file-costs-good-requires c κs =
     let st = c .before .before in
-    (rw (c .if1 .taken) at (st .pre .0), st .pre .1, st .pre .2)
+    (rw (c .if1 .taken) at (st .pre .0), st .pre .1, st .pre .2, st .pre .3)
 
 returns : tie.Need-returns
 returns c = c .file-costs-good .ensures ∙ rw (c .before .if1 .taken)

@@ -12,10 +12,10 @@ use Rattle.costs.proofs.prefix.all_sizes.Statement.{statement}
 use Rattle.costs.proofs.prefix.all_sizes.Tie as tie
 
 abbrev Inv-loop : tie.InvT-loop
-Inv-loop stream m sum₀ i₀ sum i = (i ≤ m) × (sum ≡ sumFrom (domOf stream) 0 i) × (sum ≤ 255 * i)
+Inv-loop stream before m sum₀ i₀ sum i = (i ≤ m) × (sum ≡ sumFrom (domOf stream) 0 i) × (sum ≤ 255 * i)
 
 abbrev μ-loop : tie.MeasureT-loop
-μ-loop stream m sum₀ i₀ sum i = m - i
+μ-loop stream before m sum₀ i₀ sum i = m - i
 
 loop-again : tie.Need-loop-again Inv-loop μ-loop
 loop-again c =

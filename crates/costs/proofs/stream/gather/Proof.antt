@@ -16,7 +16,7 @@ returns c =
 gather-all-requires : tie.Need-gather-all-requires
 gather-all-requires c κs =
     let r = c .before .before .gather-refusal in
-    let n = c .before .before .before .before .byte-at in
+    let n = c .before .before .before .before .units-of in
     let sizes = c .before .before .before .sizes-of in
     let a = c .before .before .before .before .before .before .before .args in
     let g = gatherable (a .stream .now) (a .own) _ (sym (r .ensures) ∙ c .before .if1 .left) in

@@ -21,7 +21,7 @@ put-pair-requires c κs =
     let p = c .before .before .before .place-of in
     let s = c .before .before .before .before .before .before in
     let e : withOther (s .args .stream .now) (pred (s .args .seat .own)) (s .args .j) ≡ pairBytes (s .args .stream .now) (s .args .j) (pred (s .args .seat .own)) = with-before (s .args .stream .now) (pred (s .args .seat .own)) (s .args .j) (omega (arith, p .ensures .0)) in
-    (s .pre .0, s .pre .1 .are (s .args .j) (s .pre .3), s .pre .1 .most (s .args .j) (s .pre .3), omega arith, omega arith, rw (p .ensures .0) (rw e at (s .pre .4)))
+    (s .pre .0, s .pre .1 .are (s .args .j) (s .pre .3), omega (arith, s .pre .1 .most (s .args .j) (s .pre .3), s .pre .3, s .pre .0 .most), omega arith, omega arith, rw (p .ensures .0) (rw e at (s .pre .4)))
 
 returns-2 : tie.Need-returns-2
 returns-2 c =
@@ -39,7 +39,7 @@ put-pair-requires-2 c κs =
     let s = c .before .before .before .before .before .before in
     let e : withOther (s .args .stream .now) (pred (s .args .seat .own)) (s .args .j) ≡ pairBytes (s .args .stream .now) (pred (s .args .seat .own)) (s .args .j) = with-after (s .args .stream .now) (pred (s .args .seat .own)) (s .args .j) (omega (arith, p .ensures .0)) in
     let inside : p .result < s .args .seat .n = omega (arith, s .pre .2, p .ensures .0) in
-    (s .pre .0, s .pre .1 .are (p .result) inside, s .pre .1 .most (p .result) inside, omega arith, omega arith, rw (p .ensures .0) (rw e at (s .pre .4)))
+    (s .pre .0, s .pre .1 .are (p .result) inside, omega (arith, s .pre .1 .most (p .result) inside, s .pre .0 .most), omega arith, omega arith, rw (p .ensures .0) (rw e at (s .pre .4)))
 
 returns-3 : tie.Need-returns-3
 returns-3 c =

@@ -1,6 +1,6 @@
--- `row_starts` meets its contract. The loop's invariant: the sum is that of the rows passed, each of at most 255 times 16 times 255, and each
--- place passed holds where its row began. Assumes nothing.
-use Prim.Native.Nat.{_*_, _-_, _≤_, _<_}
+-- `row_starts` meets its contract. The loop's invariant: the next row begins behind those passed, each of at most 255 times 16 times 255 costs,
+-- and each place passed holds where its row begins. Assumes nothing.
+use Prim.Native.Nat.{_+_, _*_, _-_, _≤_, _<_}
 use mathlib.Core.Path.{_≡_, refl}
 use native.Mathlib.Omega.{arith}
 use native.Mathlib.Nat.{mul-le-mul}
@@ -14,42 +14,43 @@ use Rattle.costs.proofs.stream.row_starts.Statement.{statement}
 use Rattle.costs.proofs.stream.row_starts.Tie as tie
 
 abbrev Inv-loop : tie.InvT-loop
-Inv-loop seat count rows₀ sum₀ a₀ rows sum a = (count ≡ seat .n) × (a ≤ count) × (length rows ≡ 16) × (sum ≡ rowStart (domFrom seat) (seat .n) a) × (sum ≤ 1040400 * a) × RowsTo seat a rows
+Inv-loop seat from count rows₀ row₀ a₀ rows row a = (count ≡ seat .n) × (a ≤ count) × (length rows ≡ 16) × (row ≡ from + 2 * rowStart (domFrom seat) (seat .n) a) × (row ≤ 131072 + 2080800 * a) × RowsTo seat from a rows
 
 abbrev μ-loop : tie.MeasureT-loop
-μ-loop seat count rows₀ sum₀ a₀ rows sum a = count - a
+μ-loop seat from count rows₀ row₀ a₀ rows row a = count - a
 
 loop-holds : tie.Need-loop-holds Inv-loop μ-loop
-loop-holds c = (c .wide .ensures .0, omega arith, refl, refl, omega arith, rows-none (c .before .args .seat) _)
+loop-holds c = (c .wide .ensures .0, omega arith, refl, omega arith, omega (arith, c .before .pre .1), rows-none (c .before .args .seat) (c .before .args .from) _)
 
 array-write-rows : tie.Need-array-write-rows Inv-loop μ-loop
-array-write-rows c = omega (arith, c .before .before .before .pre, c .before .loop .inv .0, c .loop-test .taken)
+array-write-rows c = omega (arith, c .before .before .before .pre .0, c .before .loop .inv .0, c .loop-test .taken)
 
-mul-sum : tie.Need-mul-sum Inv-loop μ-loop
-mul-sum c =
-    let s : c .sum-sizes .result ≤ 4080 = omega arith in
-    let p = mul-le-mul (c .before .size-of .ensures .1) s in
-    omega arith
+-- a row is not long
+few : (c : tie.After-sum-sizes Inv-loop μ-loop) → c .before .size-of .result * c .sum-sizes .result ≤ 255 * 4080
+few c =
+    let s : c .sum-sizes .result ≤ 4080 = omega (arith, c .before .before .before .before .before .pre .0) in
+    mul-le-mul (c .before .size-of .ensures .1) s
 
-add-sum : tie.Need-add-sum Inv-loop μ-loop
-add-sum c =
-    let s : c .sum-sizes .result ≤ 4080 = omega arith in
-    let p = mul-le-mul (c .before .size-of .ensures .1) s in
-    omega arith
+mul-row : tie.Need-mul-row Inv-loop μ-loop
+mul-row c = omega (arith, few c)
+
+mul-row-2 : tie.Need-mul-row-2 Inv-loop μ-loop
+mul-row-2 c = omega (arith, few c)
+
+add-row : tie.Need-add-row Inv-loop μ-loop
+add-row c = omega (arith, few c)
 
 loop-again : tie.Need-loop-again Inv-loop μ-loop
 loop-again c =
-    let z : c .sum-sizes .result ≤ 4080 = omega arith in
-    let p = mul-le-mul (c .before .size-of .ensures .1) z in
     let l = c .before .before .before .loop in
-    let room : l .a < length (l .rows) = omega (arith, l .inv .2, c .before .before .before .before .before .pre, l .inv .0, c .before .before .loop-test .taken) in
-    let size : length (set (l .rows) (l .a) (l .sum)) ≡ 16 = rw length-set (l .inv .2) in (
+    let room : l .a < length (l .rows) = omega (arith, l .inv .2, c .before .before .before .before .before .pre .0, l .inv .0, c .before .before .loop-test .taken) in
+    let size : length (set (l .rows) (l .a) (l .row)) ≡ 16 = rw length-set (l .inv .2) in (
       l .inv .0,
       omega arith,
       size,
-      rw (l .inv .3, c .before .size-of .ensures .0, c .sum-sizes .ensures .0, l .inv .0, add-one),
-      omega arith,
-      rows-more (c .before .before .before .before .before .args .seat) (l .a) (l .sum) (l .rows) (l .inv .5) room (l .inv .3) (l .inv .4),
+      rw (l .inv .3, c .before .size-of .ensures .0, c .sum-sizes .ensures .0, l .inv .0, add-one) (omega arith),
+      omega (arith, few c),
+      rows-more (c .before .before .before .before .before .args .seat) (c .before .before .before .before .before .args .from) (l .a) (l .row) (l .rows) (l .inv .5) room (l .inv .3) (l .inv .4),
     )
 
 returns : tie.Need-returns Inv-loop μ-loop
@@ -73,8 +74,9 @@ row-starts-spec =
     (λ c. search needs)
     (λ c. search needs)
     (λ c κs. search needs)
-    mul-sum
-    add-sum
+    mul-row
+    mul-row-2
+    add-row
     (λ c. search needs)
     (λ c. search needs)
     loop-again

@@ -16,7 +16,7 @@ part-step-end c =
     let z = c .before .before .before .before .before .before .before .before .before in
     let s = z .args .stream .now in
     let g = c .before .before .gather in
-    let h : g .result .length ≤ 7680 = lent-count s (z .pre .0 .table) (z .args .own) (z .pre .0 .first) (z .pre .0 .last) 7680 (g .result) (omega arith) (g .ensures .0) in
+    let h : g .result .length ≤ 7712 = lent-count s (z .pre .0 .table) (z .args .own) (z .pre .0 .first) (z .pre .0 .last) 7712 (g .result) (omega arith) (g .ensures .0) in
     search needs
 
 -- what the type says of the state
@@ -30,10 +30,10 @@ returns c =
     let p = z .pre .0 in
     let g = c .before .before .before .before .before .before .before .gather in
     let front : take (g .result .length - 0) (drop 0 (g .last .1 .1 .0)) ≡ gathered (a .stream .now) (a .own) =
-    lent-front (a .stream .now) (p .table) (a .own) (p .first) (p .last) (replicate 7680 0) (g .last .1 .1 .0) (g .result) (omega (arith, length-replicate {A = ℕ} 7680 0)) (g .ensures .0) (g .ensures .1) in
+    lent-front (a .stream .now) (p .table) (a .own) (p .first) (p .last) (replicate 7712 0) (g .last .1 .1 .0) (g .result) (omega (arith, length-replicate {A = ℕ} 7712 0)) (g .ensures .0) (g .ensures .1) in
     let r = c .before .before .step in (
-      step-told (a .stream .now) (a .own) (a .u) p (c .before .before .before .before .before .before .before .before .before .before .byte-at .result) (c .before .before .before .before .before .before .before .before .before .sizes-of .result) (take (g .result .length - 0) (drop 0 (g .last .1 .1 .0))) (a .packet .now) (a .out .now) (r .last .1 .1 .1 .1 .1 .1 .0) (r .result)
-          (c .before .before .before .before .before .before .before .before .before .before .byte-at .ensures) (c .before .before .before .before .before .before .before .before .before .sizes-of .ensures) front (z .pre .1) (r .ensures .0) (r .ensures .1),
+      step-told (a .stream .now) (a .own) (a .u) p (c .before .before .before .before .before .before .before .before .before .before .units-of .result) (c .before .before .before .before .before .before .before .before .before .sizes-of .result) (take (g .result .length - 0) (drop 0 (g .last .1 .1 .0))) (a .packet .now) (a .out .now) (r .last .1 .1 .1 .1 .1 .1 .0) (r .result)
+          (c .before .before .before .before .before .before .before .before .before .before .units-of .ensures) (c .before .before .before .before .before .before .before .before .before .sizes-of .ensures) front (z .pre .1) (r .ensures .0) (r .ensures .1),
       arrays z,
     )
 

@@ -24,7 +24,7 @@ abbrev μ-loop : tie.MeasureT-loop
 loop-holds : tie.Need-loop-holds Inv-loop μ-loop
 loop-holds c =
     let s = c .before .before .before .args .stream .now in
-    let n : c .before .byte-at .result ≡ unitsOf s = c .before .byte-at .ensures in
+    let n : c .before .units-of .result ≡ unitsOf s = c .before .units-of .ensures in
     (omega arith, n, omega (arith, accepted-units s (c .before .before .before .pre) .1), c .sizes-of .ensures, refl)
 
 -- what the unit's own function said

@@ -15,7 +15,7 @@ use Rattle.network.proofs.lending.lend.Tie as tie
 
 abbrev Inv-loop : tie.InvT-loop
 Inv-loop stream out₀ n costs₀ starts₀ at₀ k₀ out costs starts at k =
-    (k ≤ n) × (n ≡ unitsOf stream) × (length costs ≡ 7680) × (length starts ≡ 17) × (length out ≡ length out₀) × (at ≡ length (lentTo stream k)) × Lending stream k starts out₀ out
+    (k ≤ n) × (n ≡ unitsOf stream) × (length costs ≡ 7712) × (length starts ≡ 17) × (length out ≡ length out₀) × (at ≡ length (lentTo stream k)) × Lending stream k starts out₀ out
 
 abbrev μ-loop : tie.MeasureT-loop
 μ-loop stream out₀ n costs₀ starts₀ at₀ k₀ out costs starts at k = n - k
@@ -28,7 +28,7 @@ module _ (c : tie.After-gather Inv-loop μ-loop) where
   ok : Accepted (c .before .before .before .before .before .before .before .args .stream .now)
   ok = c .before .before .before .before .before .before .before .pre .0
 
-  many : c .gather .result .length ≤ 7680
+  many : c .gather .result .length ≤ 7712
   many = lent-count (c .before .before .before .before .before .before .before .args .stream .now) ok (c .before .before .before .loop .k + 1) (omega arith) (omega (arith, next)) _ (c .gather .result) (omega (arith, c .before .before .before .loop .inv .2)) (c .gather .ensures .0)
 
   long : c .gather .result .length ≡ length (gathered (c .before .before .before .before .before .before .before .args .stream .now) (c .before .before .before .loop .k + 1))
@@ -39,7 +39,7 @@ module _ (c : tie.After-gather Inv-loop μ-loop) where
 
 loop-holds : tie.Need-loop-holds Inv-loop μ-loop
 unfolding lentTo
-loop-holds c = (omega arith, c .byte-at .ensures, refl, refl, refl, refl, lending-none (c .before .before .before .args .stream .now) _ (c .before .before .before .args .out .now) refl)
+loop-holds c = (omega arith, c .units-of .ensures, refl, refl, refl, refl, lending-none (c .before .before .before .args .stream .now) _ (c .before .before .before .args .out .now) refl)
 
 add-k : tie.Need-add-k Inv-loop μ-loop
 add-k c = let m = accepted-units (c .before .before .before .before .before .args .stream .now) (c .before .before .before .before .before .pre .0) .1 in record { fits = omega (arith, m, c .before .loop .inv .1, c .loop-test .taken) }
@@ -61,7 +61,7 @@ loop-again c =
     let l = c .before .before .before .before .before .before .before .before .before .before .loop in
     let g = c .before .before .before .before .before .before .before .gather in
     let t = take (g .result .length - 0) (drop 0 (g .last .1 .1 .0)) in
-    let room : 122880 ≤ length (l .out) = omega (arith, c .before .before .before .before .before .before .before .before .before .before .before .before .before .before .pre .1, l .inv .4) in
+    let room : 123392 ≤ length (l .out) = omega (arith, c .before .before .before .before .before .before .before .before .before .before .before .before .before .before .pre .1, l .inv .4) in
     let same : length (set (l .starts) (l .k + 1) (l .at + g .result .length)) ≡ 17 = rw length-set (l .inv .3) in (
       omega (arith, next (c .before .before .before .before .before .before .before), l .inv .1),
       l .inv .1,

@@ -16,7 +16,7 @@ part-make-end c =
     let z = c .before .before .before .before .before .before .before .before in
     let s = z .args .stream .now in
     let g = c .before .before .gather in
-    let h : g .result .length ≤ 7680 = lent-count s (z .pre .0) 1 (omega arith) (accepted-units s (z .pre .0) .0) 7680 (g .result) (omega arith) (g .ensures .0) in
+    let h : g .result .length ≤ 7712 = lent-count s (z .pre .0) 1 (omega arith) (accepted-units s (z .pre .0) .0) 7712 (g .result) (omega arith) (g .ensures .0) in
     search needs
 
 returns : tie.Need-returns
@@ -24,10 +24,10 @@ returns c =
     let z = c .before .before .before .before .before .before .before .before .before .before .before .before .before in
     let s = z .args .stream .now in
     let g = c .before .before .before .before .before .before .before .gather in
-    let front : take (g .result .length - 0) (drop 0 (g .last .1 .1 .0)) ≡ gathered s 1 = lent-front s (z .pre .0) 1 (omega arith) (accepted-units s (z .pre .0) .0) (replicate 7680 0) (g .last .1 .1 .0) (g .result) (omega (arith, length-replicate {A = ℕ} 7680 0)) (g .ensures .0) (g .ensures .1) in
+    let front : take (g .result .length - 0) (drop 0 (g .last .1 .1 .0)) ≡ gathered s 1 = lent-front s (z .pre .0) 1 (omega arith) (accepted-units s (z .pre .0) .0) (replicate 7712 0) (g .last .1 .1 .0) (g .result) (omega (arith, length-replicate {A = ℕ} 7712 0)) (g .ensures .0) (g .ensures .1) in
     let o = first-step s (z .args .pool .now) (z .pre .0) (length (z .args .pool .now)) (omega arith) in
     let m = c .before .before .make in
-    (m .ensures .0 ∙ rw (c .before .before .before .before .before .before .before .before .before .before .byte-at .ensures, c .before .before .before .before .before .before .before .before .before .sizes-of .ensures, front, o), m .ensures .1 ∙ rw (c .before .before .before .before .before .before .before .before .before .before .byte-at .ensures, c .before .before .before .before .before .before .before .before .before .sizes-of .ensures, front, o))
+    (m .ensures .0 ∙ rw (c .before .before .before .before .before .before .before .before .before .before .units-of .ensures, c .before .before .before .before .before .before .before .before .before .sizes-of .ensures, front, o), m .ensures .1 ∙ rw (c .before .before .before .before .before .before .before .before .before .before .units-of .ensures, c .before .before .before .before .before .before .before .before .before .sizes-of .ensures, front, o))
 
 pub first-step-spec : {M : Type 1} → statement M
 first-step-spec =

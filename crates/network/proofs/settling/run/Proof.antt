@@ -38,7 +38,7 @@ table : (c : tie.Start Inv-loop μ-loop) → Accepted (c .args .stream .now)
 table c = made-table (c .args .stream .now) (c .pre .pool) (record { refusal = 0; network = c .args .net }) (c .args .pool .now) (c .pre .gave) refl
 
 lend-requires : tie.Need-lend-requires Inv-loop μ-loop
-lend-requires c κs = let l = length-replicate {A = ℕ} 122880 0 in (table (c .before .before .before .before .before), omega (arith, l))
+lend-requires c κs = let l = length-replicate {A = ℕ} 123392 0 in (table (c .before .before .before .before .before), omega (arith, l))
 
 loop-holds : tie.Need-loop-holds Inv-loop μ-loop
 loop-holds c =
@@ -65,11 +65,11 @@ part-receiver-end c = let l = passed (c .before) .room in search needs
 module _ (c : tie.After-receiver Inv-loop μ-loop) where
   first : 1 ≤ c .receiver .result
   first =
-      own-first (record { core = c .before .before .before .before .loop .core; used = c .before .before .before .before .loop .used }) (c .before .before .before .before .before .before .before .before .before .before .before .before .before .before .args .stream .now) (c .before .before .before .before .loop .pool) 0 (passed (c .before .before .before)) (c .before .before .before .before .before .before .before .before .before .before .before .byte-at .result) (c .receiver .result) 64 (c .before .before .before .before .before .before .before .before .before .before .before .byte-at .ensures) refl (c .receiver .ensures .0)
+      own-first (record { core = c .before .before .before .before .loop .core; used = c .before .before .before .before .loop .used }) (c .before .before .before .before .before .before .before .before .before .before .before .before .before .before .args .stream .now) (c .before .before .before .before .loop .pool) 0 (passed (c .before .before .before)) (c .before .before .before .before .before .before .before .before .before .before .before .units-of .result) (c .receiver .result) 64 (c .before .before .before .before .before .before .before .before .before .before .before .units-of .ensures) refl (c .receiver .ensures .0)
 
   last : c .receiver .result ≤ unitsOf (c .before .before .before .before .before .before .before .before .before .before .before .before .before .before .args .stream .now)
   last =
-      own-last (record { core = c .before .before .before .before .loop .core; used = c .before .before .before .before .loop .used }) (c .before .before .before .before .before .before .before .before .before .before .before .before .before .before .args .stream .now) (c .before .before .before .before .loop .pool) 0 (passed (c .before .before .before)) (c .before .before .before .before .before .before .before .before .before .before .before .byte-at .result) (c .receiver .result) 64 (c .before .before .before .before .before .before .before .before .before .before .before .byte-at .ensures) refl (c .receiver .ensures .0)
+      own-last (record { core = c .before .before .before .before .loop .core; used = c .before .before .before .before .loop .used }) (c .before .before .before .before .before .before .before .before .before .before .before .before .before .before .args .stream .now) (c .before .before .before .before .loop .pool) 0 (passed (c .before .before .before)) (c .before .before .before .before .before .before .before .before .before .before .before .units-of .result) (c .receiver .result) 64 (c .before .before .before .before .before .before .before .before .before .before .before .units-of .ensures) refl (c .receiver .ensures .0)
 
   place : c .receiver .result - 1 < 16
   place = omega (arith, first, last, accepted-units (c .before .before .before .before .before .before .before .before .before .before .before .before .before .before .args .stream .now) (table (c .before .before .before .before .before .before .before .before .before .before .before .before .before .before)) .1)
@@ -91,12 +91,12 @@ module _ (c : tie.After-receiver Inv-loop μ-loop) where
       let e : suc (c .receiver .result - 1) ≡ c .receiver .result = omega (arith, first) in
       part-costs (c .before .before .before .before .before .before .before .before .before .before .before .before .before .before .args .stream .now) (c .before .before .before .before .before .before .before .before .lend .result) (c .before .before .before .before .before .before .before .before .lend .last .1 .0) (c .before .before .before .before .before .before .before .before .lend .ensures) (c .receiver .result - 1) below ∙ ap (gathered (c .before .before .before .before .before .before .before .before .before .before .before .before .before .before .args .stream .now)) e
 
-  abbrev oldest : Oldest (unitAt (c .before .before .before .before .loop .core .units) (c .receiver .result - 1)) (c .receiver .result) (c .before .before .before .before .before .before .before .before .before .before .before .byte-at .result) (c .before .before .before .before .before .before .before .before .before .before .sizes-of .result) lent (c .before .before .before .before .loop .pool) (c .before .before .before .before .loop .used)
+  abbrev oldest : Oldest (unitAt (c .before .before .before .before .loop .core .units) (c .receiver .result - 1)) (c .receiver .result) (c .before .before .before .before .before .before .before .before .before .before .before .units-of .result) (c .before .before .before .before .before .before .before .before .before .before .sizes-of .result) lent (c .before .before .before .before .loop .pool) (c .before .before .before .before .loop .used)
   oldest = record {
     stream = c .before .before .before .before .before .before .before .before .before .before .before .before .before .before .args .stream .now;
     net = record { core = c .before .before .before .before .loop .core; used = c .before .before .before .before .loop .used };
     accepted = accepted (c .before .before .before);
-    units = c .before .before .before .before .before .before .before .before .before .before .before .byte-at .ensures;
+    units = c .before .before .before .before .before .before .before .before .before .before .before .units-of .ensures;
     array = c .before .before .before .before .before .before .before .before .before .before .sizes-of .ensures;
     named = c .receiver .ensures .0;
     unit = refl;
