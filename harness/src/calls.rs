@@ -2,8 +2,9 @@
 
 use crate::reference::message::{self, Message};
 use crate::reference::network::{self, Network};
+use crate::reference::table::Form;
 use crate::reference::unit::{self, Unit};
-use crate::reference::{checksum, costs, readings, search, table, Places};
+use crate::reference::{checksum, convert, costs, readings, search, table, Places};
 
 #[derive(Clone, Copy, PartialEq, Eq, Debug)]
 pub enum Call {
@@ -11,6 +12,8 @@ pub enum Call {
     Block,
     Read,
     Write,
+    ToFormTwo,
+    ToFormOne,
     Readings,
     Lent,
     Parse,
@@ -25,13 +28,15 @@ pub enum Call {
 }
 
 /// Each call, its name in the Rattle code, and the refusals it can give.
-pub const CALLS: [(Call, &str, &[u8]); 15] = [
+pub const CALLS: [(Call, &str, &[u8]); 17] = [
     (Call::Sum, "checksum::sum", &[]),
     (Call::Block, "table::read_block", &[1, 4, 2, 3]),
     (Call::Read, "table::read", &[13, 1, 4, 2, 3, 5, 6, 7]),
     (Call::Write, "table::write", &[5, 6, 7, 13]),
+    (Call::ToFormTwo, "table::convert to form two", &[1, 4, 2, 3, 5, 6, 7, 13]),
+    (Call::ToFormOne, "table::convert to form one", &[1, 4, 2, 3, 5, 6, 7, 13, 18]),
     (Call::Readings, "readings::write_stream", &[5, 6, 17, 13]),
-    (Call::Lent, "costs::sizes_of and costs::gather", &[5, 10, 6, 7, 13]),
+    (Call::Lent, "table::units_of, costs::sizes_of and costs::gather", &[5, 10, 6, 7, 13]),
     (Call::Parse, "message::parse", &[5, 8, 10, 9]),
     (Call::Encode, "message::write", &[5, 10, 9, 13]),
     (Call::Make, "unit::make", &[5, 10, 6, 7, 13]),
@@ -50,6 +55,7 @@ pub enum Input {
     Block { block: Vec<u8>, expected: u16, last: u8 },
     Read { file: Vec<u8>, stream: Vec<u8> },
     Write { stream: Vec<u8>, file: Vec<u8> },
+    Convert { file: Vec<u8>, wanted: Form, out: Vec<u8> },
     Readings { n: u8, sizes: Places, readings: Vec<u8>, stream: Vec<u8> },
     Lent { stream: Vec<u8>, own: u8, out: Vec<u8> },
     Parse { n: u8, sizes: Places, packet: Vec<u8> },
@@ -93,8 +99,9 @@ fn length_outcome(answer: Result<usize, u8>, lent: Vec<u8>) -> Outcome {
     Outcome { refusal, numbers: vec![length as u64], lent, ..Outcome::default() }
 }
 
-/// The outcome of gathering, with the sizes of the stream.
-pub fn lent_outcome(sizes: &Places, mut gathered: Outcome) -> Outcome {
+/// The outcome of gathering, with n and the sizes of the stream.
+pub fn lent_outcome(n: u8, sizes: &Places, mut gathered: Outcome) -> Outcome {
+    gathered.numbers.push(n.into());
     gathered.numbers.extend(sizes.map(u64::from));
     gathered
 }
@@ -109,12 +116,13 @@ pub fn reference(input: Input) -> Outcome {
         },
         Input::Read { file, mut stream } => length_outcome(table::read(&file, &mut stream), stream),
         Input::Write { stream, mut file } => length_outcome(table::write(&stream, &mut file), file),
+        Input::Convert { file, wanted, mut out } => length_outcome(convert::convert(&file, wanted, &mut out), out),
         Input::Readings { n, sizes, readings, mut stream } => {
             length_outcome(readings::write_stream(n, &sizes, &readings, &mut stream), stream)
         }
         Input::Lent { stream, own, mut out } => {
             let answer = costs::gather(&stream, own, &mut out);
-            lent_outcome(&costs::sizes_in(&stream), length_outcome(answer, out))
+            lent_outcome(costs::units_in(&stream), &costs::sizes_in(&stream), length_outcome(answer, out))
         }
         Input::Parse { n, sizes, packet } => match message::parse(n, &sizes, &packet) {
             Ok((kind, message)) => Outcome { numbers: vec![kind.into()], message, ..Outcome::default() },

@@ -1,14 +1,14 @@
-//! Two implementations on the same inputs: what each call gave, counted by refusal and by case of forbidden pairs, and the first difference.
+//! Two implementations on the same inputs: what each call gave, counted by refusal and by case, and the first difference.
 
 use crate::calls::{self, Call, Input, Outcome};
-use crate::forbidden::{self, Case};
+use crate::cases::{self, Case};
 use crate::generate;
 use crate::random::Random;
 
 pub struct Report {
     /// How often each number came, 0 for accepted.
-    pub counts: [u64; 18],
-    /// How often each case of forbidden pairs came that the call can come to.
+    pub counts: [u64; 19],
+    /// How often each case came that the call can come to.
     pub cases: Vec<(Case, u64)>,
     pub difference: Option<Difference>,
 }
@@ -24,14 +24,14 @@ pub struct Difference {
 /// Stops at the first difference.
 pub fn compare(call: Call, rounds: u64, seed: u64, other: impl Fn(Input) -> Outcome) -> Report {
     let mut random = Random::new(seed);
-    let cases = forbidden::cases(call).iter().map(|case| (*case, 0)).collect();
-    let mut report = Report { counts: [0; 18], cases, difference: None };
+    let cases = cases::cases(call).into_iter().map(|case| (case, 0)).collect();
+    let mut report = Report { counts: [0; 19], cases, difference: None };
     for round in 0..rounds {
         let input = generate::input(&mut random, call);
         let reference = calls::reference(input.clone());
         let other = other(input.clone());
         report.counts[reference.refusal as usize] += 1;
-        let reached = forbidden::reached(call, &input, &reference);
+        let reached = cases::reached(call, &input, &reference);
         report.cases.iter_mut().for_each(|(case, times)| *times += u64::from(reached.contains(case)));
         if reference != other {
             report.difference = Some(Difference { round, input, reference, other });
@@ -48,7 +48,7 @@ pub fn counted(report: &Report, refusals: &[u8]) -> String {
         text += &format!(", {refusal}: {}", report.counts[*refusal as usize]);
     }
     for (case, times) in &report.cases {
-        text += &format!(", {case:?}: {times}");
+        text += &format!(", {case}: {times}");
     }
     text
 }

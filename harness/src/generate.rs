@@ -1,182 +1,21 @@
 //! Random inputs for every public call: right ones, ones with a single damage, and wrong lengths.
 //!
-//! In order: tables and their files; readings; messages; units; networks; `input`, which picks one for a call.
+//! In order: readings; messages; units; networks; `input`, which picks one for a call. Tables and their files are in `tables`.
+
+mod tables;
 
 use crate::calls::{Call, Input};
 use crate::random::Random;
+use crate::reference::convert;
 use crate::reference::costs::{self, Cost, View};
 use crate::reference::message::{self, Message};
 use crate::reference::network::{self, Network};
+use crate::reference::table::Form;
 use crate::reference::unit::Unit;
-use crate::reference::{cost_limit, table, Places, FORBIDDEN_PAIR, MAX_TOTAL, NONE};
+use crate::reference::{cost_limit, table, Places, MAX_ESTIMATE, MAX_TOTAL, NONE};
 use crate::sample;
-
-// Tables
-
-/// Sizes of a table that is quick to work on; once in 40 of any shape at all.
-fn sizes(random: &mut Random) -> Vec<u8> {
-    let (n, most) = match random.below(40) {
-        0 => (random.between(1, 16), 16),
-        1..=4 => (random.between(1, 16), 3),
-        5..=9 => (random.between(2, 3), 16),
-        _ => (random.between(1, 6), 4),
-    };
-    (0..n).map(|_| random.between(1, most) as u8).collect()
-}
-
-fn cost(random: &mut Random, style: u64) -> u16 {
-    match style {
-        0 => random.below(2) as u16,
-        1 => random.below(10) as u16,
-        2 => random.between(0, 60_000) as u16,
-        3 => 60_000,
-        _ => *random.pick(&[0, 0, 0, 1, 255, 256, 257, 60_000]),
-    }
-}
-
-/// Which pairs of a table are forbidden; in half of the tables some are.
-#[derive(Clone, Copy)]
-enum Forbidding {
-    Nothing,
-    /// Each pair once in so many.
-    OnceIn(u64),
-    /// Equal values: with more units than values nothing is permitted, though values have an h.
-    Alike,
-    /// All pairs of two units: no value of the first has an h.
-    Units(usize, usize),
-    /// All pairs of a unit's value with another unit.
-    Value(usize, u8, usize),
-    All,
-}
-
-impl Forbidding {
-    fn any(random: &mut Random, sizes: &[u8]) -> Forbidding {
-        let n = sizes.len() as u64;
-        if n == 1 {
-            return Forbidding::Nothing;
-        }
-        let one = random.below(n) as usize;
-        let other = (one + random.between(1, n - 1) as usize) % n as usize;
-        match random.below(20) {
-            0..=9 => Forbidding::Nothing,
-            10 | 11 => Forbidding::OnceIn(20),
-            12 | 13 => Forbidding::OnceIn(5),
-            14 => Forbidding::OnceIn(2),
-            15 | 16 => Forbidding::Alike,
-            17 => Forbidding::Units(one.min(other), one.max(other)),
-            18 => Forbidding::Value(one, random.below(u64::from(sizes[one])) as u8, other),
-            _ => *random.pick(&[Forbidding::Units(0, one.max(1)), Forbidding::All]),
-        }
-    }
-
-    /// Whether the pair of unit i's value u and unit j's value v is; all count from 0.
-    fn holds(self, random: &mut Random, (i, u): (usize, u8), (j, v): (usize, u8)) -> bool {
-        match self {
-            Forbidding::Nothing => false,
-            Forbidding::OnceIn(times) => random.once_in(times),
-            Forbidding::Alike => u == v,
-            Forbidding::Units(one, other) => (i, j) == (one, other),
-            Forbidding::Value(one, value, other) => {
-                ((i, u), j) == ((one, value), other) || ((j, v), i) == ((one, value), other)
-            }
-            Forbidding::All => true,
-        }
-    }
-}
-
-/// A stream of these sizes.
-pub fn stream_of(random: &mut Random, sizes: &[u8]) -> Vec<u8> {
-    let style = random.below(5);
-    let forbidding = Forbidding::any(random, sizes);
-    let mut costs = Vec::new();
-    for i in 0..sizes.len() {
-        for j in i + 1..sizes.len() {
-            for (u, v) in (0..sizes[i]).flat_map(|u| (0..sizes[j]).map(move |v| (u, v))) {
-                let forbidden = forbidding.holds(random, (i, u), (j, v));
-                costs.push(if forbidden { FORBIDDEN_PAIR } else { cost(random, style) });
-            }
-        }
-    }
-    sample::stream(sizes, &costs)
-}
-
-/// A stream that every call accepts.
-pub fn stream(random: &mut Random) -> Vec<u8> {
-    let sizes = sizes(random);
-    stream_of(random, &sizes)
-}
-
-/// One damage to a stream.
-pub fn damage_stream(random: &mut Random, stream: &mut Vec<u8>) {
-    let n = stream[0] as usize;
-    match random.below(7) {
-        0 => stream[0] = *random.pick(&[0, 17, 200, 201, 255]),
-        1 => stream[random.between(1, n as u64) as usize] = *random.pick(&[0, 17, 255]),
-        2 => stream.truncate(random.below(stream.len() as u64) as usize),
-        3 => stream.truncate(random.below(n as u64 + 2) as usize),
-        4 => stream.extend(vec![random.byte(); random.between(1, 3) as usize]),
-        5 => damage_cost(random, &mut stream[1 + n..]),
-        _ => {
-            let at = random.below(stream.len() as u64) as usize;
-            stream[at] = random.byte();
-        }
-    }
-}
-
-/// A cost above 60,000, where there is a cost; at times the forbidden one, which is no damage.
-fn damage_cost(random: &mut Random, costs: &mut [u8]) {
-    if costs.len() >= 2 {
-        let at = 2 * random.below(costs.len() as u64 / 2) as usize;
-        let above = *random.pick(&[60_001, FORBIDDEN_PAIR - 1, FORBIDDEN_PAIR]);
-        costs[at..at + 2].copy_from_slice(&above.to_le_bytes());
-    }
-}
-
-/// Any bytes as the payloads of blocks: a file whose blocks are right, whatever the stream.
-pub fn blocks(stream: &[u8]) -> Vec<u8> {
-    let mut file = Vec::new();
-    for (k, payload) in stream.chunks(table::PAYLOAD).enumerate() {
-        file.extend(table::make_block(k as u16, payload));
-    }
-    file
-}
-
-fn reseal_block(file: &mut [u8], block: usize) {
-    let bytes = &mut file[512 * block..512 * (block + 1)];
-    let check = crate::reference::checksum::sum(&bytes[..510]);
-    bytes[510..512].copy_from_slice(&check.to_le_bytes());
-}
-
-/// One damage to a table's file. It has at least one block.
-pub fn damage_file(random: &mut Random, file: &mut Vec<u8>) {
-    let block = random.below(file.len() as u64 / 512) as usize;
-    let at = 512 * block;
-    match random.below(10) {
-        0 => {
-            let any = random.below(file.len() as u64) as usize;
-            file[any] ^= 1 << random.below(8);
-        }
-        1 => file[at + random.below(2) as usize] ^= 1 << random.below(8),
-        2 => {
-            file[at] = file[at].wrapping_add(1);
-            reseal_block(file, block);
-        }
-        3 => {
-            let count = *random.pick(&[0u16, 1, 505, 506, 507, 65_535]);
-            file[at + 2..at + 4].copy_from_slice(&count.to_le_bytes());
-            reseal_block(file, block);
-        }
-        4 => {
-            file[at + 4 + random.below(506) as usize] ^= 1 << random.below(8);
-            reseal_block(file, block);
-        }
-        5 => file[at + 510..at + 512].copy_from_slice(&[random.byte(), 255]),
-        6 => file.truncate(random.below(file.len() as u64) as usize),
-        7 => file.truncate(at),
-        8 => file.extend_from_within(at..at + 512),
-        _ => file.extend(vec![0; *random.pick(&[1, 511, 512, 62_464])]),
-    }
-}
+pub use tables::stream_of;
+use tables::{damage_cost, damage_file, damage_stream, dearest, file, sizes, some_stream, stream};
 
 // Readings
 
@@ -273,7 +112,7 @@ pub fn message(random: &mut Random, n: u8, sizes: &Places) -> (u8, Message) {
         }
         message::ESTIMATE => {
             m.stamp = filled(random, sizes, receiver as usize);
-            m.cost = if random.once_in(3) { NONE } else { up_to(random, MAX_TOTAL) };
+            m.cost = if random.once_in(3) { NONE } else { up_to(random, MAX_ESTIMATE) };
         }
         _ => {}
     }
@@ -295,8 +134,12 @@ pub fn damage_message(random: &mut Random, kind: &mut u8, m: &mut Message) {
         3 => m.stamp[place] = *random.pick(&[0, 1, 16, 17, 255]),
         4 => m.values[place] = *random.pick(&[0, 1, 16, 17, 255]),
         5 => m.best[place] = *random.pick(&[0, 1, 16, 17, 255]),
-        6 => m.cost = *random.pick(&[0, 1, 60_000, 60_001, 180_001, 7_200_000, 7_200_001, NONE - 1, NONE]),
-        7 => m.bound = *random.pick(&[0, 1, 7_200_000, 7_200_001, NONE - 1, NONE]),
+        6 => {
+            let above = cost_limit(m.values.iter().filter(|value| **value != 0).count()) + 1;
+            let limit = *random.pick(&[60_000, 60_001, 7_200_000, 7_200_001, 8_160_000, 8_160_001]);
+            m.cost = *random.pick(&[0, 1, above, limit, limit, NONE - 1, NONE]);
+        }
+        7 => m.bound = *random.pick(&[0, 1, 7_200_000, 7_200_001, 8_160_000, 8_160_001, NONE - 1, NONE]),
         _ => std::mem::swap(&mut m.sender, &mut m.receiver),
     }
 }
@@ -332,25 +175,29 @@ fn reseal(packet: &mut [u8]) {
 
 // Units
 
-/// What own value v costs with the units before, forbidden pairs left out; and whether there is one.
+/// What own value v costs by itself and with the units before, forbidden pairs left out; and whether there is one.
 fn permitted_part(view: &View, values: &Places, v: u8) -> (u32, bool) {
     let pairs = (1..view.own).map(|j| view.pair(j, values[j - 1] as usize, v as usize));
-    pairs.fold((0, false), |(sum, forbidden), pair| match pair {
+    pairs.fold((view.unary(v as usize), false), |(sum, forbidden), pair| match pair {
         Cost::Of(cost) => (sum + cost, forbidden),
         Cost::Forbidden => (sum, true),
     })
 }
 
-/// A unit in range, with or without a CPA out; at times its own value is forbidden with an earlier one, which alone puts it out of range.
+/// A unit in range, with or without a CPA out; at times out of range for one thing alone: its bound is too high, its own value is forbidden with
+/// an earlier one, or its CPA costs too little or too much.
 pub fn unit(random: &mut Random, view: &View) -> Unit {
     let mut unit = Unit::default();
     (unit.bound, unit.best) = bound(random, view.n as u8, &view.sizes);
+    if unit.bound != NONE && random.once_in(40) {
+        unit.bound = MAX_TOTAL + 1;
+    }
     unit.stopped = u8::from(random.once_in(12));
     let thresholds = *random.pick(&[2, 18]);
     for k in 0..16 {
         unit.threshold[k] = random.below(thresholds) as u8;
         if random.once_in(3) {
-            unit.estimates[k] = up_to(random, MAX_TOTAL);
+            unit.estimates[k] = up_to(random, MAX_ESTIMATE);
         }
     }
     if random.once_in(4) {
@@ -370,7 +217,12 @@ pub fn unit(random: &mut Random, view: &View) -> Unit {
     let value = unit.values[own - 1];
     unit.stamp[own - 1] = random.between(1, u64::from(value)) as u8;
     unit.counter = unit.stamp[own - 1];
-    unit.cost = up_to(random, cost_limit(own - 1)) + paid.0;
+    unit.cost = match random.below(24) {
+        0 => paid.0 - view.unary(value as usize),
+        1 => paid.0.saturating_sub(1),
+        2 => paid.0 + cost_limit(own - 1) + 1,
+        _ => paid.0 + up_to(random, cost_limit(own - 1)),
+    };
     for k in 0..own {
         unit.threshold[k] = unit.stamp[k];
     }
@@ -385,16 +237,18 @@ pub fn unit(random: &mut Random, view: &View) -> Unit {
 pub fn damage_unit(random: &mut Random, unit: &mut Unit) {
     let place = random.below(16) as usize;
     let byte = *random.pick(&[0, 1, 2, 16, 17, 18, 255]);
-    match random.below(10) {
+    match random.below(12) {
         0 => unit.threshold[place] = byte,
-        1 => unit.bound = *random.pick(&[0, 7_200_000, 7_200_001, NONE - 1, NONE]),
+        1 => unit.bound = *random.pick(&[0, 7_200_000, 7_200_001, 8_160_000, 8_160_001, NONE - 1, NONE]),
         2 => unit.best[place] = byte,
-        3 => unit.estimates[place] = *random.pick(&[0, 7_200_000, 7_200_001, u32::MAX]),
+        3 => unit.estimates[place] = *random.pick(&[0, 7_200_000, 7_200_001, 8_160_000, u32::MAX]),
         4 => unit.stamp[place] = byte,
         5 => unit.values[place] = byte,
-        6 => unit.cost = *random.pick(&[0, 1, 60_000, 60_001, 7_200_000, 7_200_001, u32::MAX]),
+        6 => unit.cost = *random.pick(&[0, 1, 60_000, 60_001, 7_200_000, 7_200_001, 8_160_000, 8_160_001, u32::MAX]),
         7 => unit.counter = byte,
         8 => unit.stopped ^= 1,
+        9 => unit.cost = unit.cost.wrapping_add(1),
+        10 => unit.cost = unit.cost.wrapping_sub(1),
         _ => unit.stopped = *random.pick(&[2, 3, 128, 255]),
     }
 }
@@ -472,7 +326,7 @@ fn damage_network(random: &mut Random, network: &mut Network, pool: &mut Vec<u8>
     let (n, sizes) = table::head(stream);
     let n = n as usize;
     let at = 64 * cell.min(1_023) as usize;
-    match random.below(14) {
+    match random.below(16) {
         0 | 1 => {
             let own = random.below(n as u64) as usize;
             damage_unit(random, &mut network.units[own]);
@@ -508,6 +362,13 @@ fn damage_network(random: &mut Random, network: &mut Network, pool: &mut Vec<u8>
             let costs = costs::of_unit(stream, own);
             network.units[own - 1] = unit(random, &View::new(own, n, &sizes, &costs));
         }
+        12 | 13 => {
+            // a message that has to do with a unit's state
+            let own = random.between(1, n as u64) as usize;
+            let costs = costs::of_unit(stream, own);
+            let (kind, m) = message_for(random, &View::new(own, n, &sizes, &costs), &network.units[own - 1]);
+            pool[at..at + 64].copy_from_slice(&message::encode(kind, &m));
+        }
         _ => {
             let mut packet = packet(random, n as u8, &sizes);
             packet.resize(64, 1);
@@ -536,15 +397,6 @@ fn buffer(random: &mut Random, asked: usize) -> Vec<u8> {
     (0..length).map(|k| first.wrapping_add((k % 251) as u8)).collect()
 }
 
-/// A table's stream, damaged once in `times`.
-fn some_stream(random: &mut Random, times: u64) -> Vec<u8> {
-    let mut stream = stream(random);
-    if random.once_in(times) {
-        damage_stream(random, &mut stream);
-    }
-    stream
-}
-
 /// n and sizes with bytes past n that nobody may look at.
 fn head(random: &mut Random, stream: &[u8]) -> (u8, Places) {
     let (n, mut sizes) = table::head(stream);
@@ -563,12 +415,15 @@ fn damage_head(random: &mut Random, n: &mut u8, sizes: &mut Places) {
     }
 }
 
-/// Rarely: too few or too many costs, or one above 60,000, the forbidden one among them.
-fn damage_costs(random: &mut Random, costs: &mut Vec<u8>) {
+/// Rarely: too few or too many costs, none of the unary ones, which are `values`, or one above 60,000, the forbidden one among them.
+fn damage_costs(random: &mut Random, costs: &mut Vec<u8>, values: u8) {
+    let unary = (2 * values as usize).min(costs.len());
     match random.below(40) {
         0 => costs.truncate(random.below(costs.len() as u64 + 1) as usize),
         1 => costs.extend(vec![0; random.between(1, 2) as usize]),
-        2 => damage_cost(random, costs),
+        2 => damage_cost(random, &mut costs[unary..]),
+        3 => damage_cost(random, &mut costs[..unary]),
+        4 => drop(costs.drain(..unary)),
         _ => {}
     }
 }
@@ -613,9 +468,9 @@ fn step(random: &mut Random) -> Input {
     if random.once_in(12) {
         damage_unit(random, &mut unit);
     }
+    damage_costs(random, &mut costs, sizes[own as usize - 1]);
     let own = if random.once_in(40) { own_number(random, n) } else { own };
     damage_head(random, &mut n, &mut sizes);
-    damage_costs(random, &mut costs);
     Input::Step { unit, own, n, sizes, costs, packet, out: buffer(random, 1_024) }
 }
 
@@ -646,7 +501,7 @@ fn deliver(random: &mut Random) -> Input {
 fn settle(random: &mut Random) -> Input {
     let n = random.between(1, 5);
     let sizes: Vec<u8> = (0..n).map(|_| random.between(1, 3) as u8).collect();
-    let mut stream = stream_of(random, &sizes);
+    let mut stream = if random.once_in(40) { dearest(random) } else { stream_of(random, &sizes) };
     if random.once_in(6) {
         damage_stream(random, &mut stream);
     }
@@ -654,7 +509,7 @@ fn settle(random: &mut Random) -> Input {
 }
 
 fn exhaustive(random: &mut Random) -> Input {
-    let few = |sizes: &[u8]| sizes.iter().map(|d| u64::from(*d)).product::<u64>() <= 5_000;
+    let few = |sizes: &[u8]| sizes.iter().map(|d| u128::from(*d)).product::<u128>() <= 5_000;
     let mut shape = sizes(random);
     while !few(&shape) && !random.once_in(2) {
         shape = sizes(random);
@@ -662,7 +517,7 @@ fn exhaustive(random: &mut Random) -> Input {
     if !few(&shape) {
         shape = vec![16; random.between(6, 16) as usize];
     }
-    let mut stream = stream_of(random, &shape);
+    let mut stream = if random.once_in(40) { dearest(random) } else { stream_of(random, &shape) };
     if random.once_in(3) {
         damage_stream(random, &mut stream);
     }
@@ -670,11 +525,27 @@ fn exhaustive(random: &mut Random) -> Input {
 }
 
 fn table_read(random: &mut Random) -> Input {
-    let mut file = blocks(&some_stream(random, 3));
-    if random.once_in(2) && !file.is_empty() {
-        damage_file(random, &mut file);
-    }
-    Input::Read { file, stream: buffer(random, table::MAX_STREAM) }
+    Input::Read { file: file(random), stream: buffer(random, table::MAX_STREAM) }
+}
+
+/// With room for what is asked for, or for the file as it is.
+fn convert(random: &mut Random, wanted: Form) -> Input {
+    let file = file(random);
+    let asked = match table::stream_of(&file) {
+        Ok(stream) => *random.pick(&[file.len(), table::file_of(&convert::in_form(&stream, wanted)).len()]),
+        Err(_) => file.len().max(1),
+    };
+    Input::Convert { out: buffer(random, asked), file, wanted }
+}
+
+/// A unit of a table's stream, and room for about as many bytes as its costs have.
+fn lent(random: &mut Random) -> Input {
+    let stream = some_stream(random, 2);
+    let n = table::from_count(&stream).first().copied().unwrap_or(0);
+    let own = own_number(random, n.clamp(1, 16));
+    let exact = costs::gather(&stream, own, &mut [0; 7_712]).unwrap_or(64);
+    let room = *random.pick(&[exact, 2, 1_024, 7_712]);
+    Input::Lent { stream, own, out: buffer(random, room) }
 }
 
 fn readings_stream(random: &mut Random) -> Input {
@@ -689,14 +560,14 @@ fn readings_stream(random: &mut Random) -> Input {
 }
 
 fn block(random: &mut Random) -> Input {
-    let mut file = blocks(&stream(random));
+    let mut file = table::file_of(&stream(random));
     let mut expected = random.below(file.len() as u64 / 512) as u16;
     let mut last = (expected as usize + 1) * 512 == file.len();
     if random.once_in(2) {
         damage_file(random, &mut file);
     }
     if random.once_in(12) {
-        expected = *random.pick(&[0, 1, 121, 65_535]);
+        expected = *random.pick(&[0, 1, 121, 122, 65_535]);
     }
     if random.once_in(12) {
         last = !last;
@@ -724,13 +595,10 @@ pub fn input(random: &mut Random, call: Call) -> Input {
             let asked = 512 * stream.len().div_ceil(table::PAYLOAD).max(1);
             Input::Write { file: buffer(random, asked), stream }
         }
+        Call::ToFormTwo => convert(random, Form::Two),
+        Call::ToFormOne => convert(random, Form::One),
         Call::Readings => readings_stream(random),
-        Call::Lent => {
-            let stream = some_stream(random, 2);
-            let own = own_number(random, stream.first().copied().unwrap_or(0).clamp(1, 16));
-            let room = *random.pick(&[2, 64, 1_024, 7_680]);
-            Input::Lent { stream, own, out: buffer(random, room) }
-        }
+        Call::Lent => lent(random),
         Call::Parse => {
             let stream = stream(random);
             let (mut n, mut sizes) = head(random, &stream);
@@ -752,9 +620,10 @@ pub fn input(random: &mut Random, call: Call) -> Input {
             let stream = stream(random);
             let (mut n, mut sizes) = head(random, &stream);
             let own = own_number(random, n);
-            let mut costs = costs::of_unit(&stream, own as usize);
+            let seated = if (1..=n).contains(&own) { own } else { 1 };
+            let mut costs = costs::of_unit(&stream, seated as usize);
+            damage_costs(random, &mut costs, sizes[seated as usize - 1]);
             damage_head(random, &mut n, &mut sizes);
-            damage_costs(random, &mut costs);
             Input::Make { own, n, sizes, costs, out: buffer(random, 1_024) }
         }
         Call::InRange => {

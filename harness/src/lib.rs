@@ -1,8 +1,9 @@
-//! An independent implementation of documents 01 and 02 (jobs 1 and 3) and the tools that compare the Rattle code with it.
+//! An independent implementation of documents 01 and 02 (jobs 1, 3 and 7) and the tools that compare the Rattle code with it.
 //!
 //! `reference` is written from the documents alone. Nothing here is proved: it is the other opinion.
 
 pub mod calls;
+pub mod cases;
 pub mod differential;
 pub mod forbidden;
 pub mod generate;
@@ -14,3 +15,4 @@ pub mod random;
 pub mod reference;
 pub mod sample;
 pub mod tuned;
+pub mod unary;

@@ -6,6 +6,7 @@
 use crate::calls::{lent_outcome, Input, Outcome};
 use crate::reference;
 use crate::reference::network::Network as PlainNetwork;
+use crate::reference::table::Form;
 use crate::reference::Places;
 
 #[repr(C)]
@@ -115,6 +116,8 @@ extern "C" {
     fn riksamoe_block_refusal(block: *const u8, length: usize, expected: u16, last: u8) -> u8;
     fn riksamoe_table_read(file: *const u8, length: usize, stream: *mut u8, room: usize) -> Length;
     fn riksamoe_table_write(stream: *const u8, length: usize, file: *mut u8, room: usize) -> Length;
+    fn riksamoe_to_form_two(file: *const u8, length: usize, out: *mut u8, room: usize) -> Length;
+    fn riksamoe_to_form_one(file: *const u8, length: usize, out: *mut u8, room: usize) -> Length;
     fn riksamoe_readings_stream(
         n: u8,
         sizes: Sizes,
@@ -123,6 +126,7 @@ extern "C" {
         stream: *mut u8,
         room: usize,
     ) -> Length;
+    fn riksamoe_units(stream: *const u8, length: usize) -> u8;
     fn riksamoe_sizes(stream: *const u8, length: usize) -> Sizes;
     fn riksamoe_costs(stream: *const u8, length: usize, own: u8, out: *mut u8, room: usize) -> Length;
     fn riksamoe_message_parse(n: u8, sizes: Sizes, bytes: *const u8, length: usize) -> Parsed;
@@ -192,10 +196,22 @@ pub fn table_write(stream: &[u8], file: &mut [u8]) -> Length {
     unsafe { riksamoe_table_write(stream.as_ptr(), stream.len(), file.as_mut_ptr(), file.len()) }
 }
 
+pub fn to_form_two(file: &[u8], out: &mut [u8]) -> Length {
+    unsafe { riksamoe_to_form_two(file.as_ptr(), file.len(), out.as_mut_ptr(), out.len()) }
+}
+
+pub fn to_form_one(file: &[u8], out: &mut [u8]) -> Length {
+    unsafe { riksamoe_to_form_one(file.as_ptr(), file.len(), out.as_mut_ptr(), out.len()) }
+}
+
 pub fn readings_stream(n: u8, sizes: &Places, readings: &[u8], stream: &mut [u8]) -> Length {
     let sizes = Sizes { places: *sizes };
     let (stream, room) = (stream.as_mut_ptr(), stream.len());
     unsafe { riksamoe_readings_stream(n, sizes, readings.as_ptr(), readings.len(), stream, room) }
+}
+
+pub fn units(stream: &[u8]) -> u8 {
+    unsafe { riksamoe_units(stream.as_ptr(), stream.len()) }
 }
 
 pub fn sizes(stream: &[u8]) -> Places {
@@ -382,12 +398,19 @@ pub fn linked(input: Input) -> Outcome {
         }
         Input::Read { file, mut stream } => length_outcome(table_read(&file, &mut stream), stream),
         Input::Write { stream, mut file } => length_outcome(table_write(&stream, &mut file), file),
+        Input::Convert { file, wanted, mut out } => {
+            let answer = match wanted {
+                Form::Two => to_form_two(&file, &mut out),
+                Form::One => to_form_one(&file, &mut out),
+            };
+            length_outcome(answer, out)
+        }
         Input::Readings { n, sizes, readings, mut stream } => {
             length_outcome(readings_stream(n, &sizes, &readings, &mut stream), stream)
         }
         Input::Lent { stream, own, mut out } => {
             let answer = costs(&stream, own, &mut out);
-            lent_outcome(&sizes(&stream), length_outcome(answer, out))
+            lent_outcome(units(&stream), &sizes(&stream), length_outcome(answer, out))
         }
         Input::Parse { n, sizes, packet } => {
             let answer = message_parse(n, &sizes, &packet);

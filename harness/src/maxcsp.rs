@@ -126,8 +126,8 @@ impl Clocked<'_> {
 /// reaches the best. It gives up past this many checks: the second answer says whether the search is whole.
 pub fn branch_and_bound(problem: &Problem, most_checks: u64) -> (Effort, bool) {
     let stream = &problem.stream;
-    let n = stream[0] as usize;
-    let (_, sizes) = table::head(stream);
+    let (n, sizes) = table::head(stream);
+    let n = n as usize;
     let costs: Vec<Vec<u8>> = (1..=n).map(|own| costs::of_unit(stream, own)).collect();
     let views: Vec<View> = (1..=n).map(|own| View::new(own, n, &sizes, &costs[own - 1])).collect();
     let earlier: Vec<Vec<usize>> =
@@ -172,6 +172,7 @@ impl Synchronous<'_> {
     fn added(&mut self, own: usize, value: usize) -> Cost {
         let earlier = &self.earlier[own - 1];
         self.checks += earlier.len() as u64;
-        earlier.iter().map(|j| self.views[own - 1].pair(*j, self.values[*j - 1], value)).sum()
+        let view = &self.views[own - 1];
+        Cost::Of(view.unary(value)) + earlier.iter().map(|j| view.pair(*j, self.values[*j - 1], value)).sum()
     }
 }

@@ -2,13 +2,20 @@
 
 use crate::reference::{network, search, table, NONE};
 
-/// A stream out of its sizes and its costs in the stream's order.
+/// A stream in form one out of its sizes and its pair costs in the stream's order.
 pub fn stream(sizes: &[u8], costs: &[u16]) -> Vec<u8> {
     let mut bytes = vec![sizes.len() as u8];
     bytes.extend_from_slice(sizes);
     for cost in costs {
         bytes.extend_from_slice(&cost.to_le_bytes());
     }
+    bytes
+}
+
+/// A stream in form two.
+pub fn stream_in_form_two(sizes: &[u8], unary: &[u16], pairs: &[u16]) -> Vec<u8> {
+    let mut bytes = vec![table::FORM_TWO];
+    bytes.extend(stream(sizes, &[unary, pairs].concat()));
     bytes
 }
 
@@ -38,7 +45,8 @@ fn report(total: u32, values: &[u8]) -> String {
 /// What the shed program prints on a table's file.
 pub fn shed(file: &[u8]) -> String {
     let mut pool = vec![0; network::POOL];
-    let settled = read(file).and_then(|stream| Ok((stream[0] as usize, network::settle(&stream, &mut pool)?)));
+    let settled =
+        read(file).and_then(|stream| Ok((table::head(&stream).0 as usize, network::settle(&stream, &mut pool)?)));
     match settled {
         Ok((n, network)) => {
             let unit = &network.units[0];
@@ -51,7 +59,7 @@ pub fn shed(file: &[u8]) -> String {
 
 /// What the bench program prints on a table's file.
 pub fn bench(file: &[u8]) -> String {
-    let found = read(file).and_then(|stream| Ok((stream[0] as usize, search::exhaustive(&stream)?)));
+    let found = read(file).and_then(|stream| Ok((table::head(&stream).0 as usize, search::exhaustive(&stream)?)));
     match found {
         Ok((n, (total, values))) => report(total, &values[..n]),
         Err(refusal) => format!("refused {refusal}\n"),

@@ -8,8 +8,10 @@
 use crate::calls::{self, Input, Outcome};
 use crate::reference::message::{CPA, ESTIMATE, REQUEST, SIZE, SOLUTION, STOP};
 use crate::reference::network::{Network, CELLS, POOL};
+use crate::reference::table::FORM_TWO;
 use crate::reference::unit::{self, Unit, OUT};
-use crate::reference::{check_sizes, cost_limit, Places, Refusal, FORBIDDEN_PAIR, MAX_COST, MAX_TOTAL, NONE};
+use crate::reference::{check_sizes, cost_limit, Places, Refusal};
+use crate::reference::{FORBIDDEN_PAIR, MAX_COST, MAX_ESTIMATE, MAX_TOTAL, NONE};
 use std::cmp::Ordering;
 
 // Costs
@@ -59,12 +61,14 @@ impl Costs for &[u16] {
     }
 }
 
-/// Where a unit sits: its place (from 0), and where its costs with each other unit begin.
+/// Where a unit sits: its place (from 0), and where its unary costs and its costs with each other unit begin.
 struct Seat<C> {
     own: usize,
     n: usize,
     sizes: Places,
     costs: C,
+    /// None where all are zero, as in form one.
+    unary: Option<u32>,
     starts: [u32; 16],
     /// h of each own value, where it is known beforehand.
     h: Option<[u32; 16]>,
@@ -80,15 +84,21 @@ impl<C: Costs> Seat<C> {
         self.starts[j] as usize + (w as usize - 1) * self.size(self.own)
     }
 
-    /// What own value v costs with the values of the units before.
+    /// What own value v costs by itself and with the values of the units before.
     fn paid(&self, values: &[u8], v: u8) -> u32 {
-        (0..self.own).map(|j| wide(self.costs.at(self.earlier(j, values[j]) + v as usize - 1))).sum()
+        let v = v as usize - 1;
+        let unary = self.unary.map_or(0, |start| u32::from(self.costs.at(start as usize + v)));
+        let pair = |j: usize| wide(self.costs.at(self.earlier(j, values[j]) + v));
+        unary + (0..self.own).map(pair).sum::<u32>()
     }
 
     /// The same with the first `count` units, for every own value.
     fn sums(&self, values: &[u8], count: usize) -> [u32; 16] {
         let mut sums = [0; 16];
         let size = self.size(self.own);
+        if let Some(start) = self.unary {
+            self.costs.add_row(start as usize, &mut sums[..size]);
+        }
         for j in 0..count {
             self.costs.add_row(self.earlier(j, values[j]), &mut sums[..size]);
         }
@@ -122,10 +132,26 @@ impl<C: Costs> Seat<C> {
     }
 }
 
-/// Where the costs of each pair begin in a stream's costs, and how many there are.
-fn starts(n: usize, sizes: &Places) -> ([[u32; 16]; 16], usize) {
+/// A stream that was checked: n, the sizes, its cost bytes, and where in them each unit's unary costs and the costs of each pair begin.
+struct Layout<'a> {
+    n: usize,
+    sizes: Places,
+    costs: &'a [u8],
+    unary: Option<[u32; 16]>,
+    starts: [[u32; 16]; 16],
+}
+
+impl Layout<'_> {
+    fn seat<C>(&self, own: usize, costs: C) -> Seat<C> {
+        let unary = self.unary.map(|starts| starts[own]);
+        Seat { own, n: self.n, sizes: self.sizes, costs, unary, starts: self.starts[own], h: None }
+    }
+}
+
+/// Where the costs of each pair begin that come after others, and where they end.
+fn starts(n: usize, sizes: &Places, first: u32) -> ([[u32; 16]; 16], usize) {
     let mut starts = [[0; 16]; 16];
-    let mut at = 0;
+    let mut at = first;
     for i in 0..n {
         for j in i + 1..n {
             starts[i][j] = at;
@@ -136,10 +162,21 @@ fn starts(n: usize, sizes: &Places) -> ([[u32; 16]; 16], usize) {
     (starts, at as usize)
 }
 
-/// A unit's seat over the costs that it alone is lent.
-fn lent_seat<'a>(own: usize, n: usize, sizes: &Places, costs: &'a [u8]) -> (Seat<&'a [u8]>, usize) {
-    let mut seat = Seat { own, n, sizes: *sizes, costs, starts: [0; 16], h: None };
+/// Where the unary costs of each unit begin, and where they end.
+fn unary_starts(n: usize, sizes: &Places) -> ([u32; 16], u32) {
+    let mut starts = [0; 16];
     let mut at = 0;
+    for i in 0..n {
+        starts[i] = at;
+        at += u32::from(sizes[i]);
+    }
+    (starts, at)
+}
+
+/// A unit's seat over the costs that it alone is lent, and how many they are.
+fn lent_seat<'a>(own: usize, n: usize, sizes: &Places, costs: &'a [u8]) -> (Seat<&'a [u8]>, usize) {
+    let mut seat = Seat { own, n, sizes: *sizes, costs, unary: Some(0), starts: [0; 16], h: None };
+    let mut at = u32::from(sizes[own]);
     for j in (0..n).filter(|j| *j != own) {
         seat.starts[j] = at;
         at += u32::from(sizes[own]) * u32::from(sizes[j]);
@@ -149,17 +186,24 @@ fn lent_seat<'a>(own: usize, n: usize, sizes: &Places, costs: &'a [u8]) -> (Seat
 
 // Checks
 
-/// No cost is above 60,000 but the forbidden one, which is 0 when one is added.
-fn costs_good(costs: &[u8]) -> bool {
+/// No unary cost is above 60,000.
+fn unary_good(costs: &[u8]) -> bool {
+    costs.chunks_exact(2).all(|cost| u32::from(u16::from_le_bytes([cost[0], cost[1]])) <= MAX_COST)
+}
+
+/// No pair cost is above 60,000 but the forbidden one, which is 0 when one is added.
+fn pairs_good(costs: &[u8]) -> bool {
     let one_more = |cost: &[u8]| u16::from_le_bytes([cost[0], cost[1]]).wrapping_add(1);
     let most = costs.chunks_exact(2).fold(0, |most: u16, cost| most.max(one_more(cost)));
     u32::from(most) <= MAX_COST + 1
 }
 
-/// n, the sizes and where pairs begin, of a stream. Refusals 5, 6, 7.
-fn open(stream: &[u8]) -> Result<(usize, Places, [[u32; 16]; 16]), Refusal> {
-    let Some(n) = stream.first().map(|n| *n as usize) else { return Err(6) };
-    let present = &stream[1..stream.len().min(1 + n)];
+/// Refusals 5, 6, 7 of a stream.
+fn open(stream: &[u8]) -> Result<Layout<'_>, Refusal> {
+    let form_two = stream.first() == Some(&FORM_TWO);
+    let counted = &stream[usize::from(form_two)..];
+    let Some(n) = counted.first().map(|n| *n as usize) else { return Err(6) };
+    let present = &counted[1..counted.len().min(1 + n)];
     if !(1..=16).contains(&n) || present.iter().any(|d| !(1..=16).contains(d)) {
         return Err(5);
     }
@@ -168,14 +212,21 @@ fn open(stream: &[u8]) -> Result<(usize, Places, [[u32; 16]; 16]), Refusal> {
     }
     let mut sizes = [0; 16];
     sizes[..n].copy_from_slice(present);
-    let (starts, count) = starts(n, &sizes);
-    if stream.len() != 1 + n + 2 * count {
+    let (unary, first) = if form_two {
+        let (starts, first) = unary_starts(n, &sizes);
+        (Some(starts), first)
+    } else {
+        (None, 0)
+    };
+    let (starts, count) = starts(n, &sizes, first);
+    let costs = &counted[1 + n..];
+    if costs.len() != 2 * count {
         return Err(6);
     }
-    if !costs_good(&stream[1 + n..]) {
+    if !unary_good(&costs[..2 * first as usize]) || !pairs_good(&costs[2 * first as usize..]) {
         return Err(7);
     }
-    Ok((n, sizes, starts))
+    Ok(Layout { n, sizes, costs, unary, starts })
 }
 
 /// The first `count` places are 1 to their size, the others 0.
@@ -201,7 +252,7 @@ fn bounded(bound: u32, best: &[u8], n: usize, sizes: &Places) -> bool {
 
 fn in_range<C: Costs>(seat: &Seat<C>, unit: &Unit) -> bool {
     let flat = unit.threshold.iter().fold(true, |good, byte| good & (*byte <= 17))
-        & unit.estimates.iter().fold(true, |good, estimate| good & (*estimate <= MAX_TOTAL));
+        & unit.estimates.iter().fold(true, |good, estimate| good & (*estimate <= MAX_ESTIMATE));
     if !flat || unit.stopped > 1 || !bounded(unit.bound, &unit.best, seat.n, &seat.sizes) {
         return false;
     }
@@ -257,7 +308,7 @@ fn check_packet(n: usize, sizes: &Places, own: u8, bytes: &[u8]) -> Result<(), R
             REQUEST => sender < receiver && prefix(sender) && unsolved(),
             ESTIMATE => {
                 let stamped = filled(stamp, receiver as usize, sizes) && zero(values);
-                sender > receiver && stamped && (cost <= MAX_TOTAL || cost == NONE) && unsolved()
+                sender > receiver && stamped && (cost <= MAX_ESTIMATE || cost == NONE) && unsolved()
             }
             SOLUTION => {
                 let ends = sender == n as u8 && receiver != n as u8;
@@ -550,7 +601,8 @@ pub fn step(
     if costs.len() != 2 * count {
         return Err(6);
     }
-    if !costs_good(costs) {
+    let (unary, pairs) = costs.split_at(2 * seat.size(seat.own));
+    if !unary_good(unary) || !pairs_good(pairs) {
         return Err(7);
     }
     if !in_range(&seat, unit) {
@@ -580,9 +632,9 @@ pub fn deliver(network: &mut Network, stream: &[u8], pool: &mut [u8], cell: u64)
     if pool.len() < POOL {
         return Err(13);
     }
-    let (n, sizes, starts) = open(stream)?;
-    let costs = &stream[1 + n..];
-    let seat = |own: usize| Seat { own, n, sizes, costs, starts: starts[own], h: None };
+    let layout = open(stream)?;
+    let (n, sizes) = (layout.n, layout.sizes);
+    let seat = |own: usize| layout.seat(own, layout.costs);
     if (0..n).any(|own| !in_range(&seat(own), &network.units[own])) || network.count > CELLS as u64 {
         return Err(5);
     }
@@ -612,13 +664,13 @@ pub fn deliver(network: &mut Network, stream: &[u8], pool: &mut [u8], cell: u64)
 
 /// Making, then cell 0 until unit 1 has stopped, at most `most` times. Refusals 5, 6, 7, 13.
 pub fn settle(stream: &[u8], pool: &mut [u8], most: u128) -> Result<Network, Refusal> {
-    let (n, sizes, starts) = open(stream)?;
+    let layout = open(stream)?;
     if pool.len() < POOL {
         return Err(13);
     }
-    let costs: Vec<u16> = stream[1 + n..].chunks_exact(2).map(|c| u16::from_le_bytes([c[0], c[1]])).collect();
+    let costs: Vec<u16> = layout.costs.chunks_exact(2).map(|c| u16::from_le_bytes([c[0], c[1]])).collect();
     let seats: [Seat<&[u16]>; 16] = std::array::from_fn(|own| {
-        let mut seat = Seat { own, n, sizes, costs: costs.as_slice(), starts: starts[own], h: None };
+        let mut seat = layout.seat(own, costs.as_slice());
         seat.h = Some(std::array::from_fn(|v| if v < seat.size(own) { seat.h_now(v + 1) } else { 0 }));
         seat
     });

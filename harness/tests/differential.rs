@@ -1,8 +1,10 @@
 //! The comparison finds a fault where there is one, and none where there is none.
 
 use harness::calls::{self, Call, Input, Outcome, CALLS};
+use harness::cases;
 use harness::differential::{compare, describe};
-use harness::reference::{message, NONE};
+use harness::reference::table::{self, Form};
+use harness::reference::{convert, message, NONE};
 
 #[test]
 fn equal_implementations_agree() {
@@ -81,7 +83,7 @@ fn gaps_the_other_way_round_are_found() {
 fn room_looked_at_before_the_readings_is_found() {
     let room_first = |input: Input| {
         let Input::Readings { stream, .. } = &input else { unreachable!("readings") };
-        let short = stream.len() < 61_457;
+        let short = stream.len() < table::MAX_STREAM;
         let mut outcome = calls::reference(input);
         if outcome.refusal == 17 && short {
             outcome.refusal = 13;
@@ -103,8 +105,8 @@ fn dear(costs: &mut [u8]) {
 fn a_forbidden_pair_taken_as_a_dear_one_is_found() {
     let in_search = |input: Input| {
         let Input::Search { mut stream } = input else { unreachable!("a search") };
-        let head = 1 + stream.first().map_or(0, |n| *n as usize);
-        dear(stream.get_mut(head..).unwrap_or_default());
+        let (_, pairs) = cases::begin_in_stream(&stream);
+        dear(&mut stream[pairs..]);
         calls::reference(Input::Search { stream })
     };
     let found = compare(Call::Search, 4_000, 1, in_search).difference.expect("a difference");
@@ -133,4 +135,81 @@ fn an_estimate_of_none_that_is_kept_is_found() {
     };
     let found = compare(Call::Step, 20_000, 1, keeps).difference.expect("a difference");
     assert!(describe(&found).contains("unit 1"));
+}
+
+/// A step or a search without unary costs in its sums, though checked.
+#[test]
+fn unary_costs_left_out_are_found() {
+    let in_step = |input: Input| {
+        let Input::Step { unit, own, n, sizes, mut costs, packet, out } = input else { unreachable!("a step") };
+        let size = sizes.get((own as usize).wrapping_sub(1)).map_or(0, |d| 2 * *d as usize).min(costs.len());
+        if costs[..size].chunks_exact(2).all(|cost| u16::from_le_bytes([cost[0], cost[1]]) <= 60_000) {
+            costs[..size].fill(0);
+        }
+        calls::reference(Input::Step { unit, own, n, sizes, costs, packet, out })
+    };
+    assert!(compare(Call::Step, 20_000, 1, in_step).difference.is_some());
+    let in_search = |input: Input| {
+        let Input::Search { stream } = input else { unreachable!("a search") };
+        let form_one = table::check_stream(&stream).map(|()| convert::in_form(&stream, Form::One));
+        calls::reference(Input::Search { stream: form_one.unwrap_or(stream) })
+    };
+    let found = compare(Call::Search, 4_000, 1, in_search).difference.expect("a difference");
+    assert!(describe(&found).contains("numbers"));
+}
+
+#[test]
+fn an_old_limit_on_bounds_is_found() {
+    let old_limit = |input: Input| {
+        let mut outcome = calls::reference(input);
+        if outcome.refusal == 0 && (7_200_001..NONE).contains(&outcome.message.bound) {
+            outcome = Outcome { refusal: 9, numbers: vec![0], ..Outcome::default() };
+        }
+        outcome
+    };
+    let found = compare(Call::Parse, 20_000, 1, old_limit).difference.expect("a difference");
+    assert!(describe(&found).contains("refusal 0 by the reference, 9 by the other"));
+}
+
+#[test]
+fn a_converter_that_asks_for_other_room_is_found() {
+    // for the file's blocks, or for the costs before the room
+    let for_the_file = |input: Input| {
+        let Input::Convert { file, out, .. } = &input else { unreachable!("a conversion") };
+        let short = out.len() < file.len();
+        let lent = out.clone();
+        let mut outcome = calls::reference(input);
+        if outcome.refusal == 0 && short {
+            outcome = Outcome { refusal: 13, numbers: vec![0], lent, ..Outcome::default() };
+        }
+        outcome
+    };
+    let found = compare(Call::ToFormOne, 20_000, 1, for_the_file).difference.expect("a difference");
+    assert!(describe(&found).contains("refusal 0 by the reference, 13 by the other"));
+    let costs_first = |input: Input| {
+        let Input::Convert { file, wanted, out } = input else { unreachable!("a conversion") };
+        let room = [out.clone(), vec![0; table::MAX_FILE]].concat();
+        let mut outcome = calls::reference(Input::Convert { file: file.clone(), wanted, out: room });
+        if outcome.refusal != 18 {
+            return calls::reference(Input::Convert { file, wanted, out });
+        }
+        outcome.lent.truncate(out.len());
+        outcome
+    };
+    let found = compare(Call::ToFormOne, 20_000, 1, costs_first).difference.expect("a difference");
+    assert!(describe(&found).contains("refusal 13 by the reference, 18 by the other"));
+}
+
+#[test]
+fn a_converter_that_writes_past_its_file_is_found() {
+    let clears_the_rest = |input: Input| {
+        let mut outcome = calls::reference(input);
+        if outcome.refusal == 0 {
+            outcome.lent[outcome.numbers[0] as usize..].fill(0);
+        }
+        outcome
+    };
+    for call in [Call::ToFormOne, Call::ToFormTwo] {
+        assert!(compare(call, 20_000, 1, clears_the_rest).difference.is_some());
+    }
 }

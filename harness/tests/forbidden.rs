@@ -4,8 +4,8 @@
 use harness::reference::costs::{self, Cost, View};
 use harness::reference::message::{self, Message};
 use harness::reference::unit::{self, Answer, Unit};
-use harness::reference::{network, search, table, Places, FORBIDDEN_PAIR, MAX_TOTAL, NONE};
-use harness::{generate, sample};
+use harness::reference::{network, search, table, Places, FORBIDDEN_PAIR, MAX_ESTIMATE, NONE};
+use harness::sample;
 
 const F: u16 = FORBIDDEN_PAIR;
 
@@ -17,7 +17,7 @@ fn places(bytes: &[u8]) -> Places {
 
 /// The two programs' output on a stream's table.
 fn printed(stream: &[u8]) -> [String; 2] {
-    let file = generate::blocks(stream);
+    let file = table::file_of(stream);
     [sample::shed(&file), sample::bench(&file)]
 }
 
@@ -68,9 +68,9 @@ fn only_one_number_above_the_limit_passes() {
         let expected = if refusal == 0 { Ok(()) } else { Err(refusal) };
         let stream = sample::stream(&[1, 2], &[1, cost]);
         assert_eq!(table::check_stream(&stream), expected, "{cost}");
-        assert_eq!(sample::read(&generate::blocks(&stream)).err().unwrap_or(0), refusal, "{cost}");
+        assert_eq!(sample::read(&table::file_of(&stream)).err().unwrap_or(0), refusal, "{cost}");
         assert_eq!(table::write(&stream, &mut [0; 512]).err().unwrap_or(0), refusal, "{cost}");
-        assert_eq!(costs::gather(&stream, 2, &mut [0; 4]).err().unwrap_or(0), refusal, "{cost}");
+        assert_eq!(costs::gather(&stream, 2, &mut [0; 8]).err().unwrap_or(0), refusal, "{cost}");
         for own in 1..=2 {
             assert_eq!(Lent::new(own, &[1, 2], &[1, cost]).make().refusal, refusal, "{cost}");
         }
@@ -142,7 +142,7 @@ fn the_least_over_permitted_assignments() {
 fn an_estimate_of_none_is_read_and_written() {
     let sizes = places(&[2, 2]);
     let of = |cost: u32| Message { sender: 2, receiver: 1, stamp: places(&[1]), cost, ..Message::default() };
-    for (cost, refusal) in [(MAX_TOTAL, 0), (MAX_TOTAL + 1, 9), (NONE - 1, 9), (NONE, 0)] {
+    for (cost, refusal) in [(MAX_ESTIMATE, 0), (MAX_ESTIMATE + 1, 9), (NONE - 1, 9), (NONE, 0)] {
         let packet = message::encode(message::ESTIMATE, &of(cost));
         let mut out = [0xaa; 64];
         assert_eq!(message::write(2, &sizes, message::ESTIMATE, &of(cost), &mut out).err().unwrap_or(0), refusal);
@@ -188,8 +188,8 @@ fn an_estimate_of_none_makes_the_unit_assign() {
     let estimate =
         |sender: u8, cost: u32| Message { sender, receiver: 1, stamp: made.unit.stamp, cost, ..Message::default() };
     // the largest number is kept while there is no bound
-    let kept = first.step(&made.unit, message::ESTIMATE, &estimate(2, MAX_TOTAL));
-    assert_eq!((kept.refusal, kept.records, kept.sent, kept.unit.estimates[1]), (0, 0, 0, MAX_TOTAL));
+    let kept = first.step(&made.unit, message::ESTIMATE, &estimate(2, MAX_ESTIMATE));
+    assert_eq!((kept.refusal, kept.records, kept.sent, kept.unit.estimates[1]), (0, 0, 0, MAX_ESTIMATE));
     // *none* is not, from whomever it comes
     for (unit, sender) in [(made.unit, 2), (made.unit, 3), (kept.unit, 2), (kept.unit, 3)] {
         let after = first.step(&unit, message::ESTIMATE, &estimate(sender, NONE));
@@ -319,7 +319,7 @@ fn an_own_value_forbidden_with_a_filled_one_is_out_of_range() {
 #[test]
 fn a_kept_estimate_is_not_none() {
     let first = Lent::new(1, &[2; 3], &ONE_LEFT);
-    for (estimate, refusal) in [(MAX_TOTAL, 0), (MAX_TOTAL + 1, 5), (NONE - 1, 5), (NONE, 5)] {
+    for (estimate, refusal) in [(MAX_ESTIMATE, 0), (MAX_ESTIMATE + 1, 5), (NONE - 1, 5), (NONE, 5)] {
         for place in 0..16 {
             let mut unit = unit::fresh();
             unit.estimates[place] = estimate;

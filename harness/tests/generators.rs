@@ -1,8 +1,8 @@
-//! The generators reach every refusal and every case of forbidden pairs of every call, and a refused call of the reference leaves what it was
-//! lent.
+//! The generators reach every refusal of every call and every case of forbidden pairs and of unary costs, and a refused call of the reference
+//! leaves what it was lent.
 
 use harness::calls::{self, Call, Input, CALLS};
-use harness::forbidden;
+use harness::cases;
 use harness::generate;
 use harness::random::Random;
 
@@ -18,6 +18,7 @@ fn lent(input: &Input) -> Option<Vec<u8>> {
     match input {
         Input::Read { stream: lent, .. }
         | Input::Write { file: lent, .. }
+        | Input::Convert { out: lent, .. }
         | Input::Readings { stream: lent, .. }
         | Input::Lent { out: lent, .. }
         | Input::Encode { out: lent, .. }
@@ -34,14 +35,14 @@ fn lent(input: &Input) -> Option<Vec<u8>> {
 fn every_refusal_is_reached_and_leaves_what_was_lent() {
     for (call, name, refusals) in CALLS {
         let mut random = Random::new(1);
-        let mut reached = [0u32; 18];
-        let mut cases = Vec::new();
+        let mut reached = [0u32; 19];
+        let mut came_to = Vec::new();
         for _ in 0..inputs(call) {
             let input = generate::input(&mut random, call);
             let before = input.clone();
             let outcome = calls::reference(input);
             reached[outcome.refusal as usize] += 1;
-            cases.extend(forbidden::reached(call, &before, &outcome));
+            came_to.extend(cases::reached(call, &before, &outcome));
             if outcome.refusal == 0 {
                 continue;
             }
@@ -56,15 +57,15 @@ fn every_refusal_is_reached_and_leaves_what_was_lent() {
         }
         println!("{name}: accepted {}, refused {:?}", reached[0], &reached[1..]);
         assert!(reached[0] > 100, "{name} was accepted {} times", reached[0]);
-        for refusal in 1..=17u8 {
+        for refusal in 1..=18u8 {
             let times = reached[refusal as usize];
             let can = refusals.contains(&refusal);
             assert!(can == (times > 0), "{name}: refusal {refusal} came {times} times");
         }
-        for case in forbidden::cases(call) {
-            let times = cases.iter().filter(|reached| *reached == case).count();
-            println!("  {case:?} {times} times");
-            assert!(times > 0, "{name} never came to {case:?}");
+        for case in cases::cases(call) {
+            let times = came_to.iter().filter(|reached| **reached == case).count();
+            println!("  {case} {times} times");
+            assert!(times > 0, "{name} never came to {case}");
         }
     }
 }

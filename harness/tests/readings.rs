@@ -127,8 +127,11 @@ fn refusals_in_order() {
 fn the_largest_stream() {
     let lines: Vec<u16> = (0..16).map(|line| 100 + 20 * line).collect();
     let mut buffer = vec![0xaa; table::MAX_STREAM];
-    assert_eq!(readings::write_stream(16, &[16; 16], &bytes(&lines), &mut buffer), Ok(table::MAX_STREAM));
-    let costs = buffer[17..].chunks(2).map(|cost| u16::from_le_bytes([cost[0], cost[1]]));
+    // form one's longest, though room for form two's is asked for
+    assert_eq!(readings::write_stream(16, &[16; 16], &bytes(&lines), &mut buffer), Ok(61_457));
+    assert_eq!(refused(16, &[16; 16], &bytes(&lines), 61_457), 13);
+    assert_eq!(buffer[61_457..], [0xaa; 513]);
+    let costs = buffer[17..61_457].chunks(2).map(|cost| u16::from_le_bytes([cost[0], cost[1]]));
     // 120 pairs of 16 same lots
     assert_eq!(costs.clone().filter(|cost| *cost == 60_000).count(), 1_920);
     assert_eq!(costs.filter(|cost| *cost == 0).count(), 28_800);

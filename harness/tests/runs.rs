@@ -4,16 +4,17 @@
 use harness::random::Random;
 use harness::reference::costs::{self, Cost};
 use harness::reference::network::{self, Network};
-use harness::reference::{search, NONE};
+use harness::reference::{search, table, NONE};
 use harness::{generate, sample};
 use std::collections::HashSet;
 
 /// 01: "N is d(1) + d(1) × d(2) + .. up to d(1) × .. × d(n-1)", times 3n - 1.
 fn most_deliveries(stream: &[u8]) -> u128 {
-    let n = stream[0] as usize;
+    let (n, sizes) = table::head(stream);
+    let n = n as usize;
     let mut product = 1u128;
     let mut sum = 0;
-    for size in &stream[1..n] {
+    for size in &sizes[..n - 1] {
         product *= u128::from(*size);
         sum += product;
     }

@@ -23,7 +23,7 @@ fn every_sample_run() {
         assert!(again == pool, "the pool of {}", path.display());
         compared += 1;
     }
-    assert_eq!(compared, 15);
+    assert_eq!(compared, 18);
 }
 
 /// Any input, refused or not.

@@ -25,12 +25,12 @@ fn compare_all(end: &str, program: fn(&[u8]) -> String) -> usize {
 
 #[test]
 fn listings() {
-    assert_eq!(compare_all("listing", sample::shed), 15);
+    assert_eq!(compare_all("listing", sample::shed), 18);
 }
 
 #[test]
 fn bench_reports() {
-    assert_eq!(compare_all("bench", sample::bench), 16);
+    assert_eq!(compare_all("bench", sample::bench), 20);
 }
 
 /// An accepted file written again is the same bytes.

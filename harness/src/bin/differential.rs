@@ -2,8 +2,8 @@
 //!
 //! differential [ROUNDS] [SEED] [WORD]: rounds for each call (20,000 and 1 unless named; a fifth for the calls on a whole network),
 //! of the calls alone whose name has the word, if there is one.
-//! Prints for each call how often it was accepted and how often each refusal and each case of forbidden pairs came; ends with 1 at a
-//! difference or at one of these never reached.
+//! Prints for each call how often it was accepted and how often each refusal came and each case of forbidden pairs or of unary costs; ends
+//! with 1 at a difference or at one of these never reached.
 
 use harness::calls::{Call, CALLS};
 use harness::differential;
@@ -36,7 +36,7 @@ fn main() {
             faults += 1;
         }
         for (case, _) in report.cases.iter().filter(|(_, times)| *times == 0) {
-            println!("  {case:?} was never reached");
+            println!("  {case} was never reached");
             faults += 1;
         }
     }

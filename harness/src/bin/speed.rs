@@ -11,8 +11,9 @@ use harness::linked;
 use harness::random::Random;
 use harness::reference::message::{self, Message};
 use harness::reference::network::{self, Network};
+use harness::reference::table::{self, Form};
 use harness::reference::unit::{self, Unit};
-use harness::reference::{costs, readings, search, table, Places};
+use harness::reference::{convert, costs, readings, search, Places};
 use harness::{generate, sample, tuned};
 use std::cell::RefCell;
 use std::hint::black_box;
@@ -28,6 +29,7 @@ trait Library {
     fn plain_step(&self, steps: &[Step], out: &mut [u8]) -> u64;
     fn table_read(&self, file: &[u8], stream: &mut [u8]) -> u64;
     fn table_write(&self, stream: &[u8], file: &mut [u8]) -> u64;
+    fn convert(&self, file: &[u8], wanted: Form, out: &mut [u8]) -> u64;
     fn readings_stream(&self, n: u8, sizes: &Places, readings: &[u8], stream: &mut [u8]) -> u64;
     fn message_parse(&self, n: u8, sizes: &Places, packets: &[[u8; 64]]) -> u64;
     fn message_write(&self, n: u8, sizes: &Places, messages: &[(u8, Message)], out: &mut [u8]) -> u64;
@@ -81,6 +83,10 @@ impl Library for Yardstick {
 
     fn table_write(&self, stream: &[u8], file: &mut [u8]) -> u64 {
         u64::from(black_box(table::write(stream, file)).is_ok())
+    }
+
+    fn convert(&self, file: &[u8], wanted: Form, out: &mut [u8]) -> u64 {
+        u64::from(black_box(convert::convert(file, wanted, out)).is_ok())
     }
 
     fn readings_stream(&self, n: u8, sizes: &Places, readings: &[u8], stream: &mut [u8]) -> u64 {
@@ -139,6 +145,14 @@ impl Library for Rattle {
 
     fn table_write(&self, stream: &[u8], file: &mut [u8]) -> u64 {
         u64::from(linked::table_write(stream, file).refusal == 0)
+    }
+
+    fn convert(&self, file: &[u8], wanted: Form, out: &mut [u8]) -> u64 {
+        let answer = match wanted {
+            Form::Two => linked::to_form_two(file, out),
+            Form::One => linked::to_form_one(file, out),
+        };
+        u64::from(answer.refusal == 0)
     }
 
     fn readings_stream(&self, n: u8, sizes: &Places, readings: &[u8], stream: &mut [u8]) -> u64 {
@@ -242,28 +256,44 @@ fn stream(n: usize, d: u8) -> Vec<u8> {
     sample::stream(&sizes, &costs)
 }
 
+/// Reading, writing and converting the largest table of each form, unary costs zero.
+fn table_rows() -> Vec<Row> {
+    let one = stream(16, 16);
+    let two = convert::in_form(&one, Form::Two);
+    let lent = || RefCell::new(vec![0; table::MAX_FILE]);
+    let mut rows = Vec::new();
+    for stream in [&one, &two] {
+        let (stream, file, out) = (stream.clone(), table::file_of(stream), lent());
+        let blocks = file.len() / table::BLOCK;
+        let bytes = file.len();
+        let read = move |library: &dyn Library| library.table_read(black_box(&file), &mut out.borrow_mut());
+        rows.push(row(format!("table read, {blocks} blocks"), "call", read).over(bytes));
+        let out = lent();
+        let write = move |library: &dyn Library| library.table_write(black_box(&stream), &mut out.borrow_mut());
+        rows.push(row(format!("table write, {blocks} blocks"), "call", write).over(bytes));
+    }
+    for (stream, wanted, name) in [(&one, Form::Two, "convert, to form two"), (&two, Form::One, "convert, to form one")]
+    {
+        let (file, out) = (table::file_of(stream), lent());
+        let bytes = file.len();
+        let work = move |library: &dyn Library| library.convert(black_box(&file), wanted, &mut out.borrow_mut());
+        rows.push(row(name.into(), "call", work).over(bytes));
+    }
+    rows
+}
+
 fn other_rows() -> Vec<Row> {
-    let (whole, lent) = (stream(16, 16), || RefCell::new(vec![0; table::MAX_FILE]));
-    let file = generate::blocks(&whole);
     let mut random = Random::new(3);
     let sizes = [4; 16];
     let messages: Vec<(u8, Message)> = (0..64).map(|_| generate::message(&mut random, 16, &sizes)).collect();
     let packets: Vec<[u8; 64]> = messages.iter().map(|(kind, m)| message::encode(*kind, m)).collect();
     let readings: Vec<u8> = (0..16).flat_map(|_| (random.between(160, 210) as u16).to_le_bytes()).collect();
-    let (read, written, made, out) = (lent(), lent(), lent(), RefCell::new([0; 64]));
+    let (made, out) = (RefCell::new(vec![0; table::MAX_STREAM]), RefCell::new([0; 64]));
     let mut rows = vec![
-        row("table read, 122 blocks".into(), "call", move |library| {
-            library.table_read(black_box(&file), &mut read.borrow_mut())
-        })
-        .over(table::MAX_FILE),
-        row("table write, 122 blocks".into(), "call", move |library| {
-            library.table_write(black_box(&whole), &mut written.borrow_mut())
-        })
-        .over(table::MAX_FILE),
         row("readings, 16 lines of 16".into(), "call", move |library| {
             library.readings_stream(16, &[16; 16], black_box(&readings), &mut made.borrow_mut())
         })
-        .over(table::MAX_STREAM),
+        .over(61_457),
         row("message read, 16 units".into(), "call", move |library| {
             library.message_parse(16, &sizes, black_box(&packets))
         })
@@ -344,6 +374,7 @@ fn main() {
     let counts = words.iter().position(|word| word == "--counts").map(|at| words.drain(at..at + 2).nth(1).unwrap());
     let only_once = words.iter().position(|word| word == "--once").map(|at| words.remove(at)).is_some();
     let mut rows = run_rows();
+    rows.extend(table_rows());
     rows.extend(other_rows());
     rows.retain(|row| row.name.contains(words.first().map_or("", String::as_str)));
     if only_once {

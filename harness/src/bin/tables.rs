@@ -1,23 +1,36 @@
-//! `tables FOLDER COUNT` writes random tables there, each as K.table (01's stored form) and K.wcsp (for toulbar2). The same ones every time;
-//! about half of them have forbidden pairs, and some of these no permitted assignment.
+//! `tables FOLDER COUNT` writes random tables there, each as K.table (stored, in form one or two) and K.wcsp (for toulbar2). The same ones
+//! every time; about half of them have forbidden pairs, and some of these no permitted assignment; about a third have unary costs.
 
 use harness::generate;
 use harness::random::Random;
-use harness::reference::{table, FORBIDDEN_PAIR, MAX_TOTAL};
+use harness::reference::table::{self, Form};
+use harness::reference::{FORBIDDEN_PAIR, MAX_TOTAL};
 use std::fmt::Write;
 use std::path::Path;
 use std::process::exit;
 
-/// The weighted CSP format: name, variables, largest domain, functions, upper bound; sizes; then each function's costs above 0.
-/// No solution costs the upper bound or more, so a pair of that cost is forbidden.
+fn numbers(bytes: &[u8]) -> impl Iterator<Item = u16> + '_ {
+    bytes.chunks(2).map(|cost| u16::from_le_bytes([cost[0], cost[1]]))
+}
+
+/// The weighted CSP format: name, variables, largest domain, functions, upper bound; sizes; then each function's costs above 0, those of one
+/// variable first. No solution costs the upper bound or more, so a pair of that cost is forbidden.
 fn wcsp(name: &str, stream: &[u8]) -> String {
-    let n = stream[0] as usize;
-    let d = |k: usize| stream[k] as usize;
+    let (n, sizes) = table::head(stream);
+    let n = n as usize;
+    let d = |k: usize| sizes[k - 1] as usize;
     let largest = (1..=n).map(d).max().unwrap_or(0);
     let sizes: Vec<String> = (1..=n).map(|k| d(k).to_string()).collect();
     let top = MAX_TOTAL + 1;
-    let mut text = format!("{name} {n} {largest} {} {top}\n{}\n", n * (n - 1) / 2, sizes.join(" "));
-    let mut costs = stream[1 + n..].chunks(2).map(|c| u16::from_le_bytes([c[0], c[1]]));
+    let of_one = if table::form(stream) == Form::Two { n } else { 0 };
+    let mut text = format!("{name} {n} {largest} {} {top}\n{}\n", of_one + n * (n - 1) / 2, sizes.join(" "));
+    let mut unary = numbers(table::unary_costs(stream));
+    for i in 1..=of_one {
+        let costs: Vec<(usize, u16)> = unary.by_ref().take(d(i)).enumerate().filter(|(_, cost)| *cost > 0).collect();
+        let _ = writeln!(text, "1 {} 0 {}", i - 1, costs.len());
+        text.extend(costs.iter().map(|(value, cost)| format!("{value} {cost}\n")));
+    }
+    let mut costs = numbers(table::pair_costs(stream));
     for i in 1..=n {
         for j in i + 1..=n {
             let mut lines = Vec::new();

@@ -1,7 +1,7 @@
 //! The radio message of 64 bytes. Names are the field's: cpa is 01's paper, request its copy, solution its news.
 
 use super::{bound_in_range, check_sizes, checksum, cost_limit, filled, solution_in_range};
-use super::{Places, Refusal, MAX_TOTAL, NONE};
+use super::{Places, Refusal, MAX_ESTIMATE, NONE};
 
 pub const SIZE: usize = 64;
 
@@ -89,7 +89,7 @@ fn check_fields(n: u8, sizes: &Places, kind: u8, m: &Message) -> Result<(), Refu
         ESTIMATE => {
             let stamped = filled(&m.stamp, m.receiver as usize, sizes) && m.values == zero;
             // 02's job 3: "An estimate with no value left carries 4,294,967,295, which check 9 lets through"
-            let estimated = m.cost <= MAX_TOTAL || m.cost == NONE;
+            let estimated = m.cost <= MAX_ESTIMATE || m.cost == NONE;
             m.sender > m.receiver && stamped && estimated && no_solution
         }
         SOLUTION => {
@@ -107,7 +107,7 @@ fn check_fields(n: u8, sizes: &Places, kind: u8, m: &Message) -> Result<(), Refu
 }
 
 /// The fields as they stand, unchecked. The bytes are 64.
-fn fields(bytes: &[u8]) -> (u8, Message) {
+pub fn fields(bytes: &[u8]) -> (u8, Message) {
     let places = |at: usize| -> Places { bytes[at..at + 16].try_into().unwrap() };
     let number = |at: usize| u32::from_le_bytes(bytes[at..at + 4].try_into().unwrap());
     let message = Message {

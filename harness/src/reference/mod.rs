@@ -1,6 +1,8 @@
-//! Documents 01 and 02 (jobs 1 and 3) in plain Rust, one module for each part of them. Refusals are their numbers, the first in their order.
+//! Documents 01 and 02 (jobs 1, 3 and 7) in plain Rust, one module for each part of them. Refusals are their numbers, the first in their
+//! order.
 
 pub mod checksum;
+pub mod convert;
 pub mod costs;
 pub mod message;
 pub mod network;
@@ -9,7 +11,7 @@ pub mod search;
 pub mod table;
 pub mod unit;
 
-/// 1 to 16, as in 01's table of refusals, and 02's 17.
+/// 1 to 16, as in 01's table of refusals, and 02's 17 and 18.
 pub type Refusal = u8;
 
 /// A byte per unit; those past n are not looked at where sizes are lent.
@@ -18,19 +20,22 @@ pub type Places = [u8; 16];
 /// 01: "*None* as a bound".
 pub const NONE: u32 = 4_294_967_295;
 
-/// The most that a bound or an estimate may be.
-pub const MAX_TOTAL: u32 = 7_200_000;
+/// 02's job 7: "The limit on bounds and totals (not estimates) becomes 8,160,000".
+pub const MAX_TOTAL: u32 = 8_160_000;
 
-/// The most that a pair may cost.
+/// 01: "an estimate at most 7,200,000".
+pub const MAX_ESTIMATE: u32 = 7_200_000;
+
+/// The most that a pair may cost, and a value by itself.
 pub const MAX_COST: u32 = 60_000;
 
 /// 02's job 3: "A pair cost of 65,535 means barred".
 pub const FORBIDDEN_PAIR: u16 = 65_535;
 
-/// 01: "A paper or copy with k filled units costs at most 30,000 × k × (k-1)".
+/// 01: "A paper or copy with k filled units costs at most 30,000 × k × (k-1)"; 02's job 7: "may cost 60,000 × k more".
 pub fn cost_limit(filled: usize) -> u32 {
     let k = filled as u32;
-    30_000 * k * k.saturating_sub(1)
+    30_000 * k * k.saturating_sub(1) + 60_000 * k
 }
 
 /// 01: "Filled stamp and value bytes are 1 to d(k), others 0".
@@ -38,7 +43,7 @@ pub fn filled(places: &Places, count: usize, sizes: &Places) -> bool {
     (0..16).all(|k| if k < count { places[k] >= 1 && places[k] <= sizes[k] } else { places[k] == 0 })
 }
 
-/// 01: "A bound is at most 7,200,000 with best filled for all n and zero after".
+/// 01: "A bound is at most 7,200,000 with best filled for all n and zero after"; 02's job 7 has another limit.
 pub fn solution_in_range(bound: u32, best: &Places, n: usize, sizes: &Places) -> bool {
     bound <= MAX_TOTAL && filled(best, n, sizes)
 }

@@ -14,22 +14,37 @@ pub fn exhaustive(stream: &[u8]) -> Result<(u32, Places), Refusal> {
     if assignments > MAX_ASSIGNMENTS {
         return Err(16);
     }
-    let mut search = Search { n: n as usize, sizes, pairs: pair_tables(stream), values: [0; 16], best: None };
+    let (unary, pairs) = (unary_tables(stream), pair_tables(stream));
+    let mut search = Search { n: n as usize, sizes, unary, pairs, values: [0; 16], best: None };
     search.extend_at(0, 0);
     Ok(search.best.unwrap_or((NONE, [0; 16])))
 }
 
+/// The next so many costs.
+fn take(costs: &mut impl Iterator<Item = u16>, count: usize) -> Vec<u16> {
+    costs.take(count).collect()
+}
+
+fn numbers(bytes: &[u8]) -> impl Iterator<Item = u16> + '_ {
+    bytes.chunks(2).map(|cost| u16::from_le_bytes([cost[0], cost[1]]))
+}
+
+/// The unary costs of each unit, units from 0; zeros where the stream has none.
+fn unary_tables(stream: &[u8]) -> Vec<Vec<u16>> {
+    let (n, sizes) = table::head(stream);
+    let mut costs = numbers(table::unary_costs(stream)).chain(std::iter::repeat(0));
+    (0..n as usize).map(|i| take(&mut costs, sizes[i].into())).collect()
+}
+
 /// The costs of each pair (i, j), i < j, units from 0.
 fn pair_tables(stream: &[u8]) -> Vec<Vec<Vec<u16>>> {
-    let n = stream[0] as usize;
-    let mut at = 1 + n;
+    let (n, sizes) = table::head(stream);
+    let n = n as usize;
+    let mut costs = numbers(table::pair_costs(stream));
     let mut tables = vec![vec![Vec::new(); n]; n];
     for i in 0..n {
         for j in i + 1..n {
-            let count = stream[1 + i] as usize * stream[1 + j] as usize;
-            let bytes = &stream[at..at + 2 * count];
-            tables[i][j] = bytes.chunks(2).map(|c| u16::from_le_bytes([c[0], c[1]])).collect();
-            at += 2 * count;
+            tables[i][j] = take(&mut costs, sizes[i] as usize * sizes[j] as usize);
         }
     }
     tables
@@ -38,6 +53,7 @@ fn pair_tables(stream: &[u8]) -> Vec<Vec<Vec<u16>>> {
 struct Search {
     n: usize,
     sizes: Places,
+    unary: Vec<Vec<u16>>,
     pairs: Vec<Vec<Vec<u16>>>,
     values: Places,
     best: Option<(u32, Places)>,
@@ -54,9 +70,10 @@ impl Search {
         }
         for value in 1..=self.sizes[unit] {
             self.values[unit] = value;
+            let unary = u32::from(self.unary[unit][value as usize - 1]);
             // 02's job 3: "A lotting with a barred pair isn't a lotting"
-            if let Cost::Of(added) = (0..unit).map(|before| self.pair(before, unit)).sum() {
-                self.extend_at(unit + 1, cost + added);
+            if let Cost::Of(pairs) = (0..unit).map(|before| self.pair(before, unit)).sum() {
+                self.extend_at(unit + 1, cost + unary + pairs);
             }
         }
     }

@@ -1,13 +1,25 @@
-//! The stored table: blocks of 512 bytes, and the stream that their payloads carry.
+//! The stored table: blocks of 512 bytes, and the stream that their payloads carry, in either form.
 
 use super::{checksum, costs, Places, Refusal, FORBIDDEN_PAIR, MAX_COST};
 
 pub const BLOCK: usize = 512;
 pub const PAYLOAD: usize = 506;
-pub const MAX_STREAM: usize = 61_457;
-pub const MAX_FILE: usize = 62_464;
+/// 02's job 7: "at most 123 blocks or 62,976 bytes, and a stream buffer of 61,970".
+pub const MAX_STREAM: usize = 61_970;
+pub const MAX_FILE: usize = 62_976;
 
-fn number_at(bytes: &[u8], at: usize) -> u16 {
+/// How a stream lays its table out: 01's form, and 02's job 7: "Stored form two: the stream opens with byte 200, then n, sizes, own costs
+/// unit by unit, pair costs".
+#[derive(Clone, Copy, PartialEq, Eq, Debug)]
+pub enum Form {
+    One,
+    Two,
+}
+
+/// What a stream in form two opens with.
+pub const FORM_TWO: u8 = 200;
+
+pub fn number_at(bytes: &[u8], at: usize) -> u16 {
     u16::from_le_bytes([bytes[at], bytes[at + 1]])
 }
 
@@ -35,6 +47,13 @@ pub fn read(file: &[u8], stream: &mut [u8]) -> Result<usize, Refusal> {
     if stream.len() < MAX_STREAM {
         return Err(13);
     }
+    let joined = stream_of(file)?;
+    stream[..joined.len()].copy_from_slice(&joined);
+    Ok(joined.len())
+}
+
+/// The stream that a table's file carries. Refusals 1, each block's, 5, 6, 7.
+pub fn stream_of(file: &[u8]) -> Result<Vec<u8>, Refusal> {
     if file.is_empty() || !file.len().is_multiple_of(BLOCK) || file.len() > MAX_FILE {
         return Err(1);
     }
@@ -45,21 +64,24 @@ pub fn read(file: &[u8], stream: &mut [u8]) -> Result<usize, Refusal> {
         joined.extend_from_slice(read_block(block, k as u16, k + 1 == blocks)?);
     }
     check_stream(&joined)?;
-    stream[..joined.len()].copy_from_slice(&joined);
-    Ok(joined.len())
+    Ok(joined)
 }
 
-/// A stream into its file; gives the file's length. Refusals 5, 6, 7, 13.
+/// A stream into its file, in the stream's form; gives the file's length. Refusals 5, 6, 7, 13.
 pub fn write(stream: &[u8], file: &mut [u8]) -> Result<usize, Refusal> {
     check_stream(stream)?;
-    let blocks = stream.len().div_ceil(PAYLOAD);
-    if file.len() < blocks * BLOCK {
+    let blocks = file_of(stream);
+    if file.len() < blocks.len() {
         return Err(13);
     }
-    for (k, payload) in stream.chunks(PAYLOAD).enumerate() {
-        file[k * BLOCK..(k + 1) * BLOCK].copy_from_slice(&make_block(k as u16, payload));
-    }
-    Ok(blocks * BLOCK)
+    file[..blocks.len()].copy_from_slice(&blocks);
+    Ok(blocks.len())
+}
+
+/// The blocks that carry any bytes taken as a stream.
+pub fn file_of(stream: &[u8]) -> Vec<u8> {
+    let blocks = stream.chunks(PAYLOAD).enumerate();
+    blocks.flat_map(|(k, payload)| make_block(k as u16, payload)).collect()
 }
 
 /// One block with its checksum. The payload has at most 506 bytes.
@@ -75,37 +97,84 @@ pub fn make_block(number: u16, payload: &[u8]) -> [u8; BLOCK] {
 
 /// Refusals 5, 6, 7 of a stream. 01: "In a stream too short for n or the sizes, those present are checked by 5, then it is 6".
 pub fn check_stream(stream: &[u8]) -> Result<(), Refusal> {
-    let Some(n) = stream.first() else { return Err(6) };
+    let Some((n, rest)) = from_count(stream).split_first() else { return Err(6) };
     if !(1..=16).contains(n) {
         return Err(5);
     }
     let n = *n as usize;
-    if stream[1..].iter().take(n).any(|d| !(1..=16).contains(d)) {
+    if rest.iter().take(n).any(|d| !(1..=16).contains(d)) {
         return Err(5);
     }
-    if stream.len() < 1 + n {
+    if rest.len() < n {
         return Err(6);
     }
     let (_, sizes) = head(stream);
-    if stream.len() != 1 + n + 2 * costs::pairs_in_table(n, &sizes) {
+    if rest.len() != n + 2 * (stored_unary(stream) + costs::pairs_in_table(n, &sizes)) {
         return Err(6);
     }
-    check_costs(&stream[1 + n..])
+    check_unary(unary_costs(stream))?;
+    check_pairs(pair_costs(stream))
 }
 
-/// Refusal 7, which lets 65,535 through. The number of bytes is even.
-pub fn check_costs(bytes: &[u8]) -> Result<(), Refusal> {
-    let above = |cost: u16| u32::from(cost) > MAX_COST && cost != FORBIDDEN_PAIR;
-    if bytes.chunks(2).any(|pair| above(number_at(pair, 0))) {
+/// Refusal 7 of unary costs. 02's job 7: "0 to 60,000, never barred". The number of bytes is even.
+pub fn check_unary(bytes: &[u8]) -> Result<(), Refusal> {
+    if bytes.chunks(2).any(|cost| u32::from(number_at(cost, 0)) > MAX_COST) {
         return Err(7);
     }
     Ok(())
 }
 
+/// Refusal 7 of pair costs, which lets 65,535 through. The number of bytes is even.
+pub fn check_pairs(bytes: &[u8]) -> Result<(), Refusal> {
+    let above = |cost: u16| u32::from(cost) > MAX_COST && cost != FORBIDDEN_PAIR;
+    if bytes.chunks(2).any(|cost| above(number_at(cost, 0))) {
+        return Err(7);
+    }
+    Ok(())
+}
+
+// The parts of a stream
+
+/// The form of any bytes taken as a stream.
+pub fn form(stream: &[u8]) -> Form {
+    if stream.first() == Some(&FORM_TWO) {
+        Form::Two
+    } else {
+        Form::One
+    }
+}
+
+/// Any bytes taken as a stream, from n on.
+pub fn from_count(stream: &[u8]) -> &[u8] {
+    stream.strip_prefix(&[FORM_TWO]).unwrap_or(stream)
+}
+
 /// n and the sizes of a stream that has them, places past n zero.
 pub fn head(stream: &[u8]) -> (u8, Places) {
-    let n = stream[0] as usize;
+    let counted = from_count(stream);
+    let n = counted[0] as usize;
     let mut sizes = [0; 16];
-    sizes[..n].copy_from_slice(&stream[1..1 + n]);
+    sizes[..n].copy_from_slice(&counted[1..1 + n]);
     (n as u8, sizes)
+}
+
+/// How many unary costs a stream with these sizes holds.
+fn stored_unary(stream: &[u8]) -> usize {
+    let (n, sizes) = head(stream);
+    match form(stream) {
+        Form::One => 0,
+        Form::Two => costs::values_in_table(n as usize, &sizes),
+    }
+}
+
+/// The bytes of a stream's unary costs, none in form one. The stream has its right length.
+pub fn unary_costs(stream: &[u8]) -> &[u8] {
+    let (n, _) = head(stream);
+    &from_count(stream)[1 + n as usize..][..2 * stored_unary(stream)]
+}
+
+/// The bytes of its pair costs.
+pub fn pair_costs(stream: &[u8]) -> &[u8] {
+    let (n, _) = head(stream);
+    &from_count(stream)[1 + n as usize..][2 * stored_unary(stream)..]
 }

@@ -2,7 +2,7 @@
 
 use super::costs::{self, Cost, View};
 use super::message::{self, Message};
-use super::{bound_in_range, check_sizes, cost_limit, filled, table, Places, Refusal, MAX_TOTAL, NONE};
+use super::{bound_in_range, check_sizes, cost_limit, filled, table, Places, Refusal, MAX_ESTIMATE, NONE};
 use std::cmp::Ordering;
 
 /// Bytes that a buffer for sending must have.
@@ -125,19 +125,21 @@ fn check_own(own: u8, n: u8) -> Result<(), Refusal> {
     }
 }
 
-/// Refusals 6 and 7 for the costs lent to a unit.
+/// Refusals 6 and 7 for the costs lent to a unit. 02's job 7: "A unit's own costs are lent before its pair costs".
 fn check_costs(own: u8, n: u8, sizes: &Places, costs: &[u8]) -> Result<(), Refusal> {
-    if costs.len() != 2 * costs::pairs_of_unit(own as usize, n as usize, sizes) {
+    if costs.len() != 2 * costs::lent_to_unit(own as usize, n as usize, sizes) {
         return Err(6);
     }
-    table::check_costs(costs)
+    let (unary, pairs) = costs.split_at(2 * sizes[own as usize - 1] as usize);
+    table::check_unary(unary)?;
+    table::check_pairs(pairs)
 }
 
 /// 01: "A lent state is in range when ..".
 pub fn in_range(view: &View, unit: &Unit) -> bool {
     let limits = unit.stopped <= 1
         && unit.threshold.iter().all(|byte| *byte <= 17)
-        && unit.estimates.iter().all(|estimate| *estimate <= MAX_TOTAL)
+        && unit.estimates.iter().all(|estimate| *estimate <= MAX_ESTIMATE)
         && bound_in_range(unit.bound, &unit.best, view.n, &view.sizes);
     limits && cpa_in_range(view, unit)
 }
@@ -156,7 +158,7 @@ fn cpa_in_range(view: &View, unit: &Unit) -> bool {
     let counted = unit.counter == unit.stamp[own - 1] && unit.counter <= value;
     let fresh = compare(&unit.threshold, &unit.stamp, own) != Ordering::Less;
     // 02's job 3: "A lent paper whose own value is barred with a filled one is out of range"
-    let Cost::Of(own_costs) = view.with_first(&unit.values, own - 1, value as usize) else { return false };
+    let Cost::Of(own_costs) = view.added(&unit.values, own - 1, value as usize) else { return false };
     let before = unit.cost.checked_sub(own_costs);
     counted && fresh && before.is_some_and(|cost| cost <= cost_limit(own - 1))
 }
@@ -303,7 +305,7 @@ impl<'a> Work<'a> {
         if value == 0 {
             return self.unit.cost;
         }
-        let own_costs = self.view.with_first(&self.unit.values, self.view.own - 1, value);
+        let own_costs = self.view.added(&self.unit.values, self.view.own - 1, value);
         self.unit.cost.saturating_sub(own_costs.or_none())
     }
 
@@ -336,7 +338,7 @@ impl<'a> Work<'a> {
         let own = self.view.own;
         let before = self.cost_without_own();
         for v in self.own_value() + 1..=self.view.size(own) {
-            let cost = Cost::Of(before) + self.view.with_first(&self.unit.values, own - 1, v);
+            let cost = Cost::Of(before) + self.view.added(&self.unit.values, own - 1, v);
             let (Cost::Of(cost), Cost::Of(h)) = (cost, self.view.h(v)) else { continue };
             if cost + h < self.unit.bound {
                 return Some((v, cost));

@@ -1,0 +1,192 @@
+//! What an input comes to beside the refusals: the cases of forbidden pairs (02's job 3) and of unary costs (its job 7), each of which
+//! generated inputs must come to; then what both kinds look at: an input's costs, and a unit's step.
+
+use crate::calls::{Call, Input, Outcome};
+use crate::reference::costs::{self, View};
+use crate::reference::message::{self, Message};
+use crate::reference::table::{self, Form};
+use crate::reference::unit::Unit;
+use crate::reference::Places;
+use crate::{forbidden, unary};
+use std::fmt;
+
+#[derive(Clone, Copy, PartialEq, Eq)]
+pub enum Case {
+    Forbidden(forbidden::Case),
+    Unary(unary::Case),
+}
+
+impl fmt::Display for Case {
+    fn fmt(&self, out: &mut fmt::Formatter) -> fmt::Result {
+        match self {
+            Case::Forbidden(case) => write!(out, "{case:?}"),
+            Case::Unary(case) => write!(out, "{case:?}"),
+        }
+    }
+}
+
+/// The cases that a call can come to.
+pub fn cases(call: Call) -> Vec<Case> {
+    let unary = unary::cases(call).into_iter().map(Case::Unary);
+    forbidden::cases(call).iter().map(|case| Case::Forbidden(*case)).chain(unary).collect()
+}
+
+/// The cases that an input came to; the outcome is the reference's.
+pub fn reached(call: Call, input: &Input, outcome: &Outcome) -> Vec<Case> {
+    let mut cases = cases(call);
+    cases.retain(|case| match case {
+        Case::Forbidden(case) => forbidden::came_to(*case, input, outcome),
+        Case::Unary(case) => unary::came_to(*case, input, outcome),
+    });
+    cases
+}
+
+// Costs
+
+/// The stream that an input comes with, whatever its bytes.
+pub fn stream_in(input: &Input) -> Option<Vec<u8>> {
+    match input {
+        Input::Read { file, .. } | Input::Convert { file, .. } => Some(payloads(file)),
+        Input::Write { stream, .. }
+        | Input::Lent { stream, .. }
+        | Input::MakeNetwork { stream, .. }
+        | Input::Deliver { stream, .. }
+        | Input::Settle { stream, .. }
+        | Input::Search { stream } => Some(stream.clone()),
+        _ => None,
+    }
+}
+
+/// The payloads of a file's blocks, joined.
+fn payloads(file: &[u8]) -> Vec<u8> {
+    let payload = |block: &[u8]| {
+        let count = u16::from_le_bytes([block[2], block[3]]) as usize;
+        block[4..4 + count.min(table::PAYLOAD)].to_vec()
+    };
+    file.chunks_exact(table::BLOCK).flat_map(payload).collect()
+}
+
+/// Where the unary and the pair costs of a stream begin, whatever its bytes.
+pub fn begin_in_stream(stream: &[u8]) -> (usize, usize) {
+    let counted = table::from_count(stream);
+    let n = counted.first().map_or(0, |n| *n as usize);
+    let sizes: usize = costs::sizes_in(stream).iter().map(|d| *d as usize).sum();
+    let unary = stream.len() - counted.len() + 1 + n;
+    let pairs = if table::form(stream) == Form::Two { unary + 2 * sizes } else { unary };
+    (unary.min(stream.len()), pairs.min(stream.len()))
+}
+
+/// Where the pair costs begin in what a unit is lent, whatever the bytes.
+fn pairs_begin_in_lent(own: u8, sizes: &Places, costs: &[u8]) -> usize {
+    let size = (own as usize).checked_sub(1).and_then(|place| sizes.get(place)).map_or(0, |d| *d as usize);
+    (2 * size).min(costs.len())
+}
+
+/// The costs that an input comes with, of a table or of a unit: unary, pairs.
+pub fn costs_in(input: &Input) -> (Vec<u16>, Vec<u16>) {
+    let numbers = |bytes: &[u8]| bytes.chunks_exact(2).map(|cost| u16::from_le_bytes([cost[0], cost[1]])).collect();
+    match input {
+        Input::Make { own, sizes, costs, .. }
+        | Input::InRange { own, sizes, costs, .. }
+        | Input::Step { own, sizes, costs, .. } => {
+            let (unary, pairs) = costs.split_at(pairs_begin_in_lent(*own, sizes, costs));
+            (numbers(unary), numbers(pairs))
+        }
+        _ => {
+            let stream = stream_in(input).unwrap_or_default();
+            let (unary, pairs) = begin_in_stream(&stream);
+            (numbers(&stream[unary..pairs]), numbers(&stream[pairs..]))
+        }
+    }
+}
+
+/// The pair costs of what a step or a delivery is lent, to be changed.
+pub fn pairs_lent(input: &mut Input) -> &mut [u8] {
+    match input {
+        Input::InRange { own, sizes, costs, .. } | Input::Step { own, sizes, costs, .. } => {
+            let pairs = pairs_begin_in_lent(*own, sizes, costs);
+            &mut costs[pairs..]
+        }
+        Input::Deliver { stream, .. } => {
+            let (_, pairs) = begin_in_stream(stream);
+            &mut stream[pairs..]
+        }
+        _ => &mut [],
+    }
+}
+
+// Units
+
+/// A unit's place in a table, its costs its own.
+pub struct Seat {
+    pub own: usize,
+    pub n: usize,
+    pub sizes: Places,
+    pub costs: Vec<u8>,
+}
+
+impl Seat {
+    pub fn lent(own: u8, n: u8, sizes: &Places, costs: &[u8]) -> Seat {
+        Seat { own: own as usize, n: n as usize, sizes: *sizes, costs: costs.to_vec() }
+    }
+
+    pub fn of_stream(stream: &[u8], own: usize) -> Seat {
+        let (n, sizes) = table::head(stream);
+        Seat { own, n: n as usize, sizes, costs: costs::of_unit(stream, own) }
+    }
+
+    pub fn view(&self) -> View<'_> {
+        View::new(self.own, self.n, &self.sizes, &self.costs)
+    }
+}
+
+/// The units that an input of checked sizes and costs comes with.
+pub fn units_in(input: &Input) -> Vec<(Seat, Unit)> {
+    match input {
+        Input::InRange { unit, own, n, sizes, costs } | Input::Step { unit, own, n, sizes, costs, .. } => {
+            vec![(Seat::lent(*own, *n, sizes, costs), *unit)]
+        }
+        Input::Deliver { network, stream, .. } => {
+            let n = table::head(stream).0 as usize;
+            (1..=n).map(|own| (Seat::of_stream(stream, own), network.units[own - 1])).collect()
+        }
+        _ => Vec::new(),
+    }
+}
+
+/// A step alone or of a delivery, accepted or refused by 11.
+pub struct Stepped {
+    pub seat: Seat,
+    pub before: Unit,
+    pub after: Unit,
+    pub kind: u8,
+    pub message: Message,
+    pub sent: Vec<u8>,
+}
+
+impl Stepped {
+    pub fn new(input: &Input, outcome: &Outcome) -> Option<Stepped> {
+        if outcome.refusal != 0 && outcome.refusal != 11 {
+            return None;
+        }
+        let cells = |from: u64, to: u64| outcome.lent[64 * from as usize..64 * to.max(from) as usize].to_vec();
+        match input {
+            Input::Step { unit, own, n, sizes, costs, packet, .. } => {
+                let (kind, message) = message::parse(*n, sizes, packet).ok()?;
+                let seat = Seat::lent(*own, *n, sizes, costs);
+                let sent = cells(0, outcome.numbers[0]);
+                Some(Stepped { seat, before: *unit, after: outcome.units[0], kind, message, sent })
+            }
+            Input::Deliver { network, stream, pool, cell } => {
+                let (n, sizes) = table::head(stream);
+                let at = 64 * *cell as usize;
+                let (kind, message) = message::parse(n, &sizes, &pool[at..at + 64]).ok()?;
+                let seat = Seat::of_stream(stream, message.receiver as usize);
+                let (before, after) = (network.units[seat.own - 1], outcome.units[seat.own - 1]);
+                let sent = if outcome.refusal == 0 { cells(network.count - 1, outcome.numbers[0]) } else { Vec::new() };
+                Some(Stepped { seat, before, after, kind, message, sent })
+            }
+            _ => None,
+        }
+    }
+}
