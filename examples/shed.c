@@ -54,7 +54,7 @@ static void start(struct box *box, uint8_t own, const uint8_t *stream, size_t le
 {
     uint8_t out[RIKSAMOE_SENDING];
     box->own = own;
-    box->n = stream[0];
+    box->n = riksamoe_units(stream, length);
     box->sizes = riksamoe_sizes(stream, length);
     riksamoe_length_t costs = riksamoe_costs(stream, length, own, box->costs, sizeof box->costs);
     if (costs.refusal != 0)
@@ -122,7 +122,7 @@ int main(int count, char **words)
         return 2;
     }
     size_t length = load(words[1], stream);
-    uint8_t n = stream[0];
+    uint8_t n = riksamoe_units(stream, length);
     for (uint8_t own = 1; own <= n; own++)
         start(&boxes[own - 1], own, stream, length);
     while (!boxes[0].unit.stopped)

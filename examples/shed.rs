@@ -55,6 +55,7 @@ mod riksamoe {
 
     extern "C" {
         pub fn riksamoe_table_read(file: *const u8, length: usize, stream: *mut u8, room: usize) -> Length;
+        pub fn riksamoe_units(stream: *const u8, length: usize) -> u8;
         pub fn riksamoe_sizes(stream: *const u8, length: usize) -> Sizes;
         pub fn riksamoe_costs(stream: *const u8, length: usize, own: u8, out: *mut u8, room: usize) -> Length;
         pub fn riksamoe_unit_make(
@@ -83,9 +84,9 @@ mod riksamoe {
 
 use riksamoe::*;
 
-const STREAM: usize = 61_457;
+const STREAM: usize = 61_970;
 const SENDING: usize = 1_024;
-const COSTS: usize = 7_680;
+const COSTS: usize = 7_712;
 
 type Packet = [u8; 64];
 type Refusal = u8;
@@ -112,7 +113,7 @@ fn packets(out: &[u8], sent: u8) -> Vec<Packet> {
 impl Node {
     /// Power on: the box takes its part of the table, and unit 1 sends its first packets.
     fn start(own: u8, stream: &[u8]) -> Result<(Node, Done), Refusal> {
-        let n = stream[0];
+        let n = units(stream);
         let mut costs = vec![0; COSTS];
         let mut out = [0; SENDING];
         // every pointer comes with the length of the slice that it points into, and the library keeps none
@@ -169,13 +170,18 @@ fn load(path: &str) -> Result<Vec<u8>, String> {
     Ok(stream)
 }
 
+/// How many boxes there are.
+fn units(stream: &[u8]) -> u8 {
+    unsafe { riksamoe_units(stream.as_ptr(), stream.len()) }
+}
+
 fn run(path: &str) -> Result<(), String> {
     let refused = |refusal: Refusal| format!("refused {refusal}");
     let stream = load(path)?;
     let mut air: VecDeque<Packet> = VecDeque::new();
     let mut nodes = Vec::new();
     let (mut records, mut accepted) = (0, 0);
-    for own in 1..=stream[0] {
+    for own in 1..=units(&stream) {
         let (node, done) = Node::start(own, &stream).map_err(refused)?;
         nodes.push(node);
         records += u64::from(done.records);

@@ -7,8 +7,8 @@
  *
  * What a box does
  *
- *   1. At start, from the stored table: riksamoe_table_read joins its blocks to the stream. The stream's first byte is n;
- *      riksamoe_sizes gives the sizes, riksamoe_costs the costs that touch this unit. Keep n, sizes and costs; the stream can go.
+ *   1. At start, from the stored table: riksamoe_table_read joins its blocks to the stream. riksamoe_units gives n, riksamoe_sizes the
+ *      sizes, riksamoe_costs the costs that touch this unit. Keep n, sizes and costs; the stream can go.
  *   2. riksamoe_unit_make gives the unit's first state and, for unit 1, its first packets. Send these.
  *   3. When a packet arrives, call riksamoe_unit_step_in_place with the kept state, n, sizes, costs, the bytes as they came and an
  *      output of RIKSAMOE_SENDING bytes. If the refusal is 0, send the first `sent` packets of 64 bytes from the output, in their
@@ -16,6 +16,10 @@
  *   4. Once `stopped` is 1 the box is done, and every later packet that reads well is refused by 12. In box 1 `bound` is then the least
  *      total and `best` the value of each unit (unit k's at best[k - 1]); this is proved. The others are told both by box 1's stop.
  *      Where every assignment has a forbidden pair, `bound` is RIKSAMOE_NONE and `best` all 0; box 1 may then have stopped when made.
+ *
+ * A stored table has one of two forms, told by the first byte of its stream. Form one: n, 1 to 16; the n sizes; the pair costs. Form two:
+ * RIKSAMOE_FORM_TWO; n; the sizes; what each value of each unit costs alone, unit by unit (unary costs, 0 to 60,000); the pair costs. Costs
+ * are 16-bit numbers, the low byte first. Every call takes both; in form one all unary costs are 0. A stream is written in its own form.
  *
  * A stale packet is accepted, changes nothing and sends nothing. Packets may come in any order; none may be lost.
  *
@@ -32,21 +36,24 @@
  *
  *   riksamoe_checksum                256
  *   riksamoe_block_refusal           256
- *   riksamoe_table_read              256
- *   riksamoe_table_write             256
+ *   riksamoe_table_read              512
+ *   riksamoe_table_write             512
+ *   riksamoe_to_form_one           2,304
+ *   riksamoe_to_form_two           2,304
  *   riksamoe_readings_stream         256
+ *   riksamoe_units                   256
  *   riksamoe_sizes                   256
- *   riksamoe_costs                   768
+ *   riksamoe_costs                 1,024
  *   riksamoe_message_parse           768
  *   riksamoe_message_write           768
  *   riksamoe_unit_make             2,560
  *   riksamoe_unit_in_range         1,280
- *   riksamoe_unit_step             5,120
- *   riksamoe_unit_step_in_place    5,120
+ *   riksamoe_unit_step             5,376
+ *   riksamoe_unit_step_in_place    5,376
  *   riksamoe_network_make         13,312
  *   riksamoe_network_deliver      25,088
  *   riksamoe_network_settle      150,016
- *   riksamoe_search                6,656
+ *   riksamoe_search                7,424
  */
 #ifndef RIKSAMOE_H
 #define RIKSAMOE_H
@@ -58,16 +65,17 @@
 extern "C" {
 #endif
 
-#define RIKSAMOE_VERSION 4         /* raised where a call, a struct or a promise below changes */
+#define RIKSAMOE_VERSION 5         /* raised where a call, a struct or a promise below changes */
 
 #define RIKSAMOE_UNITS 16          /* places in every array: unit k's is k - 1 */
 #define RIKSAMOE_NONE 4294967295u  /* the bound *none*; the estimate of a unit that has no value left */
 #define RIKSAMOE_FORBIDDEN 65535u  /* the 16-bit pair cost of two values that may not meet: no assignment has both */
 #define RIKSAMOE_PACKET 64         /* bytes of a packet */
 #define RIKSAMOE_SENDING 1024      /* bytes to lend for what a step sends: 16 packets */
-#define RIKSAMOE_COSTS 7680        /* most bytes of the costs that touch one unit */
-#define RIKSAMOE_STREAM 61457      /* bytes to lend for a stream */
-#define RIKSAMOE_FILE 62464        /* most bytes of a stored table */
+#define RIKSAMOE_COSTS 7712        /* most bytes of the costs that touch one unit: unary costs first, then pair costs */
+#define RIKSAMOE_STREAM 61970      /* bytes to lend for a stream */
+#define RIKSAMOE_FILE 62976        /* most bytes of a stored table */
+#define RIKSAMOE_FORM_TWO 200      /* the first byte of a stream of form two */
 #define RIKSAMOE_POOL 65536        /* bytes to lend for a network's pool: 1,024 cells of a packet */
 
 /* Kinds of message, with the words of the format's paper. */
@@ -76,13 +84,13 @@ enum { RIKSAMOE_CPA = 1 /* paper */, RIKSAMOE_REQUEST = 2 /* copy */, RIKSAMOE_E
 /* Refusals. The order in which a call checks them stands with it; the first that applies is returned. */
 enum {
     RIKSAMOE_ACCEPTED = 0,
-    RIKSAMOE_BAD_FILE = 1,        /* table bytes: 0, no multiple of 512, or over 62,464; a block not of 512 bytes */
+    RIKSAMOE_BAD_FILE = 1,        /* table bytes: 0, no multiple of 512, or over 62,976; a block not of 512 bytes */
     RIKSAMOE_BAD_BLOCK = 2,       /* block number wrong */
     RIKSAMOE_BAD_PAYLOAD = 3,     /* payload count or unused bytes wrong */
     RIKSAMOE_BAD_BLOCK_CHECK = 4, /* block check wrong */
     RIKSAMOE_OUT_OF_RANGE = 5,    /* n or a size not 1 to 16; a state out of range, or a pool count over 1,024 */
     RIKSAMOE_BAD_LENGTH = 6,      /* stream, or a unit's costs, shorter or longer than n and the sizes need */
-    RIKSAMOE_BAD_COST = 7,        /* a pair cost above 60,000 that is not RIKSAMOE_FORBIDDEN */
+    RIKSAMOE_BAD_COST = 7,        /* a unary cost above 60,000; a pair cost above 60,000 that is not RIKSAMOE_FORBIDDEN */
     RIKSAMOE_DAMAGED = 8,         /* packet not 64 bytes, or its check wrong: it was damaged on the way */
     RIKSAMOE_BAD_FIELD = 9,       /* a message field against its kind */
     RIKSAMOE_BAD_UNIT = 10,       /* unit number, sender or receiver not 1 to n; packet for another unit */
@@ -92,7 +100,8 @@ enum {
     RIKSAMOE_POOL_FULL = 14,      /* what is sent doesn't fit the pool */
     RIKSAMOE_NO_MESSAGE = 15,     /* no message at that cell */
     RIKSAMOE_TOO_MANY = 16,       /* more than 1,048,576 assignments (search only) */
-    RIKSAMOE_BAD_READING = 17     /* a reading not 100 to 400 */
+    RIKSAMOE_BAD_READING = 17,    /* a reading not 100 to 400 */
+    RIKSAMOE_HAS_UNARY = 18       /* a table with a unary cost above 0 has no form one */
 };
 
 /* ---- Structs. All pass by value; offsets and sizes in bytes. */
@@ -204,6 +213,12 @@ riksamoe_length_t riksamoe_table_read(const uint8_t *file, size_t length, uint8_
 /* The stored table of a stream, to the front of `file` (RIKSAMOE_FILE bytes are always enough): 5, 6, 7, 13. */
 riksamoe_length_t riksamoe_table_write(const uint8_t *stream, size_t length, uint8_t *file, size_t room);
 
+/* A stored table in form one, or in form two, to the front of `out` (RIKSAMOE_FILE bytes are always enough): 1, each block 4, 2, 3, then
+ * 5, 6, 7, 13 (fewer bytes than the blocks needed), 18 (to form one, with a unary cost above 0). One that is in that form comes out as it
+ * went in. Proved: there and back gives the first file's bytes. */
+riksamoe_length_t riksamoe_to_form_one(const uint8_t *file, size_t length, uint8_t *out, size_t room);
+riksamoe_length_t riksamoe_to_form_two(const uint8_t *file, size_t length, uint8_t *out, size_t room);
+
 /* The stream of a table made of readings, the mean fibre diameter of each of n lines in tenths of a micron, 100 to 400: 16-bit numbers, the
  * low byte first, one a line, in `readings`. In the same lot two lines cost what the gap between their readings says, half of it where the
  * later one is finer; in different lots nothing. To the front of `stream` (lend RIKSAMOE_STREAM bytes): 5, 6 (not 2 bytes a line), 17, 13.
@@ -211,11 +226,15 @@ riksamoe_length_t riksamoe_table_write(const uint8_t *stream, size_t length, uin
 riksamoe_length_t riksamoe_readings_stream(uint8_t n, riksamoe_sizes_t sizes, const uint8_t *readings, size_t length, uint8_t *stream,
                                            size_t room);
 
-/* The sizes in a stream: its bytes 1 to n, 0 past n and past the stream's end. They are not checked; of an n above 16, which every other
+/* How many units a stream says there are, 0 where it is too short to say. It is not checked. */
+uint8_t riksamoe_units(const uint8_t *stream, size_t length);
+
+/* The sizes in a stream: the n bytes behind n, 0 past n and past the stream's end. They are not checked; of an n above 16, which every other
  * call refuses by 5, it gives the first 16. */
 riksamoe_sizes_t riksamoe_sizes(const uint8_t *stream, size_t length);
 
-/* The costs that touch unit `own`, to the front of `out` (RIKSAMOE_COSTS bytes are always enough): 5, 10, 6, 7, 13. */
+/* The costs that touch unit `own`: what each of its values costs alone, 0 in a table of form one, then its pair costs; to the front of `out`
+ * (RIKSAMOE_COSTS bytes are always enough): 5, 10, 6, 7, 13. */
 riksamoe_length_t riksamoe_costs(const uint8_t *stream, size_t length, uint8_t own, uint8_t *out, size_t room);
 
 /* ---- Messages. A box needs neither: making and steps read and write packets themselves. They are for tools that watch the radio. */
