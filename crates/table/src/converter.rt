@@ -18,14 +18,14 @@ ghost use mathlib.Core.Bool.{true, false};
 ghost use mathlib.Core.List.{_++_};
 ghost use Prim.Native.Nat.{_+_, _*_, _≤_, _<_};
 ghost use lib.ListN.{length, getD, take, drop};
-ghost use Rattle.base.specs.Limits.{blockSize, payloadSize, places};
-ghost use Rattle.table.specs.Stream.{inFormTwo, sumList};
+ghost use Rattle.base.specs.Limits.{blockSize, payloadSize};
+ghost use Rattle.table.specs.Stream.{inFormTwo, opening};
 ghost use Rattle.table.specs.Block.{allZero, blocksFor};
 ghost use Rattle.table.specs.Written.{fileOf};
 ghost use Rattle.table.specs.File.{streamOf};
 ghost use Rattle.table.specs.RoundTrip.{AcceptedFile};
 ghost use Rattle.table.specs.Form.{convertOf, convertInto};
-ghost use Rattle.table.specs.Form.Pieces.{pieced, Within, sameForm, toTwoPieces, toOnePieces, piecesOf};
+ghost use Rattle.table.specs.Form.Pieces.{pieced, Within, ShapeOf, sameForm, toTwoPieces, toOnePieces, piecesOf};
 
 // How the stream of the result is made of the file's: `front` bytes 200, `head` bytes from byte `from` on, zeros, and all from byte `rest` on.
 // What stands between head and rest is left out: the unary costs, on the way to form one.
@@ -35,6 +35,12 @@ struct Pieces {
     head: usize,
     zeros: usize,
     rest: usize,
+}
+
+// How many units there are, and how many values they have together.
+struct Shape {
+    n: usize,
+    values: usize,
 }
 
 // The file in the form wanted into the lent buffer: validated whole, then written, so a refusal leaves the buffer as it was.
@@ -110,14 +116,13 @@ fn pieces_to_two(file: &[u8]) -> Pieces
     requires { ⌜ AcceptedFile (now file) × (inFormTwo (streamOf (now file)) ≡ false) ⌝ }
     ensures { λ r. ⌜ r ≡ toTwoPieces (streamOf (now (file .entry))) ⌝ }
 {
-    let n = base::wide(stream_byte(file, 0));
-    let values = values_in(file, 1, n);
+    let shape = shape_in(file, 0);
     Pieces {
         front: 1,
         from: 0,
-        head: 1 + n,
-        zeros: 2 * values,
-        rest: 1 + n,
+        head: 1 + shape.n,
+        zeros: 2 * shape.values,
+        rest: 1 + shape.n,
     }
 }
 
@@ -126,23 +131,24 @@ fn pieces_to_one(file: &[u8]) -> Pieces
     requires { ⌜ AcceptedFile (now file) × (inFormTwo (streamOf (now file)) ≡ true) ⌝ }
     ensures { λ r. ⌜ r ≡ toOnePieces (streamOf (now (file .entry))) ⌝ }
 {
-    let n = base::wide(stream_byte(file, 1));
-    let values = values_in(file, 2, n);
+    let shape = shape_in(file, 1);
     Pieces {
         front: 0,
         from: 1,
-        head: 1 + n,
+        head: 1 + shape.n,
         zeros: 0,
-        rest: 2 + n + 2 * values,
+        rest: 2 + shape.n + 2 * shape.values,
     }
 }
 
-// How many values the n units have whose sizes stand from byte `at` of the stream on.
-fn values_in(file: &[u8], at: usize, n: usize) -> usize
-    requires { ⌜ AcceptedFile (now file) × (at ≤ 2) × (at + n ≤ length (streamOf (now file))) × (n ≤ places) ⌝ }
-    ensures { λ r. ⌜ (r ≡ sumList (take n (drop at (streamOf (now (file .entry)))))) × (r ≤ 4080) ⌝ }
+// What n and the sizes of the file's stream say, `before` bytes standing before n.
+fn shape_in(file: &[u8], before: usize) -> Shape
+    requires { ⌜ AcceptedFile (now file) × (before ≡ opening (streamOf (now file))) × (before ≤ 1) ⌝ }
+    ensures { λ r. ⌜ ShapeOf (streamOf (now (file .entry))) r ⌝ }
 {
-    sum_sizes(file, true, stream_length(file), at, n)
+    let n = base::wide(stream_byte(file, before));
+    let values = sum_sizes(file, true, stream_length(file), before + 1, n);
+    Shape { n, values }
 }
 
 // How long the result's stream is.

@@ -15,7 +15,8 @@ use Rattle.base.specs.Limits.{formTwo, streamSize, blockSize}
 use Rattle.table.specs.declared.Form.{Form}
 use Rattle.table.specs.declared.Form.the-variants.{One, Two}
 use Rattle.table.specs.declared.converter.Pieces.{Pieces}
-use Rattle.table.specs.Stream.{inFormTwo, unitsOf, sizesOf, sumList, unariesIn, unariesAt, pairsAt, Accepted}
+use Rattle.table.specs.declared.converter.Shape.{Shape}
+use Rattle.table.specs.Stream.{inFormTwo, opening, unitsOf, sizesOf, sumList, unariesIn, unariesAt, pairsAt, Accepted}
 use Rattle.table.specs.StreamLaws.{opening-one, opening-two, unaries-two, accepted-units, accepted-length, accepted-most}
 use Rattle.table.specs.Block.{allZero, blocksFor}
 use Rattle.table.specs.File.{streamOf}
@@ -35,6 +36,13 @@ pub record Within (p : Pieces) (s : List ℕ) : Type 0 where
   pub ordered : p .from + p .head ≤ p .rest
   pub inside : p .rest ≤ length s
   pub few : p .front + p .head + p .zeros + (length s - p .rest) ≤ streamSize
+
+-- what n and the sizes of a stream say
+pub record ShapeOf (s : List ℕ) (shape : Shape) : Type 0 where
+  pub units : shape .n ≡ unitsOf s
+  pub sizes : shape .values ≡ sumList (sizesOf s)
+  pub few : shape .n ≤ 16
+  pub most : shape .values ≤ 4080
 
 -- a stream in the form wanted; form two of one of form one; form one of one of form two
 abbrev pub sameForm : Pieces
@@ -197,30 +205,25 @@ module _ (s : List ℕ) (ok : Accepted s) where
   pub two-bytes-there : 1 < length s
   two-bytes-there = omega (arith, accepted-length s ok, accepted-units s ok .0)
 
-  module _ (e : inFormTwo s ≡ false) (n : ℕ) (first : n ≡ getD s 0 0) where
-    units-one : n ≡ unitsOf s
-    units-one = first ∙ rw (opening-one s e)
+  -- n and the sizes, behind the byte that tells the form or none
+  module _ (before n : ℕ) (o : before ≡ opening s) (read : n ≡ getD s before 0) where
+    pub units-read : n ≡ unitsOf s
+    units-read = read ∙ ap (λ (k : ℕ). getD s k 0) o
 
-    pub sizes-there-one : (1 + n ≤ length s) × (n ≤ 16)
-    sizes-there-one = (omega (arith, units-one, opening-one s e, accepted-length s ok), omega (arith, units-one, accepted-units s ok .1))
+    pub sizes-there : (before + 1 + n ≤ length s) × (n ≤ 16)
+    sizes-there = (omega (arith, units-read, o, accepted-length s ok), omega (arith, units-read, accepted-units s ok .1))
 
-    pub made-two : (values : ℕ) → values ≡ sumList (take n (drop 1 s)) → _≡_ {A = Pieces} (record { front = 1; from = 0; head = 1 + n; zeros = 2 * values; rest = 1 + n }) (toTwoPieces s)
-    made-two values v =
-        let z : values ≡ sumList (sizesOf s) = v ∙ rw (units-one, opening-one s e) in
-        rw (z, units-one)
+    pub shape-read : (values : ℕ) → values ≡ sumList (take n (drop (before + 1) s)) → values ≤ 4080 → ShapeOf s (record { n = n; values = values })
+    shape-read values v most = record { units = units-read; sizes = v ∙ rw (units-read, o); few = sizes-there .1; most = most }
 
-  module _ (e : inFormTwo s ≡ true) (n : ℕ) (second : n ≡ getD s 1 0) where
-    units-two : n ≡ unitsOf s
-    units-two = second ∙ rw (opening-two s e)
+  module _ (shape : Shape) (r : ShapeOf s shape) where
+    pub made-two : _≡_ {A = Pieces} (record { front = 1; from = 0; head = 1 + shape .n; zeros = 2 * shape .values; rest = 1 + shape .n }) (toTwoPieces s)
+    made-two = rw (r .units, r .sizes)
 
-    pub sizes-there-two : (2 + n ≤ length s) × (n ≤ 16)
-    sizes-there-two = (omega (arith, units-two, opening-two s e, accepted-length s ok), omega (arith, units-two, accepted-units s ok .1))
-
-    pub made-one : (values : ℕ) → values ≡ sumList (take n (drop 2 s)) → _≡_ {A = Pieces} (record { front = 0; from = 1; head = 1 + n; zeros = 0; rest = 2 + n + 2 * values }) (toOnePieces s)
-    made-one values v =
-        let z : values ≡ sumList (sizesOf s) = v ∙ rw (units-two, opening-two s e) in
-        let r : 2 + n + 2 * values ≡ pairsAt s = omega (arith, units-two, opening-two s e, unaries-two s e) in
-        rw (r, units-two)
+    pub made-one : inFormTwo s ≡ true → _≡_ {A = Pieces} (record { front = 0; from = 1; head = 1 + shape .n; zeros = 0; rest = 2 + shape .n + 2 * shape .values }) (toOnePieces s)
+    made-one e =
+        let q : 2 + shape .n + 2 * shape .values ≡ pairsAt s = omega (arith, r .units, r .sizes, opening-two s e, unaries-two s e) in
+        rw (q, r .units)
 
 -- ---- the pieces of an accepted file's stream
 
