@@ -1,6 +1,8 @@
--- The answers of the calls of document 01 in the structs that C is handed, kinds by their numbers, and step and delivery on what C lends. Assumes nothing.
-use Rattle.base.specs.Library.{ℕ, pred, cond, not, List, length}
+-- The answers of the calls of document 01 in the structs that C is handed, kinds and orders of values by their numbers, and step and delivery on what C lends.
+-- Assumes nothing.
+use Rattle.base.specs.Library.{ℕ, pred, cond, not, List, eqb, length}
 use Rattle.base.specs.Shape.{shapeGood}
+use Rattle.costs.specs.{declared.ValueOrder.ValueOrder, declared.ValueOrder.the-variants.Ascending, declared.ValueOrder.the-variants.CheapestFirst}
 use Rattle.message.specs.{declared.Message.Message, declared.Parsed.Parsed as Reading, declared.Read.Read, Decode.writeRefusal, Decode.packetInto}
 use Rattle.message.specs.declared.Read.the-variants.{Good, Refused}
 use Rattle.message.specs.Message.{kindCode, refusalOf, addressGood}
@@ -22,6 +24,12 @@ parsedOf p = record { refusal = refusalOf (p .answer); kind = codeOf (p .answer)
 unfoldable pub unknownKind : ℕ → List ℕ → Message → ℕ
 unknownKind n sizes m = cond (not (shapeGood n sizes)) 5 (cond (not (addressGood n m)) 10 9)
 
+-- ---- orders of values by their numbers
+
+-- the order of values that a number names: 0 ascending, every other one the cheapest first, as where none is named
+abbrev pub orderOf : ℕ → ValueOrder
+orderOf code = cond (eqb code 0) Ascending CheapestFirst
+
 -- ---- writing by number
 
 -- writing a message whose kind is read from its number: the refusal, and what is left in the lent output
@@ -35,11 +43,11 @@ writtenAs (Refused r) n sizes m out = out
 
 -- ---- a step on a lent state: unit's, on the state that is read
 
-unfoldable pub stepOf : LentUnit → ℕ → ℕ → List ℕ → List ℕ → List ℕ → ℕ → LentOutcome
-stepOf s own n sizes costs packet room = outcomeBack s (outcomeOf n (pred own) (unitFrom s) (stepOut (unitFrom s) own n sizes costs packet room))
+unfoldable pub stepOf : ValueOrder → LentUnit → ℕ → ℕ → List ℕ → List ℕ → List ℕ → ℕ → LentOutcome
+stepOf order s own n sizes costs packet room = outcomeBack s (outcomeOf n (pred own) (unitFrom s) (stepOut order (unitFrom s) own n sizes costs packet room))
 
-unfoldable pub steppedBytes : LentUnit → ℕ → ℕ → List ℕ → List ℕ → List ℕ → List ℕ → List ℕ
-steppedBytes s own n sizes costs packet out = bytesOf n (pred own) out (stepOut (unitFrom s) own n sizes costs packet (length out))
+unfoldable pub steppedBytes : ValueOrder → LentUnit → ℕ → ℕ → List ℕ → List ℕ → List ℕ → List ℕ → List ℕ
+steppedBytes order s own n sizes costs packet out = bytesOf n (pred own) out (stepOut order (unitFrom s) own n sizes costs packet (length out))
 
 -- its numbers, which a step in place hands back
 abbrev pub reportBy : LentOutcome → Report
@@ -47,8 +55,8 @@ reportBy r = record { refusal = r .refusal; sent = r .sent; records = r .records
 
 -- ---- a delivery to a lent network: network's, on the network that is read
 
-unfoldable pub deliveredTo : LentNetwork → List ℕ → List ℕ → ℕ → LentAnswer
-deliveredTo s stream pool cell = answerBack s (deliverOf (networkFrom s) stream pool cell .answer)
+unfoldable pub deliveredTo : ValueOrder → LentNetwork → List ℕ → List ℕ → ℕ → LentAnswer
+deliveredTo order s stream pool cell = answerBack s (deliverOf order (networkFrom s) stream pool cell .answer)
 
-unfoldable pub deliveredPool : LentNetwork → List ℕ → List ℕ → ℕ → List ℕ
-deliveredPool s stream pool cell = deliverOf (networkFrom s) stream pool cell .pool
+unfoldable pub deliveredPool : ValueOrder → LentNetwork → List ℕ → List ℕ → ℕ → List ℕ
+deliveredPool order s stream pool cell = deliverOf order (networkFrom s) stream pool cell .pool

@@ -12,6 +12,7 @@ use search::Found;
 use table::Form;
 use unit::Outcome;
 use unit::Report;
+use unit::ValueOrder;
 ghost use mathlib.Core.Path.{_≡_};
 ghost use mathlib.Core.Bool.{not};
 ghost use Prim.Native.Nat.{pred};
@@ -25,6 +26,7 @@ ghost use Rattle.table.specs.declared.Form.the-variants.{One, Two};
 ghost use Rattle.table.specs.Form.{convertOf, convertInto};
 ghost use Rattle.readings.specs.Readings.{tableOf, tableInto};
 ghost use Rattle.costs.specs.Gather.{sizesIn, gatherOf, gatherInto};
+ghost use Rattle.costs.specs.Order.{defaultOrder};
 ghost use Rattle.message.specs.Message.{kindOf};
 ghost use Rattle.message.specs.Decode.{parseOf};
 ghost use Rattle.rules.specs.State.{noUnit};
@@ -33,7 +35,10 @@ ghost use Rattle.runs.specs.Calls.{makeOf};
 ghost use Rattle.runs.specs.Settle.{settleOf};
 ghost use Rattle.search.specs.Search.{searchOf};
 ghost use Rattle.cabi.specs.Lent.{unitFrom};
-ghost use Rattle.cabi.specs.Calls.{codeOf, parsedOf, writeAs, writtenAs, unknownKind, stepOf, steppedBytes, reportBy, deliveredTo, deliveredPool};
+ghost use Rattle.cabi.specs.Calls.{codeOf, parsedOf, orderOf, writeAs, writtenAs, unknownKind, stepOf, steppedBytes, reportBy, deliveredTo, deliveredPool};
+
+// The number of the order that is taken where none is named.
+const CHEAPEST_FIRST: u8 = 1;
 
 // A domain size for each of 16 units, zero past n.
 #[repr(C)]
@@ -227,7 +232,8 @@ pub extern "C" fn riksamoe_message_write(
     message::write(n, places, known, m, out)
 }
 
-// ---- one unit
+// ---- one unit. Each of the calls below that try values has `by` one whose first argument is the number of an order of values: 0 for
+// ascending, any other for the cheapest first. One that is told none tries the cheapest first.
 
 #[no_mangle]
 pub extern "C" fn riksamoe_unit_make(
@@ -237,10 +243,25 @@ pub extern "C" fn riksamoe_unit_make(
     costs: &[u8],
     out: &mut [u8],
 ) -> Outcome
-    ensures { λ r. ⌜ (r ≡ outcomeOf n (pred own) noUnit (makeOut own n (sizes .places) (now (costs .entry)) (length (now (out .entry))))) × (now (out .exit) ≡ bytesOf n (pred own) (now (out .entry)) (makeOut own n (sizes .places) (now (costs .entry)) (length (now (out .entry))))) ⌝ }
+    ensures { λ r. ⌜ (r ≡ outcomeOf n (pred own) noUnit (makeOut defaultOrder own n (sizes .places) (now (costs .entry)) (length (now (out .entry))))) × (now (out .exit) ≡ bytesOf n (pred own) (now (out .entry)) (makeOut defaultOrder own n (sizes .places) (now (costs .entry)) (length (now (out .entry))))) ⌝ }
 {
     let places = sizes.places;
     unit::make(own, n, places, costs, out)
+}
+
+#[no_mangle]
+pub extern "C" fn riksamoe_unit_make_by(
+    order: u8,
+    own: u8,
+    n: u8,
+    sizes: Sizes,
+    costs: &[u8],
+    out: &mut [u8],
+) -> Outcome
+    ensures { λ r. ⌜ (r ≡ outcomeOf n (pred own) noUnit (makeOut (orderOf order) own n (sizes .places) (now (costs .entry)) (length (now (out .entry))))) × (now (out .exit) ≡ bytesOf n (pred own) (now (out .entry)) (makeOut (orderOf order) own n (sizes .places) (now (costs .entry)) (length (now (out .entry))))) ⌝ }
+{
+    let places = sizes.places;
+    unit::make_by(order_of(order), own, n, places, costs, out)
 }
 
 #[no_mangle]
@@ -251,11 +272,25 @@ pub extern "C" fn riksamoe_unit_in_range(
     sizes: Sizes,
     costs: &[u8],
 ) -> u8
-    ensures { λ r. ⌜ r ≡ rangeRefusal (unitFrom u) own n (sizes .places) (now (costs .entry)) ⌝ }
+    ensures { λ r. ⌜ r ≡ rangeRefusal defaultOrder (unitFrom u) own n (sizes .places) (now (costs .entry)) ⌝ }
+{
+    riksamoe_unit_in_range_by(CHEAPEST_FIRST, u, own, n, sizes, costs)
+}
+
+#[no_mangle]
+pub extern "C" fn riksamoe_unit_in_range_by(
+    order: u8,
+    u: LentUnit,
+    own: u8,
+    n: u8,
+    sizes: Sizes,
+    costs: &[u8],
+) -> u8
+    ensures { λ r. ⌜ r ≡ rangeRefusal (orderOf order) (unitFrom u) own n (sizes .places) (now (costs .entry)) ⌝ }
 {
     let places = sizes.places;
     let v = lent::unit_from(u);
-    unit::in_range(v, own, n, places, costs)
+    unit::in_range_by(order_of(order), v, own, n, places, costs)
 }
 
 #[no_mangle]
@@ -268,11 +303,27 @@ pub extern "C" fn riksamoe_unit_step(
     packet: &[u8],
     out: &mut [u8],
 ) -> LentOutcome
-    ensures { λ r. ⌜ (r ≡ stepOf u own n (sizes .places) (now (costs .entry)) (now (packet .entry)) (length (now (out .entry)))) × (now (out .exit) ≡ steppedBytes u own n (sizes .places) (now (costs .entry)) (now (packet .entry)) (now (out .entry))) ⌝ }
+    ensures { λ r. ⌜ (r ≡ stepOf defaultOrder u own n (sizes .places) (now (costs .entry)) (now (packet .entry)) (length (now (out .entry)))) × (now (out .exit) ≡ steppedBytes defaultOrder u own n (sizes .places) (now (costs .entry)) (now (packet .entry)) (now (out .entry))) ⌝ }
+{
+    riksamoe_unit_step_by(CHEAPEST_FIRST, u, own, n, sizes, costs, packet, out)
+}
+
+#[no_mangle]
+pub extern "C" fn riksamoe_unit_step_by(
+    order: u8,
+    u: LentUnit,
+    own: u8,
+    n: u8,
+    sizes: Sizes,
+    costs: &[u8],
+    packet: &[u8],
+    out: &mut [u8],
+) -> LentOutcome
+    ensures { λ r. ⌜ (r ≡ stepOf (orderOf order) u own n (sizes .places) (now (costs .entry)) (now (packet .entry)) (length (now (out .entry)))) × (now (out .exit) ≡ steppedBytes (orderOf order) u own n (sizes .places) (now (costs .entry)) (now (packet .entry)) (now (out .entry))) ⌝ }
 {
     let places = sizes.places;
     let v = lent::unit_from(u);
-    let r = unit::step(v, own, n, places, costs, packet, out);
+    let r = unit::step_by(order_of(order), v, own, n, places, costs, packet, out);
     lent::outcome_back(u, r)
 }
 
@@ -286,10 +337,34 @@ pub extern "C" fn riksamoe_unit_step_in_place(
     packet: &[u8],
     out: &mut [u8],
 ) -> Report
-    ensures { λ r. ⌜ (r ≡ reportBy (stepOf (now (u .entry)) own n (sizes .places) (now (costs .entry)) (now (packet .entry)) (length (now (out .entry))))) × (now (u .exit) ≡ stepOf (now (u .entry)) own n (sizes .places) (now (costs .entry)) (now (packet .entry)) (length (now (out .entry))) .unit) × (now (out .exit) ≡ steppedBytes (now (u .entry)) own n (sizes .places) (now (costs .entry)) (now (packet .entry)) (now (out .entry))) ⌝ }
+    ensures { λ r. ⌜ (r ≡ reportBy (stepOf defaultOrder (now (u .entry)) own n (sizes .places) (now (costs .entry)) (now (packet .entry)) (length (now (out .entry))))) × (now (u .exit) ≡ stepOf defaultOrder (now (u .entry)) own n (sizes .places) (now (costs .entry)) (now (packet .entry)) (length (now (out .entry))) .unit) × (now (out .exit) ≡ steppedBytes defaultOrder (now (u .entry)) own n (sizes .places) (now (costs .entry)) (now (packet .entry)) (now (out .entry))) ⌝ }
 {
     let v = *u;
     let r = riksamoe_unit_step(v, own, n, sizes, costs, packet, out);
+    let w = r.unit;
+    *u = w;
+    Report {
+        refusal: r.refusal,
+        sent: r.sent,
+        records: r.records,
+    }
+}
+
+#[no_mangle]
+pub extern "C" fn riksamoe_unit_step_in_place_by(
+    order: u8,
+    u: &mut LentUnit,
+    own: u8,
+    n: u8,
+    sizes: Sizes,
+    costs: &[u8],
+    packet: &[u8],
+    out: &mut [u8],
+) -> Report
+    ensures { λ r. ⌜ (r ≡ reportBy (stepOf (orderOf order) (now (u .entry)) own n (sizes .places) (now (costs .entry)) (now (packet .entry)) (length (now (out .entry))))) × (now (u .exit) ≡ stepOf (orderOf order) (now (u .entry)) own n (sizes .places) (now (costs .entry)) (now (packet .entry)) (length (now (out .entry))) .unit) × (now (out .exit) ≡ steppedBytes (orderOf order) (now (u .entry)) own n (sizes .places) (now (costs .entry)) (now (packet .entry)) (now (out .entry))) ⌝ }
+{
+    let v = *u;
+    let r = riksamoe_unit_step_by(order, v, own, n, sizes, costs, packet, out);
     let w = r.unit;
     *u = w;
     Report {
@@ -303,9 +378,16 @@ pub extern "C" fn riksamoe_unit_step_in_place(
 
 #[no_mangle]
 pub extern "C" fn riksamoe_network_make(stream: &[u8], pool: &mut [u8]) -> Answer
-    ensures { λ r. ⌜ (r ≡ makeOf (now (stream .entry)) (now (pool .entry)) .answer) × (now (pool .exit) ≡ makeOf (now (stream .entry)) (now (pool .entry)) .pool) ⌝ }
+    ensures { λ r. ⌜ (r ≡ makeOf defaultOrder (now (stream .entry)) (now (pool .entry)) .answer) × (now (pool .exit) ≡ makeOf defaultOrder (now (stream .entry)) (now (pool .entry)) .pool) ⌝ }
 {
     network::make(stream, pool)
+}
+
+#[no_mangle]
+pub extern "C" fn riksamoe_network_make_by(order: u8, stream: &[u8], pool: &mut [u8]) -> Answer
+    ensures { λ r. ⌜ (r ≡ makeOf (orderOf order) (now (stream .entry)) (now (pool .entry)) .answer) × (now (pool .exit) ≡ makeOf (orderOf order) (now (stream .entry)) (now (pool .entry)) .pool) ⌝ }
+{
+    network::make_by(order_of(order), stream, pool)
 }
 
 #[no_mangle]
@@ -315,18 +397,38 @@ pub extern "C" fn riksamoe_network_deliver(
     pool: &mut [u8],
     cell: u64,
 ) -> LentAnswer
-    ensures { λ r. ⌜ (r ≡ deliveredTo net (now (stream .entry)) (now (pool .entry)) cell) × (now (pool .exit) ≡ deliveredPool net (now (stream .entry)) (now (pool .entry)) cell) ⌝ }
+    ensures { λ r. ⌜ (r ≡ deliveredTo defaultOrder net (now (stream .entry)) (now (pool .entry)) cell) × (now (pool .exit) ≡ deliveredPool defaultOrder net (now (stream .entry)) (now (pool .entry)) cell) ⌝ }
+{
+    riksamoe_network_deliver_by(CHEAPEST_FIRST, net, stream, pool, cell)
+}
+
+#[no_mangle]
+pub extern "C" fn riksamoe_network_deliver_by(
+    order: u8,
+    net: LentNetwork,
+    stream: &[u8],
+    pool: &mut [u8],
+    cell: u64,
+) -> LentAnswer
+    ensures { λ r. ⌜ (r ≡ deliveredTo (orderOf order) net (now (stream .entry)) (now (pool .entry)) cell) × (now (pool .exit) ≡ deliveredPool (orderOf order) net (now (stream .entry)) (now (pool .entry)) cell) ⌝ }
 {
     let read = lent::network_from(net);
-    let a = network::deliver(read, stream, pool, cell);
+    let a = network::deliver_by(order_of(order), read, stream, pool, cell);
     lent::answer_back(net, a)
 }
 
 #[no_mangle]
 pub extern "C" fn riksamoe_network_settle(stream: &[u8], pool: &mut [u8]) -> Answer
-    ensures { λ r. ⌜ (r ≡ settleOf (now (stream .entry)) (now (pool .entry)) .answer) × (now (pool .exit) ≡ settleOf (now (stream .entry)) (now (pool .entry)) .pool) ⌝ }
+    ensures { λ r. ⌜ (r ≡ settleOf defaultOrder (now (stream .entry)) (now (pool .entry)) .answer) × (now (pool .exit) ≡ settleOf defaultOrder (now (stream .entry)) (now (pool .entry)) .pool) ⌝ }
 {
     network::settle(stream, pool)
+}
+
+#[no_mangle]
+pub extern "C" fn riksamoe_network_settle_by(order: u8, stream: &[u8], pool: &mut [u8]) -> Answer
+    ensures { λ r. ⌜ (r ≡ settleOf (orderOf order) (now (stream .entry)) (now (pool .entry)) .answer) × (now (pool .exit) ≡ settleOf (orderOf order) (now (stream .entry)) (now (pool .entry)) .pool) ⌝ }
+{
+    network::settle_by(order_of(order), stream, pool)
 }
 
 #[no_mangle]
@@ -336,7 +438,17 @@ pub extern "C" fn riksamoe_search(stream: &[u8]) -> Found
     search::exhaustive(stream)
 }
 
-// ---- kinds by their numbers
+// ---- orders and kinds by their numbers
+
+// The order of values of a number.
+fn order_of(code: u8) -> ValueOrder
+    ensures { λ r. ⌜ r ≡ orderOf code ⌝ }
+{
+    if code == 0 {
+        return ValueOrder::Ascending;
+    }
+    ValueOrder::CheapestFirst
+}
 
 // The number of the kind that was read, 0 for none.
 fn code_of(r: Read) -> u8

@@ -4,7 +4,7 @@ use Rattle.base.specs.Library.{ℕ, suc, _+_, _*_, _-_, pred, cond, not, _&&_, 
 use Rattle.base.specs.{Bytes.u16At, Shape.isValue, Sums.sumFrom, Sums.sumTo}
 use Rattle.table.specs.Stream.{inFormTwo, unitsOf, afterUnits, unariesAt, pairsAt}
 use Rattle.costs.specs.Cost.{Cost, Of, pairCost}
-use Rattle.costs.specs.declared.Seat.{Seat}
+use Rattle.costs.specs.{declared.Seat.Seat, declared.ValueOrder.ValueOrder, declared.ValueOrder.the-variants.Ascending}
 
 -- ---- the instance
 
@@ -16,16 +16,22 @@ pub record Instance : Type 0 where
   pub unary : ℕ → ℕ → ℕ
   pub cost : ℕ → ℕ → ℕ → ℕ → Cost
 
--- What one unit sees: its own place, the unary cost of each of its values, and `pair j u v`, the cost of its own value v with value u of unit j.
+-- What one unit sees: its own place, the unary cost of each of its values, and `pair j u v`, the cost of its own value v with value u of unit j;
+-- and the order in which it tries its values, 02, job 9, which is no part of its state.
 pub record View : Type 0 where
+  pub order : ValueOrder
   pub place : ℕ
   pub n : ℕ
   pub dom : ℕ → ℕ
   pub unary : ℕ → ℕ
   pub pair : ℕ → ℕ → ℕ → Cost
 
+abbrev pub viewBy : ValueOrder → Instance → ℕ → View
+viewBy o I k = record { order = o; place = k; n = I .n; dom = I .dom; unary = I .unary k; pair = λ j u v. cond (ltb j k) (I .cost j u k v) (I .cost k v j u) }
+
+-- the same where only costs are asked for, which no order changes
 abbrev pub viewOf : Instance → ℕ → View
-viewOf I k = record { place = k; n = I .n; dom = I .dom; unary = I .unary k; pair = λ j u v. cond (ltb j k) (I .cost j u k v) (I .cost k v j u) }
+viewOf I k = viewBy Ascending I k
 
 -- ---- where costs stand
 
@@ -83,10 +89,10 @@ lentCost n dom k costs j u v =
     (pairCost (costNumber costs (otherStart dom k j + cond (ltb j k) (inPair (dom k) u v) (inPair (dom j) v u)))) (Of 0)
 
 -- What unit `own` (1 to n) sees in the costs lent with it.
-unfoldable pub lentView : ℕ → ℕ → List ℕ → List ℕ → View
-lentView own n sizes costs =
-    record { place = pred own; n = n; dom = domIn n sizes; unary = lentUnary (domIn n sizes (pred own)) costs; pair = lentCost n (domIn n sizes) (pred own) costs }
+unfoldable pub lentView : ValueOrder → ℕ → ℕ → List ℕ → List ℕ → View
+lentView o own n sizes costs =
+    record { order = o; place = pred own; n = n; dom = domIn n sizes; unary = lentUnary (domIn n sizes (pred own)) costs; pair = lentCost n (domIn n sizes) (pred own) costs }
 
--- The same of a unit's seat, which holds the first three.
+-- The same of a unit's seat, which holds the first four.
 abbrev pub viewFrom : Seat → List ℕ → View
-viewFrom seat costs = lentView (seat .own) (seat .n) (seat .sizes) costs
+viewFrom seat costs = lentView (seat .order) (seat .own) (seat .n) (seat .sizes) costs

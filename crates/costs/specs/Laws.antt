@@ -19,6 +19,7 @@ use Rattle.costs.specs.Instance.{Instance}
 use Rattle.costs.specs.Problem.{Problem, ClosedBy, Closed, Laws}
 pub mod Prefix
 pub mod Stream
+pub mod Tried
 
 -- ---- an instance as accepted
 

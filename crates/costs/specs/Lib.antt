@@ -2,6 +2,7 @@
 pub mod Cost
 pub mod Instance
 pub mod Bounds
+pub mod Order
 pub mod Lent
 pub mod Gathered
 pub mod Gather

@@ -1,10 +1,12 @@
 // Unary costs, pair costs, which may be forbidden, and what is worked out from both: the costs lent with one unit, as bytes.
 
+mod order; // the place of a value in the order tried
 mod prefix; // the cost of a value with those before it, straight from a stream
 mod stream; // what is read out of a stream
 
 use base::is_value;
 use base::wide;
+pub use order::place_tried;
 pub use prefix::stream_cost_with;
 pub use stream::gather;
 pub use stream::sizes_of;
@@ -21,12 +23,19 @@ ghost use Rattle.costs.specs.Bounds.{costWith, h, estimate};
 ghost use Rattle.costs.specs.Lent.{lentCount, lentRefusal};
 ghost use Rattle.costs.specs.Lent.Parts.{othersBefore, pairFrom, leastRun, runsFrom, domFrom};
 
-// Where a unit sits: its own number, 1 to n, among n units with these domain sizes; places past n are not looked at.
-// The costs that touch it are lent beside it.
+// The order in which a unit tries its values: by number; or by rising h, the lower number first on a tie, values without an h last.
+pub enum ValueOrder {
+    Ascending,
+    CheapestFirst,
+}
+
+// Where a unit sits: its own number, 1 to n, among n units with these domain sizes; places past n are not looked at; and the order in which it
+// tries its values. The costs that touch it are lent beside it.
 pub struct Seat {
     pub own: u8,
     pub n: u8,
     pub sizes: [u8; 16],
+    pub order: ValueOrder,
 }
 
 // What looking up a cost gives. 02: "a number or "barred""; a sum is forbidden as soon as one part is.
@@ -72,7 +81,7 @@ pub fn cost_with(seat: Seat, costs: &[u8], values: [u8; 16], k: u8, v: u8) -> Co
 
 // The lookahead bound: over later units, the least cost of own value v with any value of that unit; forbidden where one has none for it.
 pub fn h(seat: Seat, costs: &[u8], v: u8) -> Cost
-    ensures { λ r. ⌜ r ≡ h (viewFrom seat (now (costs .entry))) v ⌝ }
+    ensures { λ r. ⌜ (r ≡ h (viewFrom seat (now (costs .entry))) v) × AtMost 16711425 r ⌝ }
 {
     later_cost(seat, costs, wide(v))
 }

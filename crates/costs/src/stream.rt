@@ -1,6 +1,7 @@
 // What is read out of a stream: its sizes, and the costs that touch one unit.
 
 use crate::Seat;
+use crate::ValueOrder;
 use crate::lent_count;
 use crate::place_of;
 use crate::size_of;
@@ -29,7 +30,13 @@ pub fn gather(stream: &[u8], own: u8, out: &mut [u8]) -> Length
 {
     let n = table::units_of(stream);
     let sizes = sizes_of(stream);
-    let seat = Seat { own, n, sizes };
+    let order = ValueOrder::Ascending; // no order changes costs
+    let seat = Seat {
+        own,
+        n,
+        sizes,
+        order,
+    };
     let refusal = gather_refusal(stream, seat, out.len());
     if refusal != 0 {
         return Length { refusal, length: 0 };

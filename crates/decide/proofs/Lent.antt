@@ -26,6 +26,10 @@ module _ (seat : Seat) (costs : List ℕ) where
   unfolding lentView
   n-lent = refl
 
+  pub order-lent : viewFrom seat costs .order ≡ seat .order
+  unfolding lentView
+  order-lent = refl
+
   -- the unit's number is the next of its place
   pub own-lent : 1 ≤ seat .own → suc (viewFrom seat costs .place) ≡ seat .own
   own-lent h = rw place-lent (omega arith)

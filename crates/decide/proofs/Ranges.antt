@@ -10,11 +10,12 @@ use borrow.Author.Tests.{le-leb, lt-leb, eq-eqb, ne-eqb}
 use Rattle.base.specs.Limits.{estimateLimit, prefixLimit}
 use Rattle.costs.specs.declared.Seat.{Seat}
 use Rattle.costs.specs.Instance.{viewFrom}
+use Rattle.costs.specs.Order.{placeTried}
 use Rattle.base.specs.Every.{every}
 use Rattle.base.specs.Every.Laws.{every-more, every-not}
 use Rattle.message.specs.Message.{isUnit, filledTo, noneOrBound}
 use Rattle.rules.specs.declared.Unit.{Unit}
-use Rattle.rules.specs.State.{compareOn, notLess, allAtMost, cpaZero, cpaOutInRange, paidInRange, inRangePaid, inRange, ownCost}
+use Rattle.rules.specs.State.{compareOn, notLess, allAtMost, cpaZero, cpaOutInRange, paidInRange, inRangePaid, inRange, ownValue, ownCost}
 use Rattle.decide.proofs.Lent.{n-lent, own-lent}
 use Rattle.rules.specs.Laws.Readiness.{pred-sub}
 
@@ -52,38 +53,38 @@ module _ (sizes : List ℕ) (u : Unit) where
 
 -- ---- a cpa out, of unit `own`
 
-module _ (sizes : List ℕ) (own paid : ℕ) (u : Unit) where
-  pub out-stamp : filledTo own sizes (u .stamp) ≡ false → false ≡ cpaOutInRange sizes own paid u
+module _ (sizes : List ℕ) (own paid place : ℕ) (u : Unit) where
+  pub out-stamp : filledTo own sizes (u .stamp) ≡ false → false ≡ cpaOutInRange sizes own paid place u
   unfolding cpaOutInRange
   out-stamp e = simp e
 
-  pub out-values : filledTo own sizes (u .values) ≡ false → false ≡ cpaOutInRange sizes own paid u
+  pub out-values : filledTo own sizes (u .values) ≡ false → false ≡ cpaOutInRange sizes own paid place u
   unfolding cpaOutInRange
   out-values e = simp (e, and-false)
 
-  pub out-cost : prefixLimit own < u .cost → false ≡ cpaOutInRange sizes own paid u
+  pub out-cost : prefixLimit own < u .cost → false ≡ cpaOutInRange sizes own paid place u
   unfolding cpaOutInRange
   out-cost l = simp (lt-leb (u .cost) (prefixLimit own) l, and-false)
 
-  pub out-counter : (u .counter ≡ getD (u .stamp) (own - 1) 0 → ⊥) → false ≡ cpaOutInRange sizes own paid u
+  pub out-counter : (u .counter ≡ getD (u .stamp) (own - 1) 0 → ⊥) → false ≡ cpaOutInRange sizes own paid place u
   unfolding cpaOutInRange
   out-counter n = simp (pred-sub own, ne-eqb (u .counter) (getD (u .stamp) (own - 1) 0) n, and-false)
 
-  pub out-tried : getD (u .values) (own - 1) 0 < u .counter → false ≡ cpaOutInRange sizes own paid u
+  pub out-tried : place < u .counter → false ≡ cpaOutInRange sizes own paid place u
   unfolding cpaOutInRange
-  out-tried l = simp (pred-sub own, lt-leb (u .counter) (getD (u .values) (own - 1) 0) l, and-false)
+  out-tried l = simp (lt-leb (u .counter) place l, and-false)
 
-  pub out-threshold : notLess (compareOn own (u .threshold) (u .stamp)) ≡ false → false ≡ cpaOutInRange sizes own paid u
+  pub out-threshold : notLess (compareOn own (u .threshold) (u .stamp)) ≡ false → false ≡ cpaOutInRange sizes own paid place u
   unfolding cpaOutInRange
   out-threshold e = simp (e, and-false)
 
-  pub out-paid : u .cost < paid → false ≡ cpaOutInRange sizes own paid u
+  pub out-paid : u .cost < paid → false ≡ cpaOutInRange sizes own paid place u
   unfolding cpaOutInRange
   out-paid l = simp (lt-leb paid (u .cost) l, and-false)
 
   pub out-bare : filledTo own sizes (u .stamp) ≡ true → filledTo own sizes (u .values) ≡ true → u .cost ≤ prefixLimit own
-      → u .counter ≡ getD (u .stamp) (own - 1) 0 → u .counter ≤ getD (u .values) (own - 1) 0 → notLess (compareOn own (u .threshold) (u .stamp)) ≡ true → paid ≤ u .cost
-      → leb (u .cost - paid) (prefixLimit (own - 1)) ≡ cpaOutInRange sizes own paid u
+      → u .counter ≡ getD (u .stamp) (own - 1) 0 → u .counter ≤ place → notLess (compareOn own (u .threshold) (u .stamp)) ≡ true → paid ≤ u .cost
+      → leb (u .cost - paid) (prefixLimit (own - 1)) ≡ cpaOutInRange sizes own paid place u
   unfolding cpaOutInRange
   out-bare s v c n t o p = simp (
     pred-sub own,
@@ -91,42 +92,43 @@ module _ (sizes : List ℕ) (own paid : ℕ) (u : Unit) where
     v,
     le-leb (u .cost) (prefixLimit own) c,
     eq-eqb (u .counter) (getD (u .stamp) (own - 1) 0) n,
-    le-leb (u .counter) (getD (u .values) (own - 1) 0) t,
+    le-leb (u .counter) place t,
     o,
     le-leb paid (u .cost) p,
   )
 
 -- ---- the whole
 
-module _ (n : ℕ) (sizes : List ℕ) (own paid : ℕ) (u : Unit) where
-  pub range-limits : (allAtMost 17 (u .threshold) && allAtMost estimateLimit (u .estimates)) ≡ false → false ≡ paidInRange n sizes own paid u
+module _ (n : ℕ) (sizes : List ℕ) (own paid place : ℕ) (u : Unit) where
+  pub range-limits : (allAtMost 17 (u .threshold) && allAtMost estimateLimit (u .estimates)) ≡ false → false ≡ paidInRange n sizes own paid place u
   unfolding paidInRange
   range-limits e = simp e
 
-  pub range-bound : noneOrBound n sizes (u .bound) (u .best) ≡ false → false ≡ paidInRange n sizes own paid u
+  pub range-bound : noneOrBound n sizes (u .bound) (u .best) ≡ false → false ≡ paidInRange n sizes own paid place u
   unfolding paidInRange
   range-bound e = simp (e, and-false)
 
   module _ (l : (allAtMost 17 (u .threshold) && allAtMost estimateLimit (u .estimates)) ≡ true) (b : noneOrBound n sizes (u .bound) (u .best) ≡ true) where
-    pub range-none : getD (u .values) (own - 1) 0 ≡ 0 → cpaZero sizes u ≡ paidInRange n sizes own paid u
+    pub range-none : getD (u .values) (own - 1) 0 ≡ 0 → cpaZero sizes u ≡ paidInRange n sizes own paid place u
     unfolding paidInRange
     range-none z = simp (l, b, pred-sub own, eq-eqb (getD (u .values) (own - 1) 0) 0 z)
 
-    pub range-out : (getD (u .values) (own - 1) 0 ≡ 0 → ⊥) → cpaOutInRange sizes own paid u ≡ paidInRange n sizes own paid u
+    pub range-out : (getD (u .values) (own - 1) 0 ≡ 0 → ⊥) → cpaOutInRange sizes own paid place u ≡ paidInRange n sizes own paid place u
     unfolding paidInRange
     range-out z = simp (l, b, pred-sub own, ne-eqb (getD (u .values) (own - 1) 0) 0 z)
 
   -- by any number
-  pub range-no-unit : isUnit 16 own ≡ false → false ≡ inRangePaid n sizes own paid u
+  pub range-no-unit : isUnit 16 own ≡ false → false ≡ inRangePaid n sizes own paid place u
   unfolding inRangePaid
   range-no-unit e = rw e
 
-  pub range-unit : isUnit 16 own ≡ true → paidInRange n sizes own paid u ≡ inRangePaid n sizes own paid u
+  pub range-unit : isUnit 16 own ≡ true → paidInRange n sizes own paid place u ≡ inRangePaid n sizes own paid place u
   unfolding inRangePaid
   range-unit e = rw e
 
--- what a unit pays by its view
-pub range-lent : (seat : Seat) (costs : List ℕ) (u : Unit) (paid : ℕ) → 1 ≤ seat .own → paid ≡ ownCost (viewFrom seat costs) u
-    → paidInRange (seat .n) (seat .sizes) (seat .own) paid u ≡ inRange (seat .sizes) (viewFrom seat costs) u
+-- what a unit pays, and its own value's place, by its view
+pub range-lent : (seat : Seat) (costs : List ℕ) (u : Unit) (paid place : ℕ) → 1 ≤ seat .own → paid ≡ ownCost (viewFrom seat costs) u
+    → place ≡ placeTried (viewFrom seat costs) (ownValue (viewFrom seat costs) u)
+    → paidInRange (seat .n) (seat .sizes) (seat .own) paid place u ≡ inRange (seat .sizes) (viewFrom seat costs) u
 unfolding inRange
-range-lent seat costs u paid first pays = rw (pays, own-lent seat costs first, n-lent seat costs)
+range-lent seat costs u paid place first pays tried = rw (pays, tried, own-lent seat costs first, n-lent seat costs)

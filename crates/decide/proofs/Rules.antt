@@ -12,6 +12,7 @@ use borrow.Author.Tests.{lt-ltb, le-ltb, le-leb, lt-leb, ne-eqb}
 use Rattle.base.specs.Sums.{sumFrom}
 use Rattle.costs.specs.declared.Seat.{Seat}
 use Rattle.costs.specs.Instance.{View, viewFrom}
+use Rattle.costs.specs.Order.{left}
 use Rattle.message.specs.declared.Message.{Message}
 use Rattle.message.specs.declared.Kind.{Kind}
 use Rattle.rules.specs.declared.Unit.{Unit}
@@ -22,40 +23,36 @@ use Rattle.rules.specs.Step.{refused, quiet, takeBound, bareCost, takeOff, back
 use Rattle.rules.specs.Tests.{stored, sumLater, onOwn, takeLower, reachedByEstimates, unlessStopped}
 use Rattle.rules.specs.Calls.{start}
 use Rattle.rules.specs.Ready.{Ready, Heard, decidedOf}
-use Rattle.decide.proofs.Lent.{dom-lent, value-lent}
+use Rattle.decide.proofs.Lent.{value-lent}
 use Rattle.rules.specs.Laws.Readiness.{pred-sub}
 
 -- ---- the state stays ready
 
-pub ready-lower : (own : ℕ) (b : Bool) (B : ℕ) (l : List ℕ) (u : Unit) → Ready own u → Ready own (takeLower b B l u)
-ready-lower own true B l u r = record { threshold = r .threshold; counter = r .counter }
-ready-lower own false B l u r = r
+pub ready-lower : (seat : Seat) (b : Bool) (B : ℕ) (l : List ℕ) (u : Unit) → Ready seat u → Ready seat (takeLower b B l u)
+ready-lower seat true B l u r = record { threshold = r .threshold; value = r .value; counter = r .counter }
+ready-lower seat false B l u r = r
 
-pub ready-bound : (own : ℕ) (m : Message) (u t : Unit) → t ≡ takeBound m u → Ready own u → Ready own t
-ready-bound own m u t e r = rw e (ready-lower own (ltb (m .bound) (u .bound)) (m .bound) (m .best) u r)
+pub ready-bound : (seat : Seat) (m : Message) (u t : Unit) → t ≡ takeBound m u → Ready seat u → Ready seat t
+ready-bound seat m u t e r = rw e (ready-lower seat (ltb (m .bound) (u .bound)) (m .bound) (m .best) u r)
 
 -- the cpa of a message from a lower unit has no own value
-pub ready-down : (own : ℕ) (m : Message) (u : Unit) → Heard own m → m .sender < own → Ready own u → Ready own (withCpa (m .stamp) (m .values) (m .cost) u)
-ready-down own m u d l r = record { threshold = r .threshold; counter = λ z. absurd (none z) } where
-  none : 0 < getD (m .values) (own - 1) 0 → ⊥
+pub ready-down : (seat : Seat) (m : Message) (u : Unit) → Heard (seat .own) m → m .sender < seat .own → Ready seat u → Ready seat (withCpa (m .stamp) (m .values) (m .cost) u)
+ready-down seat m u d l r = record { threshold = r .threshold; value = omega (arith, d .bare l); counter = λ z. absurd (none z) } where
+  none : 0 < getD (m .values) (seat .own - 1) 0 → ⊥
   none z = omega (arith, d .bare l)
 
-pub ready-follow : (own : ℕ) (m : Message) (u t : Unit) → t ≡ withThreshold (m .stamp) u → Heard own m → Ready own u → Ready own t
-ready-follow own m u t e d r = rw e (record { threshold = d .stamp; counter = r .counter })
+pub ready-follow : (seat : Seat) (m : Message) (u t : Unit) → t ≡ withThreshold (m .stamp) u → Heard (seat .own) m → Ready seat u → Ready seat t
+ready-follow seat m u t e d r = rw e (record { threshold = d .stamp; value = r .value; counter = r .counter })
 
-pub ready-stored : (own : ℕ) (m : Message) (u t : Unit) → t ≡ stored m u → Ready own u → Ready own t
-ready-stored own m u t e r = rw e (record { threshold = r .threshold; counter = r .counter })
+pub ready-stored : (seat : Seat) (m : Message) (u t : Unit) → t ≡ stored m u → Ready seat u → Ready seat t
+ready-stored seat m u t e r = rw e (record { threshold = r .threshold; value = r .value; counter = r .counter })
 
 -- ---- assign
 
--- the counter where assigning begins is at most the own value
-begun-counter : (v c : ℕ) → (0 < v → c ≤ v) → cond (eqb v 0) 0 c ≤ v
+-- the counter where assigning begins may go up by one for each value
+begun-counter : (v c : ℕ) → (0 < v → c ≤ 16) → cond (eqb v 0) 0 c ≤ 16
 begun-counter zero c f = omega arith
 begun-counter (suc v) c f = simp (ne-eqb (suc v) 0 (λ z. omega arith)) (f (omega arith))
-
--- the threshold is as it was
-pub begun-low : (w : View) (u t : Unit) → t ≡ begun w u → (own : ℕ) → Ready own u → getD (t .threshold) (own - 1) 0 ≤ 17
-begun-low w u t e own r = rw e (r .threshold)
 
 module _ (seat : Seat) (costs : List ℕ) where
   abbrev view : View
@@ -67,18 +64,19 @@ module _ (seat : Seat) (costs : List ℕ) where
       ap (λ (y : ℕ). takeOff view (withCounter y (withEstimates zeros u)))
       (e ∙ ap (λ (v : ℕ). cond (eqb v 0) 0 (u .counter)) (sym (value-lent seat costs u)))
 
-  pub begun-few : (u t : Unit) → t ≡ begun view u → Ready (seat .own) u → t .counter ≤ getD (u .values) (seat .own - 1) 0
-  begun-few u t e r =
-      let f : t .counter ≡ cond (eqb (ownValue view u) 0) 0 (u .counter) = ap (λ (s : Unit). s .counter) e in
-      rw (f, value-lent seat costs u) (begun-counter (getD (u .values) (seat .own - 1) 0) (u .counter) (r .counter))
+  module _ (u t : Unit) (e : t ≡ begun view u) where
+    -- the threshold is as it was
+    pub begun-low : Ready seat u → getD (t .threshold) (seat .own - 1) 0 ≤ 17
+    begun-low r = rw e (r .threshold)
 
-  pub assign-lent : 1 ≤ seat .own → seat .own ≤ seat .n → (u t : Unit) → t ≡ begun view u
-      → tryAfter view (getD (seat .sizes) (seat .own - 1) 0 - getD (u .values) (seat .own - 1) 0) (getD (u .values) (seat .own - 1) 0) false t ≡ assign view u
-  unfolding assign
-  assign-lent a b u t e =
-      ap (λ (s : Unit). tryAfter view (getD (seat .sizes) (seat .own - 1) 0 - getD (u .values) (seat .own - 1) 0) (getD (u .values) (seat .own - 1) 0) false s) e
-      ∙ ap (λ (v : ℕ). tryAfter view (getD (seat .sizes) (seat .own - 1) 0 - v) v false (begun view u)) (sym (value-lent seat costs u))
-      ∙ ap (λ (d : ℕ). tryAfter view (d - ownValue view u) (ownValue view u) false (begun view u)) (sym (dom-lent seat costs a b))
+    pub begun-few : Ready seat u → t .counter ≤ 16
+    begun-few r =
+        let f : t .counter ≡ cond (eqb (ownValue view u) 0) 0 (u .counter) = ap (λ (s : Unit). s .counter) e in
+        rw (f, value-lent seat costs u) (begun-counter (getD (u .values) (seat .own - 1) 0) (u .counter) (r .counter))
+
+    pub assign-lent : tryAfter view (left view (getD (u .values) (seat .own - 1) 0)) (getD (u .values) (seat .own - 1) 0) false t ≡ assign view u
+    unfolding assign
+    assign-lent = rw (e, ← value-lent seat costs u)
 
 -- ---- resume
 

@@ -1,8 +1,7 @@
--- One turn of trying values: what `tryAfter` gives with m + 1 values left, by whether the value is written and by whom.
+-- One turn of trying values: what `tryAfter` gives by the value that comes next, by whether it is written and by whom.
 -- By the clauses of `tryAfter`, each test decided. Assumes nothing.
 use Prim.Native.Nat.{ℕ, suc, _+_, _-_, _≤_, _<_}
 use native.Mathlib.Omega.{arith}
-use native.Mathlib.Numerals.{add-one}
 use mathlib.Core.Path.{_≡_, refl, sym, _∙_}
 use mathlib.Core.Bool.{Bool, true, false, cond}
 use lib.ListN.{length, getD}
@@ -13,6 +12,7 @@ use Rattle.costs.specs.Cost.{_⊕_, below, asNumber}
 use Rattle.costs.specs.Cost.Laws.{number-not-forbidden, below-numbers}
 use Rattle.costs.specs.Instance.{View}
 use Rattle.costs.specs.Bounds.{costWith, h}
+use Rattle.costs.specs.Order.{next, left}
 use Rattle.rules.specs.declared.Unit.{Unit}
 use Rattle.rules.specs.declared.Decided.{Decided}
 use Rattle.rules.specs.declared.Plan.the-variants.{Forward}
@@ -20,6 +20,7 @@ use Rattle.rules.specs.State.{withBest}
 use Rattle.rules.specs.Step.{Decision, refused, accepted, Written, recorded, carried, takeOff, write, recordOf, backtrack, tryAfter}
 use Rattle.rules.specs.Tests.{silent, costAt, costBelow}
 use Rattle.rules.specs.Ready.{decidedOf}
+use Rattle.decide.proofs.Later.{left-more, left-none}
 
 -- a decision as the code has it, after k records
 abbrev pub counted : ℕ → Unit → Decision → Decided
@@ -65,44 +66,42 @@ module _ (w : View) (v : ℕ) (u : Unit) where
       pub bound-above : u .cost + paid + ahead < u .bound → Of (u .cost + paid) ≡ costBelow w v u
       bound-above l = rw (e, f, lt-ltb _ _ l)
 
--- one turn, v tried so far
-module _ (w : View) (d v k : ℕ) (was : Unit) (b : Bool) (u : Unit) (more : v < d) where
-  rest : d - v ≡ suc (d - (v + 1))
-  rest = omega arith
-
+-- one turn, v tried last and x next
+module _ (w : View) (v x k : ℕ) (was : Unit) (b : Bool) (u : Unit) (after : x ≡ next w v) (some : 1 ≤ x) where
   -- a value that is forbidden or reaches the bound is passed over
-  pub passed-over : costBelow w (v + 1) u ≡ Forbidden → counted k was (tryAfter w (d - v) v b u) ≡ counted k was (tryAfter w (d - (v + 1)) (v + 1) b u)
+  pub passed-over : costBelow w x u ≡ Forbidden → counted k was (tryAfter w (left w v) v b u) ≡ counted k was (tryAfter w (left w x) x b u)
   unfolding tryAfter
-  passed-over l = rw (rest, ← add-one v, none-below (costAt w (v + 1) u) (h w (v + 1)) (u .bound) l)
+  passed-over l = rw (left-more w v x after some, ← after, none-below (costAt w x u) (h w x) (u .bound) l)
 
   -- unit n writes it, takes it as its best, and goes on
-  pub written-last : (cost : ℕ) → costBelow w (v + 1) u ≡ Of cost → suc (w .place) ≡ w .n → (t : Unit) → t ≡ write w (v + 1) cost u
-      → counted k was (tryAfter w (d - v) v b u) ≡ counted (k + 1) was (tryAfter w (d - (v + 1)) (v + 1) true (takeOff w (withBest (t .cost) (t .values) t)))
+  pub written-last : (cost : ℕ) → costBelow w x u ≡ Of cost → suc (w .place) ≡ w .n → (t : Unit) → t ≡ write w x cost u
+      → counted k was (tryAfter w (left w v) v b u) ≡ counted (k + 1) was (tryAfter w (left w x) x true (takeOff w (withBest (t .cost) (t .values) t)))
   unfolding tryAfter
   written-last cost l e t f =
-      let p = some-below (costAt w (v + 1) u) (h w (v + 1)) (u .bound) cost l in
-      rw (rest, ← add-one v, f, p .0, p .1, eq-eqb _ _ e)
-      (counted-more k was (recordOf w (write w (v + 1) cost u)) (tryAfter w (d - (v + 1)) (v + 1) true (takeOff w (withBest cost (write w (v + 1) cost u .values) (write w (v + 1) cost u)))))
+      let p = some-below (costAt w x u) (h w x) (u .bound) cost l in
+      rw (left-more w v x after some, ← after, f, p .0, p .1, eq-eqb _ _ e)
+      (counted-more k was (recordOf w (write w x cost u)) (tryAfter w (left w x) x true (takeOff w (withBest cost (write w x cost u .values) (write w x cost u)))))
 
   -- another unit writes it and sends it on
-  pub written-on : (cost : ℕ) → costBelow w (v + 1) u ≡ Of cost → (suc (w .place) ≡ w .n → ⊥) → (t : Unit) → t ≡ write w (v + 1) cost u
-      → counted k was (tryAfter w (d - v) v b u)
+  pub written-on : (cost : ℕ) → costBelow w x u ≡ Of cost → (suc (w .place) ≡ w .n → ⊥) → (t : Unit) → t ≡ write w x cost u
+      → counted k was (tryAfter w (left w v) v b u)
       ≡ record { refusal = 0; unit = t; sending = record { plan = Forward; improved = false; message = carried w t }; records = k + 1 }
   unfolding tryAfter
   written-on cost l e t f =
-      let p = some-below (costAt w (v + 1) u) (h w (v + 1)) (u .bound) cost l in
-      rw (rest, ← add-one v, f, p .0, p .1, ne-eqb _ _ e)
+      let p = some-below (costAt w x u) (h w x) (u .bound) cost l in
+      rw (left-more w v x after some, ← after, f, p .0, p .1, ne-eqb _ _ e)
 
 -- no value is left: the backtrack r, after k records
-pub none-left : (w : View) (d v k : ℕ) (was : Unit) (b : Bool) (u : Unit) (r : Decided) → d ≤ v → r ≡ decidedOf was (backtrack w b u)
-    → counted k was (tryAfter w (d - v) v b u) ≡ record { refusal = r .refusal; unit = r .unit; sending = r .sending; records = k }
+pub none-left : (w : View) (v k : ℕ) (was : Unit) (b : Bool) (u : Unit) (r : Decided) → next w v ≡ 0 → r ≡ decidedOf was (backtrack w b u)
+    → counted k was (tryAfter w (left w v) v b u) ≡ record { refusal = r .refusal; unit = r .unit; sending = r .sending; records = k }
 unfolding tryAfter backtrack
-none-left w d v k was b u r l f = let e : d - v ≡ 0 = omega arith in let z : k + 0 ≡ k = omega arith in rw (e, f, z)
+none-left w v k was b u r l f = let z : k + 0 ≡ k = omega arith in rw (left-none w v l, f, z)
 
--- what holds whenever the loop's test is reached: the whole is what is left, after the records written
-pub record Tried (w : View) (own d from : ℕ) (u : Unit) (v records : ℕ) (improved : Bool) (t : Unit) : Type 0 where
-  pub small : d ≤ 16
-  pub written : records + from ≤ v
-  pub counter : t .counter ≤ v
-  pub threshold : getD (t .threshold) (own - 1) 0 ≤ 17
-  pub whole : (was : Unit) → decidedOf was (tryAfter w (d - from) from false u) ≡ counted records was (tryAfter w (d - v) v improved t)
+-- what holds whenever the loop's test is reached, of d values v being tried last and x next: the whole is what is left, after the records written
+pub record Tried (w : View) (own d from : ℕ) (u : Unit) (v x records : ℕ) (improved : Bool) (t : Unit) : Type 0 where
+  pub after : x ≡ next w v
+  pub within : x ≤ d
+  pub written : records + left w v ≤ 16
+  pub counter : t .counter + left w v ≤ 32
+  pub threshold : getD (t .threshold) (own - 1) 0 ≤ 33
+  pub whole : (was : Unit) → decidedOf was (tryAfter w (left w from) from false u) ≡ counted records was (tryAfter w (left w v) v improved t)

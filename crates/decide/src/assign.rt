@@ -3,6 +3,8 @@
 use crate::backtrack::backtrack;
 use crate::backtrack::carry;
 use crate::backtrack::take_off;
+use crate::order::keys;
+use crate::order::next;
 use crate::state::with_best;
 use costs::Cost;
 use costs::Seat;
@@ -16,6 +18,7 @@ ghost use Prim.Native.Nat.{suc, _+_, _-_, _≤_};
 ghost use lib.Dec.{eqb};
 ghost use lib.ListN.{getD};
 ghost use Rattle.costs.specs.Instance.{View, viewFrom};
+ghost use Rattle.costs.specs.Order.{left};
 ghost use Rattle.rules.specs.State.{withBest};
 ghost use Rattle.rules.specs.Step.{takeOff, carried, write, tryAfter, begun, assign};
 ghost use Rattle.rules.specs.Tests.{costBelow};
@@ -23,7 +26,7 @@ ghost use Rattle.rules.specs.Ready.{Own, Shaped, Ready, decidedOf};
 
 // Assign: the first value after the own one that stays below the bound is written and sent on; without one, backtrack.
 pub(crate) fn assign(seat: Seat, costs: &[u8], u: Unit) -> Decided
-    requires { ⌜ Shaped seat × Ready (seat .own) u ⌝ }
+    requires { ⌜ Shaped seat × Ready seat u ⌝ }
     ensures { λ r. ⌜ ((was : Unit) → r ≡ decidedOf was (assign (viewFrom seat (now (costs .entry))) u)) ⌝ }
 {
     let place = (seat.own - 1) as usize;
@@ -55,19 +58,20 @@ fn started(value: u8, counter: u8) -> u8
     counter
 }
 
-// Try the values after v, ascending; the own value is off.
+// Try the values after `from`, in the order of the seat; the own value is off.
 fn try_after(seat: Seat, costs: &[u8], from: u8, u: Unit) -> Decided
-    requires { ⌜ Shaped seat × (getD (u .threshold) (seat .own - 1) 0 ≤ 17) × (u .counter ≤ from) ⌝ }
-    ensures { λ r. ⌜ ((was : Unit) → r ≡ decidedOf was (tryAfter (viewFrom seat (now (costs .entry))) (getD (seat .sizes) (seat .own - 1) 0 - from) from false u)) ⌝ }
+    requires { ⌜ Shaped seat × (from ≤ getD (seat .sizes) (seat .own - 1) 0) × (getD (u .threshold) (seat .own - 1) 0 ≤ 17) × (u .counter ≤ 16) ⌝ }
+    ensures { λ r. ⌜ ((was : Unit) → r ≡ decidedOf was (tryAfter (viewFrom seat (now (costs .entry))) (left (viewFrom seat (now (costs .entry))) from) from false u)) ⌝ }
 {
-    let sizes = seat.sizes;
-    let d = sizes[(seat.own - 1) as usize];
+    let keys = keys(seat, costs);
     let mut t = u;
     let mut improved = false;
     let mut records = 0;
     let mut v = from;
-    while v < d {
-        v += 1;
+    let mut after = next(seat, keys, v);
+    while after != 0 {
+        v = after;
+        after = next(seat, keys, v);
         if let Cost::Of(cost) = cost_below(seat, costs, v, t) {
             records += 1;
             let s = put(seat.own, v, cost, t);

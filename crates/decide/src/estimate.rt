@@ -68,7 +68,7 @@ fn answer(seat: Seat, costs: &[u8], u: Unit, m: Message) -> Decided
 
 // An estimate.
 pub(crate) fn on_estimate(seat: Seat, costs: &[u8], u: Unit, m: Message) -> Decided
-    requires { ⌜ Shaped seat × Ready (seat .own) u × Heard (seat .own) m ⌝ }
+    requires { ⌜ Shaped seat × Ready seat u × Heard (seat .own) m ⌝ }
     ensures { λ r. ⌜ r ≡ decidedOf u (onEstimate (viewFrom seat (now (costs .entry))) u m) ⌝ }
 {
     let stamp = m.stamp;
@@ -83,7 +83,7 @@ pub(crate) fn on_estimate(seat: Seat, costs: &[u8], u: Unit, m: Message) -> Deci
 
 // An estimate that is neither stale nor ahead.
 fn on_own_estimate(seat: Seat, costs: &[u8], u: Unit, m: Message) -> Decided
-    requires { ⌜ Shaped seat × Ready (seat .own) u × Heard (seat .own) m ⌝ }
+    requires { ⌜ Shaped seat × Ready seat u × Heard (seat .own) m ⌝ }
     ensures { λ r. ⌜ r ≡ decidedOf u (onTimely (viewFrom seat (now (costs .entry))) Ordering.Equal u m) ⌝ }
 {
     if !is_stamp_out(seat.own, u, m) {

@@ -4,6 +4,7 @@ mod assign; // assigning: values tried, the first below the bound written
 mod backtrack; // backtracking: the own value off, the cpa handed back
 mod bound; // solutions and stops, and what is decided where nothing is sent
 mod estimate; // requests and the estimates that answer them
+mod order; // the value tried after another
 mod receive; // a cpa that comes in
 mod state; // whether a state is in range, the order of stamps, and the parts of a state set
 
@@ -57,7 +58,7 @@ pub fn start(seat: Seat, costs: &[u8]) -> Decided
 
 // By the message's kind.
 fn by_kind(seat: Seat, costs: &[u8], kind: Kind, u: Unit, m: Message) -> Decided
-    requires { ⌜ Shaped seat × Ready (seat .own) u × Heard (seat .own) m ⌝ }
+    requires { ⌜ Shaped seat × Ready seat u × Heard (seat .own) m ⌝ }
     ensures { λ r. ⌜ r ≡ decidedOf u (respond (viewFrom seat (now (costs .entry))) kind u m) ⌝ }
 {
     if u.stopped {
@@ -90,10 +91,13 @@ fn can_step(seat: Seat, u: Unit) -> bool
         return false;
     }
     let value = u.values[place];
+    if seat.sizes[place] < value {
+        return false;
+    }
     if value == 0 {
         return true;
     }
-    u.counter <= value
+    u.counter <= 16
 }
 
 // Whether unit `own` can do anything with a message.

@@ -27,7 +27,7 @@ ghost use Rattle.rules.specs.Ready.{Own, Shaped, Ready, Heard, decidedOf};
 
 // A cpa: one from a lower unit goes down.
 pub(crate) fn on_cpa(seat: Seat, costs: &[u8], u: Unit, m: Message) -> Decided
-    requires { ⌜ Shaped seat × Ready (seat .own) u × Heard (seat .own) m ⌝ }
+    requires { ⌜ Shaped seat × Ready seat u × Heard (seat .own) m ⌝ }
     ensures { λ r. ⌜ r ≡ decidedOf u (onCpa (viewFrom seat (now (costs .entry))) u m) ⌝ }
 {
     let stamp = m.stamp;
@@ -41,7 +41,7 @@ pub(crate) fn on_cpa(seat: Seat, costs: &[u8], u: Unit, m: Message) -> Decided
 
 // A cpa going down, by how its stamp compares with the threshold.
 fn on_down(seat: Seat, costs: &[u8], order: Ordering, u: Unit, m: Message) -> Decided
-    requires { ⌜ Shaped seat × Ready (seat .own) u × Heard (seat .own) m × (m .sender < seat .own) ⌝ }
+    requires { ⌜ Shaped seat × Ready seat u × Heard (seat .own) m × (m .sender < seat .own) ⌝ }
     ensures { λ r. ⌜ ((was : Unit) → r ≡ decidedOf was (onDown (viewFrom seat (now (costs .entry))) order u m)) ⌝ }
 {
     match order {
@@ -71,7 +71,7 @@ pub(crate) fn follow(m: Message, u: Unit) -> Unit
 
 // A cpa going back, by how its stamp compares with the threshold.
 fn on_back(seat: Seat, costs: &[u8], order: Ordering, u: Unit, m: Message) -> Decided
-    requires { ⌜ Shaped seat × Ready (seat .own) u ⌝ }
+    requires { ⌜ Shaped seat × Ready seat u ⌝ }
     ensures { λ r. ⌜ r ≡ decidedOf u (onBack (viewFrom seat (now (costs .entry))) order u m) ⌝ }
 {
     if !not_less(order) {
@@ -114,7 +114,7 @@ pub(crate) fn is_stamp_out(own: u8, u: Unit, m: Message) -> bool
 
 // Backtrack where the cost without the own value reaches the bound, else assign.
 fn resume(seat: Seat, costs: &[u8], u: Unit) -> Decided
-    requires { ⌜ Shaped seat × Ready (seat .own) u ⌝ }
+    requires { ⌜ Shaped seat × Ready seat u ⌝ }
     ensures { λ r. ⌜ ((was : Unit) → r ≡ decidedOf was (resume (viewFrom seat (now (costs .entry))) u)) ⌝ }
 {
     let bare = bare_cost(seat, costs, u);

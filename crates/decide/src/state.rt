@@ -8,7 +8,9 @@ ghost use mathlib.Core.Bool.{_&&_};
 ghost use Prim.Native.Nat.{_≤_};
 ghost use Rattle.base.specs.Limits.{estimateLimit};
 ghost use Rattle.costs.specs.Instance.{viewFrom};
+ghost use Rattle.costs.specs.Order.{placeTried};
 ghost use Rattle.rules.specs.State.{
+  ownValue,
   ownCost,
   withThreshold,
   withBest,
@@ -34,7 +36,9 @@ pub fn in_range(seat: Seat, costs: &[u8], u: Unit) -> bool
         return false;
     }
     let paid = own_cost(seat, costs, u);
-    paid_in_range(seat, paid, u)
+    let place = own_place(seat, costs, u);
+    let sizes = seat.sizes;
+    paid_in_range(seat.own, seat.n, sizes, paid, place, u)
 }
 
 // The own value's costs, NONE where they are forbidden; without one there are none to add up.
@@ -51,36 +55,45 @@ pub(crate) fn own_cost(seat: Seat, costs: &[u8], u: Unit) -> u32
     costs::as_number(costs::cost_with(seat, costs, values, place, value))
 }
 
-// Whether the state of unit `own` is in range, its own value's costs being `paid`; no state is for a number that is not 1 to 16.
-pub fn in_range_paid(own: u8, n: u8, sizes: [u8; 16], paid: u32, u: Unit) -> bool
-    ensures { λ r. ⌜ r ≡ inRangePaid n sizes own paid u ⌝ }
+// The own value's place in the order tried, 0 without one.
+fn own_place(seat: Seat, costs: &[u8], u: Unit) -> usize
+    requires { ⌜ Own (seat .own) ⌝ }
+    ensures { λ r. ⌜ r ≡ placeTried (viewFrom seat (now (costs .entry))) (ownValue (viewFrom seat (now (costs .entry))) u) ⌝ }
+{
+    let values = u.values;
+    costs::place_tried(seat, costs, values[(seat.own - 1) as usize])
+}
+
+// Whether the state of unit `own` is in range, its own value's costs being `paid` and its place `place`; no state is for a number that is not
+// 1 to 16.
+pub fn in_range_paid(own: u8, n: u8, sizes: [u8; 16], paid: u32, place: usize, u: Unit) -> bool
+    ensures { λ r. ⌜ r ≡ inRangePaid n sizes own paid place u ⌝ }
 {
     if !message::is_unit(16, own) {
         return false;
     }
-    paid_in_range(Seat { own, n, sizes }, paid, u)
+    paid_in_range(own, n, sizes, paid, place, u)
 }
 
 // The same of a unit.
-fn paid_in_range(seat: Seat, paid: u32, u: Unit) -> bool
-    requires { ⌜ Own (seat .own) ⌝ }
-    ensures { λ r. ⌜ r ≡ paidInRange (seat .n) (seat .sizes) (seat .own) paid u ⌝ }
+fn paid_in_range(own: u8, n: u8, sizes: [u8; 16], paid: u32, place: usize, u: Unit) -> bool
+    requires { ⌜ Own own ⌝ }
+    ensures { λ r. ⌜ r ≡ paidInRange n sizes own paid place u ⌝ }
 {
     let threshold = u.threshold;
     let estimates = u.estimates;
     if !limits_kept(threshold, estimates) {
         return false;
     }
-    let sizes = seat.sizes;
     let best = u.best;
-    if !message::none_or_bound(seat.n, sizes, u.bound, best) {
+    if !message::none_or_bound(n, sizes, u.bound, best) {
         return false;
     }
     let values = u.values;
-    if values[(seat.own - 1) as usize] == 0 {
+    if values[(own - 1) as usize] == 0 {
         return cpa_zero(sizes, u);
     }
-    cpa_out_in_range(seat, paid, u)
+    cpa_out_in_range(own, sizes, paid, place, u)
 }
 
 // Whether each of the 16 places keeps its limit.
@@ -116,13 +129,11 @@ fn cpa_zero(sizes: [u8; 16], u: Unit) -> bool
 }
 
 // Whether a cpa that is out keeps its limits.
-fn cpa_out_in_range(seat: Seat, paid: u32, u: Unit) -> bool
-    requires { ⌜ Own (seat .own) ⌝ }
-    ensures { λ r. ⌜ r ≡ cpaOutInRange (seat .sizes) (seat .own) paid u ⌝ }
+fn cpa_out_in_range(own: u8, sizes: [u8; 16], paid: u32, place: usize, u: Unit) -> bool
+    requires { ⌜ Own own ⌝ }
+    ensures { λ r. ⌜ r ≡ cpaOutInRange sizes own paid place u ⌝ }
 {
-    let own = seat.own;
-    let place = own - 1;
-    let sizes = seat.sizes;
+    let before = own - 1;
     let stamp = u.stamp;
     let values = u.values;
     if !message::filled_to(own, sizes, stamp) {
@@ -134,10 +145,10 @@ fn cpa_out_in_range(seat: Seat, paid: u32, u: Unit) -> bool
     if message::prefix_limit(own) < u.cost {
         return false;
     }
-    if u.counter != stamp[place as usize] {
+    if u.counter != stamp[before as usize] {
         return false;
     }
-    if values[place as usize] < u.counter {
+    if place < base::wide(u.counter) {
         return false;
     }
     let threshold = u.threshold;
@@ -147,7 +158,7 @@ fn cpa_out_in_range(seat: Seat, paid: u32, u: Unit) -> bool
     if u.cost < paid {
         return false;
     }
-    u.cost - paid <= message::prefix_limit(place)
+    u.cost - paid <= message::prefix_limit(before)
 }
 
 // How a compares with b on the first k units.

@@ -4,21 +4,25 @@ use crate::counting::plus;
 use crate::pool::close;
 use crate::pool::copy_in;
 use base::MESSAGE_SIZE;
+use costs::Seat;
+use costs::ValueOrder;
 use runs::Answer;
 use runs::Network;
 use unit::Outcome;
 use unit::Unit;
 ghost use mathlib.Core.Path.{_≡_};
 ghost use mathlib.Core.List.{List};
-ghost use Prim.Native.Nat.{ℕ, suc, _≤_, _<_};
+ghost use Prim.Native.Nat.{ℕ, suc, pred, _≤_, _<_};
 ghost use lib.ListN.{length, getD};
 ghost use Rattle.base.specs.Limits.{poolCells, sendingSize};
 ghost use Rattle.table.specs.Stream.{unitsOf, Accepted};
 ghost use Rattle.base.specs.Every.{every};
 ghost use Rattle.base.specs.Bytes.Laws.{AllBytes};
-ghost use Rattle.costs.specs.Instance.{viewOf, instanceOf};
+ghost use Rattle.costs.specs.declared.ValueOrder.the-variants.{CheapestFirst};
+ghost use Rattle.costs.specs.Instance.{viewOf, viewBy, instanceOf};
 ghost use Rattle.costs.specs.Cost.{asNumber};
 ghost use Rattle.costs.specs.Bounds.{costWith};
+ghost use Rattle.costs.specs.Order.{defaultOrder, placeTried};
 ghost use Rattle.rules.specs.State.{paidInRange};
 ghost use Rattle.rules.specs.Laws.Range.{SizedUnit};
 ghost use Rattle.runs.specs.Calls.{deliverRefusal, receiverOf, stepped, deliverBy, deliverOf};
@@ -30,21 +34,34 @@ const CELLS: usize = base::POOL_CELLS as usize;
 // The message at a cell is delivered: the network and pool after it, or a refusal with both as lent. Refusals 13, 5, 6, 7, 5, 12, 15, then
 // the step's from 8 on, then 14.
 pub fn deliver(net: Network, stream: &[u8], pool: &mut [u8], cell: u64) -> Answer
-    ensures { λ r. ⌜ (r ≡ deliverOf net (now (stream .entry)) (now (pool .entry)) cell .answer) × (now (pool .exit) ≡ deliverOf net (now (stream .entry)) (now (pool .entry)) cell .pool) ⌝ }
+    ensures { λ r. ⌜ (r ≡ deliverOf defaultOrder net (now (stream .entry)) (now (pool .entry)) cell .answer) × (now (pool .exit) ≡ deliverOf defaultOrder net (now (stream .entry)) (now (pool .entry)) cell .pool) ⌝ }
 {
-    let refusal = deliver_refusal(net, stream, pool.len(), cell);
+    deliver_by(ValueOrder::CheapestFirst, net, stream, pool, cell)
+}
+
+// The same, values tried in this order.
+pub fn deliver_by(
+    order: ValueOrder,
+    net: Network,
+    stream: &[u8],
+    pool: &mut [u8],
+    cell: u64,
+) -> Answer
+    ensures { λ r. ⌜ (r ≡ deliverOf order net (now (stream .entry)) (now (pool .entry)) cell .answer) × (now (pool .exit) ≡ deliverOf order net (now (stream .entry)) (now (pool .entry)) cell .pool) ⌝ }
+{
+    let refusal = deliver_refusal(order, net, stream, pool.len(), cell);
     if refusal != 0 {
         return Answer {
             refusal,
             network: net,
         };
     }
-    hand_over(net, stream, pool, cell as usize)
+    hand_over(order, net, stream, pool, cell as usize)
 }
 
 // The first refusal of a delivery that applies before its message is read, or 0.
-fn deliver_refusal(net: Network, stream: &[u8], room: usize, cell: u64) -> u8
-    ensures { λ r. ⌜ ((pool : List ℕ) → length pool ≡ room → r ≡ deliverRefusal net (now (stream .entry)) pool cell) ⌝ }
+fn deliver_refusal(order: ValueOrder, net: Network, stream: &[u8], room: usize, cell: u64) -> u8
+    ensures { λ r. ⌜ ((pool : List ℕ) → length pool ≡ room → r ≡ deliverRefusal order net (now (stream .entry)) pool cell) ⌝ }
 {
     if room < base::POOL_SIZE {
         return 13;
@@ -55,7 +72,7 @@ fn deliver_refusal(net: Network, stream: &[u8], room: usize, cell: u64) -> u8
     }
     let core = net.core;
     let units = core.units;
-    if !units_in_range(units, stream) {
+    if !units_in_range(order, units, stream) {
         return 5;
     }
     if base::POOL_CELLS < net.used {
@@ -72,16 +89,16 @@ fn deliver_refusal(net: Network, stream: &[u8], room: usize, cell: u64) -> u8
 }
 
 // Whether the states of units 1 to n are in range.
-fn units_in_range(units: [Unit; 16], stream: &[u8]) -> bool
+fn units_in_range(order: ValueOrder, units: [Unit; 16], stream: &[u8]) -> bool
     requires { ⌜ Accepted (now stream) ⌝ }
-    ensures { λ r. ⌜ r ≡ every (unitInRange (now (stream .entry)) units) (unitsOf (now (stream .entry))) ⌝ }
+    ensures { λ r. ⌜ r ≡ every (unitInRange order (now (stream .entry)) units) (unitsOf (now (stream .entry))) ⌝ }
 {
     let n = table::units_of(stream);
     let sizes = costs::sizes_of(stream);
     let mut k: u8 = 0;
     while k < n {
         let unit = units[k as usize];
-        if !unit_in_range(k, n, sizes, stream, unit) {
+        if !unit_in_range(order, k, n, sizes, stream, unit) {
             return false;
         }
         k += 1;
@@ -89,21 +106,56 @@ fn units_in_range(units: [Unit; 16], stream: &[u8]) -> bool
     true
 }
 
-// Whether the state of the unit at place k is in range, by what its own value costs in the stream.
-fn unit_in_range(k: u8, n: u8, sizes: [u8; 16], stream: &[u8], u: Unit) -> bool
-    requires { ⌜ k < 16 ⌝ }
-    ensures { λ r. ⌜ r ≡ paidInRange n sizes (suc k) (asNumber (costWith (viewOf (instanceOf (now (stream .entry))) k) (u .values) k (getD (u .values) k 0))) u ⌝ }
+// Whether the state of the unit at place k is in range, by what its own value costs in the stream and when it is tried.
+fn unit_in_range(order: ValueOrder, k: u8, n: u8, sizes: [u8; 16], stream: &[u8], u: Unit) -> bool
+    requires { ⌜ Accepted (now stream) × (k < unitsOf (now stream)) ⌝ }
+    ensures { λ r. ⌜ r ≡ paidInRange n sizes (suc k) (asNumber (costWith (viewOf (instanceOf (now (stream .entry))) k) (u .values) k (getD (u .values) k 0))) (placeTried (viewBy order (instanceOf (now (stream .entry))) k) (getD (u .values) k 0)) u ⌝ }
 {
     let own = k + 1;
     let values = u.values;
-    let paid = costs::stream_cost_with(stream, values, own, values[k as usize]);
-    unit::in_range_paid(own, n, sizes, costs::as_number(paid), u)
+    let value = values[k as usize];
+    let paid = costs::stream_cost_with(stream, values, own, value);
+    let place = place_tried(order, stream, own, value);
+    unit::in_range_paid(own, n, sizes, costs::as_number(paid), place, u)
+}
+
+// The place of a unit's value in the order tried. Its costs are gathered only where that asks for them.
+fn place_tried(order: ValueOrder, stream: &[u8], own: u8, v: u8) -> usize
+    requires { ⌜ Accepted (now stream) × (1 ≤ own) × (own ≤ unitsOf (now stream)) ⌝ }
+    ensures { λ r. ⌜ r ≡ placeTried (viewBy order (instanceOf (now (stream .entry))) (pred own)) v ⌝ }
+{
+    match order {
+        ValueOrder::Ascending => base::wide(v),
+        ValueOrder::CheapestFirst => place_by_h(stream, own, v),
+    }
+}
+
+// The same by rising h; no value stands at place 0.
+fn place_by_h(stream: &[u8], own: u8, v: u8) -> usize
+    requires { ⌜ Accepted (now stream) × (1 ≤ own) × (own ≤ unitsOf (now stream)) ⌝ }
+    ensures { λ r. ⌜ r ≡ placeTried (viewBy CheapestFirst (instanceOf (now (stream .entry))) (pred own)) v ⌝ }
+{
+    if v == 0 {
+        return 0;
+    }
+    let n = table::units_of(stream);
+    let sizes = costs::sizes_of(stream);
+    let mut costs = [0u8; base::COSTS_SIZE];
+    let gathered = costs::gather(stream, own, &mut costs);
+    let count = gathered.length;
+    let seat = Seat {
+        own,
+        n,
+        sizes,
+        order: ValueOrder::CheapestFirst,
+    };
+    costs::place_tried(seat, &costs[0..count], v)
 }
 
 // The message at the cell goes to its receiver, and what that unit sends is added at the end.
-fn hand_over(net: Network, stream: &[u8], pool: &mut [u8], cell: usize) -> Answer
-    requires { ⌜ Open net (now stream) (now pool) cell ⌝ }
-    ensures { λ r. ⌜ (r ≡ deliverBy 0 net (now (stream .entry)) (now (pool .entry)) cell .answer) × (now (pool .exit) ≡ deliverBy 0 net (now (stream .entry)) (now (pool .entry)) cell .pool) ⌝ }
+fn hand_over(order: ValueOrder, net: Network, stream: &[u8], pool: &mut [u8], cell: usize) -> Answer
+    requires { ⌜ Open order net (now stream) (now pool) cell ⌝ }
+    ensures { λ r. ⌜ (r ≡ deliverBy order 0 net (now (stream .entry)) (now (pool .entry)) cell .answer) × (now (pool .exit) ≡ deliverBy order 0 net (now (stream .entry)) (now (pool .entry)) cell .pool) ⌝ }
 {
     let at = MESSAGE_SIZE * cell;
     let end = at + MESSAGE_SIZE;
@@ -112,7 +164,7 @@ fn hand_over(net: Network, stream: &[u8], pool: &mut [u8], cell: usize) -> Answe
     let units = core.units;
     let u = units[(own - 1) as usize];
     let mut out = [0u8; base::SENDING_SIZE];
-    let r = step(u, stream, own, &pool[at..end], &mut out);
+    let r = step(order, u, stream, own, &pool[at..end], &mut out);
     let refusal = r.refusal;
     if refusal != 0 {
         return Answer {
@@ -135,16 +187,23 @@ pub(crate) fn receiver(n: u8, packet: &[u8]) -> u8
 }
 
 // The step of unit `own` on a packet, with the costs gathered from the stream.
-fn step(u: Unit, stream: &[u8], own: u8, packet: &[u8], out: &mut [u8]) -> Outcome
-    requires { ⌜ Stepping (now stream) own u × (sendingSize ≤ length (now out)) ⌝ }
-    ensures { λ r. ⌜ Stepped (now (stream .entry)) own u (now (packet .entry)) (now (out .entry)) r (now (out .exit)) × SizedUnit u ⌝ }
+fn step(
+    order: ValueOrder,
+    u: Unit,
+    stream: &[u8],
+    own: u8,
+    packet: &[u8],
+    out: &mut [u8],
+) -> Outcome
+    requires { ⌜ Stepping order (now stream) own u × (sendingSize ≤ length (now out)) ⌝ }
+    ensures { λ r. ⌜ Stepped order (now (stream .entry)) own u (now (packet .entry)) (now (out .entry)) r (now (out .exit)) × SizedUnit u ⌝ }
 {
     let n = table::units_of(stream);
     let sizes = costs::sizes_of(stream);
     let mut costs = [0u8; base::COSTS_SIZE];
     let gathered = costs::gather(stream, own, &mut costs);
     let count = gathered.length;
-    unit::step(u, own, n, sizes, &costs[0..count], packet, out)
+    unit::step_by(order, u, own, n, sizes, &costs[0..count], packet, out)
 }
 
 // The gap is closed, what was sent is added at the end, and the unit and the counts are put in place; or 14, and all stays.

@@ -8,12 +8,16 @@ mod making; // a network made of a stream
 mod pool; // cells moved and written
 mod settling; // a network run to its end
 
+pub use costs::ValueOrder;
 pub use decimal::digits;
 pub use delivery::deliver;
+pub use delivery::deliver_by;
 pub use making::make;
+pub use making::make_by;
 pub use runs::Answer;
 pub use runs::Core;
 pub use runs::Count;
 pub use runs::Network;
 pub use runs::Text;
 pub use settling::settle;
+pub use settling::settle_by;

@@ -4,8 +4,9 @@ use crate::counting::plus;
 use crate::delivery::receiver;
 use crate::lending::LENT_SIZE;
 use crate::lending::lend;
-use crate::make;
+use crate::make_by;
 use crate::pool::take_oldest;
+use costs::ValueOrder;
 use runs::Answer;
 use runs::Network;
 use unit::Outcome;
@@ -14,20 +15,28 @@ ghost use mathlib.Core.Path.{_≡_};
 ghost use Prim.Native.Nat.{_≤_};
 ghost use lib.ListN.{length};
 ghost use Rattle.base.specs.Limits.{sendingSize};
+ghost use Rattle.costs.specs.Order.{defaultOrder};
 ghost use Rattle.runs.specs.Settle.{settleOf};
 ghost use Rattle.runs.specs.Settle.Laws.{Begun, Ended};
 ghost use Rattle.runs.specs.Trusted.{Oldest, Handed};
 
 // Makes a network of a stream and delivers cell 0 until unit 1 stops; none of these deliveries is refused. Refusals: making's.
 pub fn settle(stream: &[u8], pool: &mut [u8]) -> Answer
-    ensures { λ r. ⌜ (r ≡ settleOf (now (stream .entry)) (now (pool .entry)) .answer) × (now (pool .exit) ≡ settleOf (now (stream .entry)) (now (pool .entry)) .pool) ⌝ }
+    ensures { λ r. ⌜ (r ≡ settleOf defaultOrder (now (stream .entry)) (now (pool .entry)) .answer) × (now (pool .exit) ≡ settleOf defaultOrder (now (stream .entry)) (now (pool .entry)) .pool) ⌝ }
 {
-    let made = make(stream, pool);
+    settle_by(ValueOrder::CheapestFirst, stream, pool)
+}
+
+// The same, values tried in this order.
+pub fn settle_by(order: ValueOrder, stream: &[u8], pool: &mut [u8]) -> Answer
+    ensures { λ r. ⌜ (r ≡ settleOf order (now (stream .entry)) (now (pool .entry)) .answer) × (now (pool .exit) ≡ settleOf order (now (stream .entry)) (now (pool .entry)) .pool) ⌝ }
+{
+    let made = make_by(order, stream, pool);
     if made.refusal != 0 {
         return made;
     }
     let net = made.network;
-    let network = run(stream, net, pool);
+    let network = run(order, stream, net, pool);
     Answer {
         refusal: 0,
         network,
@@ -36,9 +45,9 @@ pub fn settle(stream: &[u8], pool: &mut [u8]) -> Answer
 
 // Delivers cell 0 of a new network until unit 1 stops. No delivery is asked what the making has seen: the costs of each unit are gathered
 // once, and the packets are those that the units sent.
-fn run(stream: &[u8], net: Network, pool: &mut [u8]) -> Network
-    requires { ⌜ Begun (now stream) net (now pool) ⌝ }
-    ensures { λ r. ⌜ Ended (now (stream .entry)) net (now (pool .entry)) r (now (pool .exit)) ⌝ }
+fn run(order: ValueOrder, stream: &[u8], net: Network, pool: &mut [u8]) -> Network
+    requires { ⌜ Begun order (now stream) net (now pool) ⌝ }
+    ensures { λ r. ⌜ Ended order (now (stream .entry)) net (now (pool .entry)) r (now (pool .exit)) ⌝ }
 {
     let n = table::units_of(stream);
     let sizes = costs::sizes_of(stream);
@@ -56,6 +65,7 @@ fn run(stream: &[u8], net: Network, pool: &mut [u8]) -> Network
         let lo = starts[place];
         let hi = starts[place + 1];
         let r = hand_oldest(
+            order,
             u,
             own,
             n,
@@ -80,6 +90,7 @@ fn run(stream: &[u8], net: Network, pool: &mut [u8]) -> Network
 
 // The message at cell 0 goes to its unit, which is lent its costs; the gap is closed, and what the unit sends is added at the end.
 fn hand_oldest(
+    order: ValueOrder,
     u: Unit,
     own: u8,
     n: u8,
@@ -89,10 +100,19 @@ fn hand_oldest(
     used: usize,
     out: &mut [u8],
 ) -> Outcome
-    requires { ⌜ Oldest u own n sizes (now costs) (now pool) used × (sendingSize ≤ length (now out)) ⌝ }
-    ensures { λ r. ⌜ ((t : Oldest u own n sizes (now (costs .entry)) (now (pool .entry)) used) → Handed t r (now (pool .exit))) ⌝ }
+    requires { ⌜ Oldest order u own n sizes (now costs) (now pool) used × (sendingSize ≤ length (now out)) ⌝ }
+    ensures { λ r. ⌜ ((t : Oldest order u own n sizes (now (costs .entry)) (now (pool .entry)) used) → Handed t r (now (pool .exit))) ⌝ }
 {
-    let r = unit::step_trusted(u, own, n, sizes, costs, &pool[0..base::MESSAGE_SIZE], out);
+    let r = unit::step_trusted_by(
+        order,
+        u,
+        own,
+        n,
+        sizes,
+        costs,
+        &pool[0..base::MESSAGE_SIZE],
+        out,
+    );
     take_oldest(pool, used, out, r.sent as usize);
     r
 }

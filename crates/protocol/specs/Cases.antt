@@ -3,22 +3,30 @@
 -- Assumes nothing.
 use Prim.Native.Nat.{ℕ, _+_, _*_, _-_}
 use mathlib.Core.Path.{_≡_, refl}
-use mathlib.Core.Bool.{Bool, true, false, cond, _&&_}
+use mathlib.Core.Bool.{Bool, true, false, cond, _&&_, _||_}
 use mathlib.Core.List.{List, [], _∷_, map}
 use lib.Dec.{eqb}
 use lib.ListN.{length, getD}
 use Rattle.base.specs.Limits.{poolCells, NONE}
+use Rattle.costs.specs.declared.ValueOrder.{ValueOrder}
+use Rattle.costs.specs.declared.ValueOrder.the-variants.{Ascending, CheapestFirst}
 use Rattle.costs.specs.declared.Cost.the-variants.{Of, Forbidden}
-use Rattle.costs.specs.Instance.{Instance}
-use Rattle.costs.specs.Laws.{problemOf}
+use Rattle.costs.specs.Instance.{Instance, viewBy}
+use Rattle.costs.specs.Bounds.{h}
+use Rattle.costs.specs.Order.{earlier, placeTried, valueAt}
+use Rattle.costs.specs.Laws.Tried.{valuesAt, problemBy}
 use Rattle.protocol.specs.Machine.{make, deliver, run}
 use Rattle.protocol.specs.Demand3.{written, most}
 
 -- what is seen of a run: whether unit 1 has stopped, its bound and best assignment (the last unit's value first), records, accepted deliveries
+abbrev seen : ValueOrder → Instance → List ℕ → Bool × ℕ × List ℕ × ℕ × ℕ
+seen order I cells =
+    let S = run (problemBy order I) poolCells (make (problemBy order I)) cells in
+    (S .units 0 .stopped, S .units 0 .bound, valuesAt order I (S .units 0 .best), length (written (S .units) (I .n)), S .accepted)
+
+-- values ascending
 abbrev after : Instance → List ℕ → Bool × ℕ × List ℕ × ℕ × ℕ
-after I cells =
-    let S = run (problemOf I) poolCells (make (problemOf I)) cells in
-    (S .units 0 .stopped, S .units 0 .bound, S .units 0 .best, length (written (S .units) (I .n)), S .accepted)
+after I cells = seen Ascending I cells
 
 -- 01: "Table T: n = 2, sizes 2 and 2, costs 5, 3, 2, 4"
 abbrev T : Instance
@@ -30,22 +38,27 @@ three = record { n = 3; dom = λ k. 2; unary = λ k v. 0; cost = λ i u j v. Of 
 
 -- 01's listing: cell 0 each time
 pub oldest-first : after T (0 ∷ 0 ∷ 0 ∷ 0 ∷ 0 ∷ 0 ∷ 0 ∷ 0 ∷ []) ≡ (true, 2, 1 ∷ 2 ∷ [], 5, 8)
+unfolding placeTried valueAt
 oldest-first = refl
 
 -- 01: "Newest-first on T: 5 records, 10 deliveries, the most allowed"
-pub newest-first : after T (1 ∷ 1 ∷ 0 ∷ 1 ∷ 0 ∷ 1 ∷ 1 ∷ 0 ∷ 1 ∷ 0 ∷ []) ≡ (true, 2, 1 ∷ 2 ∷ [], 5, most (problemOf T))
+pub newest-first : after T (1 ∷ 1 ∷ 0 ∷ 1 ∷ 0 ∷ 1 ∷ 1 ∷ 0 ∷ 1 ∷ 0 ∷ []) ≡ (true, 2, 1 ∷ 2 ∷ [], 5, most (problemBy Ascending T))
+unfolding placeTried valueAt
 newest-first = refl
 
 -- the solution 3 comes after the solution 2, and is not taken
 pub late-solution : after T (0 ∷ 1 ∷ 2 ∷ 4 ∷ 1 ∷ 1 ∷ 2 ∷ []) ≡ (true, 2, 1 ∷ 2 ∷ [], 5, 7)
+unfolding placeTried valueAt
 late-solution = refl
 
 -- no solution comes to unit 1: it has its bounds from the CPAs that go back
 pub no-solution : after T (0 ∷ 1 ∷ 2 ∷ 3 ∷ []) ≡ (true, 2, 1 ∷ 2 ∷ [], 5, 4)
+unfolding placeTried valueAt
 no-solution = refl
 
 -- unit 2 has backtracked when an estimate for its last CPA comes: it is stale, and not refused
 pub late-estimate : after three (0 ∷ 2 ∷ 2 ∷ 2 ∷ 4 ∷ 4 ∷ []) ≡ (true, 1, 1 ∷ 1 ∷ 1 ∷ [], 3, 6)
+unfolding placeTried valueAt
 late-estimate = refl
 
 -- ---- tables with forbidden pairs
@@ -55,6 +68,7 @@ abbrev barred : Instance
 barred = record { n = 2; dom = λ k. 2; unary = λ k v. 0; cost = λ i u j v. cond (eqb u 2 && eqb v 1) Forbidden (T .cost i u j v) }
 
 pub around-a-forbidden-pair : after barred (0 ∷ 0 ∷ 0 ∷ []) ≡ (true, 3, 2 ∷ 1 ∷ [], 3, 3)
+unfolding placeTried valueAt
 around-a-forbidden-pair = refl
 
 -- every pair is forbidden: no value of unit 1 has an h, so it stops when made, with none to report and no record
@@ -62,6 +76,7 @@ abbrev none : Instance
 none = record { n = 2; dom = λ k. 2; unary = λ k v. 0; cost = λ i u j v. Forbidden }
 
 pub stops-when-made : after none [] ≡ (true, NONE, [], 0, 0)
+unfolding placeTried valueAt
 stops-when-made = refl
 
 -- each value of unit 1 goes with some value of units 2 and 3, but none of these go together: unit 2's estimate is NONE, at which unit 1 gives up its
@@ -70,6 +85,7 @@ abbrev apart : Instance
 apart = record { n = 3; dom = λ k. 2; unary = λ k v. 0; cost = λ i u j v. cond (eqb i 1) Forbidden (Of 1) }
 
 pub none-left : after apart (1 ∷ 2 ∷ 3 ∷ 4 ∷ []) ≡ (true, NONE, [], 2, 4)
+unfolding placeTried valueAt
 none-left = refl
 
 -- ---- a table with unary costs
@@ -79,7 +95,23 @@ abbrev priced : Instance
 priced = record { n = 2; dom = λ k. 2; unary = λ k v. cond (eqb k 0 && eqb v 2) 2 0; cost = T .cost }
 
 pub unary-cost-counts : after priced (0 ∷ 0 ∷ 0 ∷ []) ≡ (true, 3, 2 ∷ 1 ∷ [], 3, 3)
+unfolding placeTried valueAt
 unary-cost-counts = refl
+
+-- ---- cheapest first. 02, job 9: "by rising h, the lower number first on a tie, values without an h last"
+
+-- T: unit 1 tries its value 2, of h 2, before its value 1, of h 3, so it writes the least assignment first
+pub cheapest-on-T : seen CheapestFirst T (0 ∷ 0 ∷ 0 ∷ []) ≡ (true, 2, 1 ∷ 2 ∷ [], 2, 3)
+unfolding h earlier placeTried valueAt
+cheapest-on-T = refl
+
+-- a unit of five values whose h are 3, forbidden, 2, 3 and forbidden: it tries 3, 1, 4, 2, 5
+abbrev five : Instance
+five = record { n = 2; dom = λ k. cond (eqb k 0) 5 1; unary = λ k v. 0; cost = λ i u j v. cond (eqb u 2 || eqb u 5) Forbidden (Of (cond (eqb u 3) 2 3)) }
+
+pub order-of-five : map (valueAt (viewBy CheapestFirst five 0)) (0 ∷ 1 ∷ 2 ∷ 3 ∷ 4 ∷ 5 ∷ 6 ∷ []) ≡ 0 ∷ 3 ∷ 1 ∷ 4 ∷ 2 ∷ 5 ∷ 0 ∷ []
+unfolding h earlier placeTried valueAt
+order-of-five = refl
 
 -- ---- a pool with too few cells
 
@@ -97,13 +129,15 @@ four =
 -- 24 deliveries to its network in so many cells: whether unit 1 has stopped, how many were accepted, and how many are with one of the five that then wait
 abbrev crowded : ℕ → Bool × ℕ × List ℕ
 crowded room =
-    let P = problemOf four in
+    let P = problemBy Ascending four in
     let S = run P room (make P) (0 ∷ 0 ∷ 0 ∷ 4 ∷ 1 ∷ 5 ∷ 0 ∷ 1 ∷ 3 ∷ 2 ∷ 3 ∷ 3 ∷ 3 ∷ 1 ∷ 3 ∷ 3 ∷ 0 ∷ 0 ∷ 0 ∷ 0 ∷ 0 ∷ 1 ∷ 1 ∷ 1 ∷ []) in
     (S .units 0 .stopped, S .accepted, map (λ c. deliver P room S c .accepted) (0 ∷ 1 ∷ 2 ∷ 3 ∷ 4 ∷ []))
 
 -- In six cells it sticks: two estimates for unit 1, two for unit 2 and its CPA coming back wait, and each delivery is refused by 14. With one cell more none is.
 pub stuck : crowded 6 ≡ (false, 24, 24 ∷ 24 ∷ 24 ∷ 24 ∷ 24 ∷ [])
+unfolding placeTried valueAt
 stuck = refl
 
 pub not-stuck : crowded 7 ≡ (false, 24, 25 ∷ 25 ∷ 25 ∷ 25 ∷ 25 ∷ [])
+unfolding placeTried valueAt
 not-stuck = refl

@@ -11,9 +11,10 @@ use mathlib.Core.List.{List, []}
 use native.Mathlib.Omega.{arith}
 use Rattle.base.specs.Sums.{sumTo}
 pub use Rattle.base.specs.Limits.{NONE}
+use Rattle.costs.specs.declared.ValueOrder.{ValueOrder}
 use Rattle.costs.specs.Instance.{Instance}
 use Rattle.costs.specs.Bounds as Bounds
-use Rattle.costs.specs.Laws.{problemOf}
+use Rattle.costs.specs.Laws.Tried.{problemBy}
 pub use Rattle.costs.specs.Bounds.{prefixCount}
 pub use Rattle.costs.specs.Problem.{Problem, InDomains, Full, Closed, Laws, closed-mono, closed-by-values, closed-full, closed-least}
 
@@ -30,6 +31,6 @@ module _ (P : Problem) where
   abbrev pub N : ℕ
   N = sumTo (λ k. prefixCount (P .size) (suc k)) (P .n - 1)
 
--- of a table's problem it is the table's N
-pub N-of-instance : (I : Instance) → N (problemOf I) ≡ Bounds.N I
-N-of-instance I = refl
+-- of a table's problem it is the table's N, in either order
+pub N-of-instance : (order : ValueOrder) (I : Instance) → N (problemBy order I) ≡ Bounds.N I
+N-of-instance order I = refl

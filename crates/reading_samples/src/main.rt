@@ -3,6 +3,7 @@ use base::FILE_ROOM;
 use base::FILE_SIZE;
 use base::Length;
 use base::STREAM_SIZE;
+use costs::ValueOrder;
 use libc::STDOUT_FILENO;
 
 fn main() {
@@ -134,7 +135,7 @@ fn show(n: u8, sizes: [u8; 16], readings: &[u8], sample: bool) {
         compare(front(&file, written.length));
     }
     report::print_search(front(&file, written.length));
-    report::print_settled(front(&file, written.length));
+    report::print_settled_by(ValueOrder::Ascending, front(&file, written.length));
 }
 
 // The refusal, how long the stream is, and the sum of the buffer, which a refusal leaves zero.

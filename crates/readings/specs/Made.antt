@@ -8,7 +8,8 @@ use borrow.Author.Tests.{le-ltb}
 use Rattle.base.specs.Limits.{poolSize}
 use Rattle.base.specs.Shape.{shapeGood}
 use Rattle.table.specs.Stream.{unitsOf, Accepted}
-use Rattle.costs.specs.Instance.{viewOf, instanceOf}
+use Rattle.costs.specs.declared.ValueOrder.{ValueOrder}
+use Rattle.costs.specs.Instance.{viewBy, instanceOf}
 use Rattle.costs.specs.Streamed.{streamFor}
 use Rattle.rules.specs.State.{fresh}
 use Rattle.rules.specs.Step.{Decision, refused, accepted, assign}
@@ -25,13 +26,13 @@ no-refusal : (s pool : List ℕ) → Accepted s → poolSize ≤ length pool →
 unfolding makingRefusal Accepted
 no-refusal s pool ok room = rw (ok, le-ltb (length pool) poolSize room)
 
-accepted-made : (s pool : List ℕ) → Accepted s → poolSize ≤ length pool → Made s pool
+accepted-made : (order : ValueOrder) (s pool : List ℕ) → Accepted s → poolSize ≤ length pool → Made order s pool
 unfolding makeOf
-accepted-made s pool ok room = subst (λ r. C.made (unitsOf s) pool (unlessRefused r (assign (viewOf (instanceOf s) 0) fresh)) .answer .refusal ≡ 0) (sym (no-refusal s pool ok room)) (go (assign (viewOf (instanceOf s) 0) fresh) (assign-accepts (viewOf (instanceOf s) 0) fresh))
+accepted-made order s pool ok room = subst (λ r. C.made (unitsOf s) pool (unlessRefused r (assign (viewBy order (instanceOf s) 0) fresh)) .answer .refusal ≡ 0) (sym (no-refusal s pool ok room)) (go (assign (viewBy order (instanceOf s) 0) fresh) (assign-accepts (viewBy order (instanceOf s) 0) fresh))
   where
     go : (o : Decision) → Accepts o → C.made (unitsOf s) pool o .answer .refusal ≡ 0
     go (refused r) a = absurd a
     go (accepted u o ws) a = refl
 
-pub lines-made : (n : ℕ) (sizes readings pool : List ℕ) → shapeGood n sizes ≡ true → n ≤ length sizes → poolSize ≤ length pool → Made (streamFor (linesOf n sizes readings)) pool
-lines-made n sizes readings pool good long room = accepted-made (streamFor (linesOf n sizes readings)) pool (lines-accepted n sizes readings good long) room
+pub lines-made : (order : ValueOrder) (n : ℕ) (sizes readings pool : List ℕ) → shapeGood n sizes ≡ true → n ≤ length sizes → poolSize ≤ length pool → Made order (streamFor (linesOf n sizes readings)) pool
+lines-made order n sizes readings pool good long room = accepted-made order (streamFor (linesOf n sizes readings)) pool (lines-accepted n sizes readings good long) room

@@ -1,10 +1,11 @@
--- Bench and shed report the same total of a table that both take: each reports the least over the permitted assignments, or NONE. By what a report
+-- Bench and shed, in either order, report the same total of a table that both take: each reports the least over the permitted assignments, or NONE. By what a report
 -- is (costs/specs/Bounds), of the search's answer and of any run that has ended.
 -- Assumes nothing.
 use mathlib.Core.Path.{_≡_}
 use mathlib.Core.Bool.{true}
 use mathlib.Core.List.{List}
 use Prim.Native.Nat.{ℕ}
+use Rattle.costs.specs.declared.ValueOrder.{ValueOrder}
 use Rattle.costs.specs.Instance.{instanceOf}
 use Rattle.costs.specs.Laws.Prefix.{reported-same}
 use Rattle.search.specs.Search.{searchRefusal, searchOf}
@@ -12,5 +13,6 @@ use Rattle.search.specs.Laws.{search-least-first}
 use Rattle.runs.specs.Demand3.{Made, over, reportOf, runBytes}
 use Rattle.runs.specs.Theorem.{served}
 
-pub bench-and-shed : (s pool : List ℕ) → searchRefusal s ≡ 0 → Made s pool → (cells : List ℕ) → over (runBytes s pool cells) ≡ true → searchOf s .total ≡ reportOf (runBytes s pool cells) .total
-bench-and-shed s pool searched made cells ended = reported-same (instanceOf s) _ _ _ _ (search-least-first s searched .reported) (served s pool made cells .reported ended)
+pub bench-and-shed : (order : ValueOrder) (s pool : List ℕ) → searchRefusal s ≡ 0 → Made order s pool → (cells : List ℕ) → over (runBytes order s pool cells) ≡ true
+    → searchOf s .total ≡ reportOf (runBytes order s pool cells) .total
+bench-and-shed order s pool searched made cells ended = reported-same (instanceOf s) _ _ _ _ (search-least-first s searched .reported) (served order s pool made cells .reported ended)

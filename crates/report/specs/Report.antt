@@ -3,6 +3,7 @@
 use Rattle.base.specs.Library.{ℕ, List, replicate}
 use Rattle.base.specs.{Limits.poolSize, Limits.streamSize, Refusal.orElse}
 use Rattle.table.specs.File.{streamOf, readRefusal}
+use Rattle.costs.specs.declared.ValueOrder.{ValueOrder}
 use Rattle.runs.specs.Settle.{settleOf}
 pub mod Laws
 
@@ -11,5 +12,5 @@ unfoldable pub fileRefusal : (List ℕ → ℕ) → List ℕ → ℕ
 fileRefusal done f = orElse (readRefusal f streamSize) (done (streamOf f))
 
 -- the number of a run to its end, in a pool of zeros
-unfoldable pub settleRefusal : List ℕ → ℕ
-settleRefusal s = settleOf s (replicate poolSize 0) .answer .refusal
+unfoldable pub settleRefusal : ValueOrder → List ℕ → ℕ
+settleRefusal order s = settleOf order s (replicate poolSize 0) .answer .refusal

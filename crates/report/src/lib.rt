@@ -2,6 +2,7 @@
 use libc::STDOUT_FILENO;
 use network::Count;
 use network::Network;
+use network::ValueOrder;
 ghost use mathlib.Core.Path.{_≡_};
 ghost use Rattle.search.specs.Search.{searchRefusal};
 ghost use Rattle.runs.specs.Run.{unitAt};
@@ -13,20 +14,20 @@ ghost use Rattle.report.specs.Report.Laws.{refusalBy};
 pub fn print_search(file: &[u8]) -> u8
     ensures { λ r. ⌜ r ≡ fileRefusal searchRefusal (now (file .entry)) ⌝ }
 {
-    print_file(file, false)
+    print_file(file, false, ValueOrder::Ascending)
 }
 
-// Runs the network of a file's table, cell 0 delivered each time, and prints what unit 1 reports, then records and accepted
-// deliveries, or `refused` and the number, which it gives too.
-pub fn print_settled(file: &[u8]) -> u8
-    ensures { λ r. ⌜ r ≡ fileRefusal settleRefusal (now (file .entry)) ⌝ }
+// Runs the network of a file's table, values tried in this order and cell 0 delivered each time, and prints what unit 1 reports, then
+// records and accepted deliveries, or `refused` and the number, which it gives too.
+pub fn print_settled_by(order: ValueOrder, file: &[u8]) -> u8
+    ensures { λ r. ⌜ r ≡ fileRefusal (settleRefusal order) (now (file .entry)) ⌝ }
 {
-    print_file(file, true)
+    print_file(file, true, order)
 }
 
-// One or the other.
-fn print_file(file: &[u8], settled: bool) -> u8
-    ensures { λ r. ⌜ r ≡ fileRefusal (refusalBy settled) (now (file .entry)) ⌝ }
+// One or the other; the search has no order of values but its own.
+fn print_file(file: &[u8], settled: bool, order: ValueOrder) -> u8
+    ensures { λ r. ⌜ r ≡ fileRefusal (refusalBy settled order) (now (file .entry)) ⌝ }
 {
     let mut stream = [0u8; base::STREAM_SIZE];
     let r = table::read(file, &mut stream);
@@ -36,15 +37,15 @@ fn print_file(file: &[u8], settled: bool) -> u8
         return refusal;
     }
     let length = r.length;
-    print_stream(&stream[0..length], settled)
+    print_stream(&stream[0..length], settled, order)
 }
 
 // The same of a stream.
-fn print_stream(stream: &[u8], settled: bool) -> u8
-    ensures { λ r. ⌜ r ≡ refusalBy settled (now (stream .entry)) ⌝ }
+fn print_stream(stream: &[u8], settled: bool, order: ValueOrder) -> u8
+    ensures { λ r. ⌜ r ≡ refusalBy settled order (now (stream .entry)) ⌝ }
 {
     if settled {
-        return print_run(stream);
+        return print_run(order, stream);
     }
     print_found(stream)
 }
@@ -66,11 +67,11 @@ fn print_found(stream: &[u8]) -> u8
 }
 
 // What the run comes to.
-fn print_run(stream: &[u8]) -> u8
-    ensures { λ r. ⌜ r ≡ settleRefusal (now (stream .entry)) ⌝ }
+fn print_run(order: ValueOrder, stream: &[u8]) -> u8
+    ensures { λ r. ⌜ r ≡ settleRefusal order (now (stream .entry)) ⌝ }
 {
     let mut pool = [0u8; base::POOL_SIZE];
-    let answer = network::settle(stream, &mut pool);
+    let answer = network::settle_by(order, stream, &mut pool);
     let refusal = answer.refusal;
     if refusal != 0 {
         refuse(refusal);

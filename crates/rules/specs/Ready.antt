@@ -1,9 +1,15 @@
 -- What the deciding functions ask of their arguments: ranges only, so that no sum wraps and no index leaves its array; and what they give.
 -- Places count from 0: unit `own` is at place own - 1. Assumes nothing.
-use Prim.Native.Nat.{ℕ, _-_, _≤_, _<_}
+use Prim.Native.Nat.{ℕ, suc, _-_, _≤_, _<_}
 use mathlib.Core.Path.{_≡_}
+use mathlib.Core.List.{List}
 use lib.ListN.{length, getD}
 use Rattle.costs.specs.declared.Seat.{Seat}
+use Rattle.costs.specs.declared.ValueOrder.the-variants.{CheapestFirst}
+use Rattle.costs.specs.Cost.{asNumber}
+use Rattle.costs.specs.Cost.Laws.{AtMost}
+use Rattle.costs.specs.Instance.{View}
+use Rattle.costs.specs.Bounds.{h}
 use Rattle.message.specs.declared.Message.{Message}
 use Rattle.rules.specs.declared.Unit.{Unit}
 use Rattle.rules.specs.declared.Decided.{Decided}
@@ -22,16 +28,21 @@ pub record Shaped (seat : Seat) : Type 0 where
   pub units : seat .n ≤ 16
   pub size : getD (seat .sizes) (seat .own - 1) 0 ≤ 16
 
--- a state whose threshold and counter may go up by 1: the counter is used only with a cpa out
-pub record Ready (own : ℕ) (u : Unit) : Type 0 where
-  pub threshold : getD (u .threshold) (own - 1) 0 ≤ 17
-  pub counter : 0 < getD (u .values) (own - 1) 0 → u .counter ≤ getD (u .values) (own - 1) 0
+-- a state whose own value is one of the unit's or none, and whose threshold and counter may go up: the counter is used only with a cpa out
+pub record Ready (seat : Seat) (u : Unit) : Type 0 where
+  pub threshold : getD (u .threshold) (seat .own - 1) 0 ≤ 17
+  pub value : getD (u .values) (seat .own - 1) 0 ≤ getD (seat .sizes) (seat .own - 1) 0
+  pub counter : 0 < getD (u .values) (seat .own - 1) 0 → u .counter ≤ 16
 
 -- a message to unit `own`: from a unit; one from a lower unit has no value of this one
 pub record Heard (own : ℕ) (m : Message) : Type 0 where
   pub sender : Own (m .sender)
   pub stamp : getD (m .stamp) (own - 1) 0 ≤ 17
   pub bare : m .sender < own → getD (m .values) (own - 1) 0 ≡ 0
+
+-- h of each value as a number, value v's at place v - 1; looked at only where values are tried by rising h
+abbrev pub Keys : View → List ℕ → Type 0
+Keys w keys = w .order ≡ CheapestFirst → (k : ℕ) → k < w .dom (w .place) → (getD keys k 0 ≡ asNumber (h w (suc k))) × AtMost 16711425 (h w (suc k))
 
 -- a decision as the code has it; a refusal keeps the state as it was
 abbrev pub decidedOf : Unit → Decision → Decided

@@ -1,12 +1,12 @@
 -- A unit's state, its parts set one at a time, the order of stamps, and which lent states are in range.
 --     fresh, the setters `with..`          a new unit; one idea changed, the rest kept
---     ownValue, ownCost, next .. placeTried     the own value, its costs, and the order in which values are tried
+--     ownValue, ownCost                    the own value and its costs
 --     orderOf, compareOn, sameOn           01: "Stamps compare from unit 1 on"
 --     cpaOutInRange .. inRange             01: "A lent state is in range when .."
 -- Places count from 0: place k of an array is unit k + 1's; numbers of units (`own`) count from 1. Assumes nothing.
 use Rattle.base.specs.Library.{ℕ, zero, suc, pred, _-_, Bool, true, false, cond, _&&_, List, [], ltb, leb, eqb, getD, replicate}
 use Rattle.base.specs.{Limits.NONE, Limits.estimateLimit, Limits.prefixLimit, Every.every}
-use Rattle.costs.specs.{Cost.asNumber, Instance.View, Bounds.costWith}
+use Rattle.costs.specs.{Cost.asNumber, Instance.View, Bounds.costWith, Order.placeTried}
 use Rattle.message.specs.Message.{isUnit, filledTo, noneOrBound}
 use Rattle.rules.specs.{declared.Unit.Unit, declared.Ordering.Ordering, declared.Ordering.the-variants.Less, declared.Ordering.the-variants.Equal, declared.Ordering.the-variants.Greater}
 
@@ -50,7 +50,7 @@ withCounter k u = unit (u .threshold) (u .bound) (u .best) (u .estimates) (u .st
 abbrev pub withStopped : Bool → Unit → Unit
 withStopped z u = unit (u .threshold) (u .bound) (u .best) (u .estimates) (u .stamp) (u .values) (u .cost) (u .counter) z
 
--- ---- the own value, and the order in which values are tried: ascending
+-- ---- the own value
 
 abbrev pub ownValue : View → Unit → ℕ
 ownValue w u = getD (u .values) (w .place) 0
@@ -59,17 +59,6 @@ ownValue w u = getD (u .values) (w .place) 0
 -- a filled one is out of range": what is forbidden counts as NONE, which no paper costs
 abbrev pub ownCost : View → Unit → ℕ
 ownCost w u = asNumber (costWith w (u .values) (w .place) (ownValue w u))
-
--- 01: "the values after the current one, ascending": the next one, and how many there are
-abbrev pub next : ℕ → ℕ
-next v = suc v
-
-abbrev pub left : View → ℕ → ℕ
-left w v = w .dom (w .place) - v
-
--- 01: "the own value's place in the order tried"
-abbrev pub placeTried : ℕ → ℕ
-placeTried v = v
 
 -- ---- 01: "Stamps compare from unit 1 on"
 
@@ -110,25 +99,25 @@ cpaZero sizes u = filledTo 0 sizes (u .stamp) && filledTo 0 sizes (u .values) &&
 -- 01: "with a paper out, counter and own stamp are equal and at most the own value's place in the order tried, the threshold
 -- compared on units 1 to i isn't smaller than the paper's stamp, and the paper's cost less the own value's costs is 0 or more
 -- and within the limit for one unit fewer"; and the paper keeps the message limits of i filled units;
--- of unit i, whose own value's costs are `paid`
-unfoldable pub cpaOutInRange : List ℕ → ℕ → ℕ → Unit → Bool
-cpaOutInRange sizes i paid u =
+-- of unit i, whose own value's costs are `paid`, and its place `place`
+unfoldable pub cpaOutInRange : List ℕ → ℕ → ℕ → ℕ → Unit → Bool
+cpaOutInRange sizes i paid place u =
     filledTo i sizes (u .stamp) && filledTo i sizes (u .values) && leb (u .cost) (prefixLimit i)
-    && eqb (u .counter) (getD (u .stamp) (pred i) 0) && leb (u .counter) (placeTried (getD (u .values) (pred i) 0))
+    && eqb (u .counter) (getD (u .stamp) (pred i) 0) && leb (u .counter) place
     && notLess (compareOn i (u .threshold) (u .stamp))
     && leb paid (u .cost) && leb (u .cost - paid) (prefixLimit (pred i))
 
 -- 01: "A lent state is in range when threshold bytes are at most 17, estimates at most 7,200,000, and bound and paper keep the
 -- message limits; .."
-unfoldable pub paidInRange : ℕ → List ℕ → ℕ → ℕ → Unit → Bool
-paidInRange n sizes i paid u =
+unfoldable pub paidInRange : ℕ → List ℕ → ℕ → ℕ → ℕ → Unit → Bool
+paidInRange n sizes i paid place u =
     allAtMost 17 (u .threshold) && allAtMost estimateLimit (u .estimates) && noneOrBound n sizes (u .bound) (u .best)
-    && cond (eqb (getD (u .values) (pred i) 0) 0) (cpaZero sizes u) (cpaOutInRange sizes i paid u)
+    && cond (eqb (getD (u .values) (pred i) 0) 0) (cpaZero sizes u) (cpaOutInRange sizes i paid place u)
 
 -- the same of any number: one that is not 1 to 16 is no unit's, and no state is in range for it
-unfoldable pub inRangePaid : ℕ → List ℕ → ℕ → ℕ → Unit → Bool
-inRangePaid n sizes own paid u = isUnit 16 own && paidInRange n sizes own paid u
+unfoldable pub inRangePaid : ℕ → List ℕ → ℕ → ℕ → ℕ → Unit → Bool
+inRangePaid n sizes own paid place u = isUnit 16 own && paidInRange n sizes own paid place u
 
--- the same with a unit's view, which says what its own value costs
+-- the same with a unit's view, which says what its own value costs, and when it is tried
 unfoldable pub inRange : List ℕ → View → Unit → Bool
-inRange sizes w u = paidInRange (w .n) sizes (suc (w .place)) (ownCost w u) u
+inRange sizes w u = paidInRange (w .n) sizes (suc (w .place)) (ownCost w u) (placeTried w (ownValue w u)) u

@@ -8,13 +8,13 @@
 -- Places count from 0: the unit at place k is 01's unit i = k + 1. Assumes nothing.
 use Rattle.base.specs.Library.{ℕ, zero, suc, _+_, _-_, Bool, true, false, cond, _&&_, _||_, List, [], _∷_, ltb, leb, eqb, getD, set, take}
 use Rattle.base.specs.Sums.{sumFrom}
-use Rattle.costs.specs.{declared.Cost.the-variants.Of, Cost._⊕_, Cost.below, Cost.asNumber, Instance.View, Bounds.costWith, Bounds.h, Bounds.estimate}
+use Rattle.costs.specs.{declared.Cost.the-variants.Of, Cost._⊕_, Cost.below, Cost.asNumber, Instance.View, Bounds.costWith, Bounds.h, Bounds.estimate, Order.next, Order.left}
 use Rattle.message.specs.{declared.Message.Message, declared.Kind.Kind, Message.noMessage}
 use Rattle.message.specs.declared.Kind.the-variants.{Cpa, Request, Estimate, Solution, Stop}
 use Rattle.rules.specs.{declared.Unit.Unit, declared.Ordering.Ordering, declared.Sending.Sending}
 use Rattle.rules.specs.declared.Ordering.the-variants.{Less, Equal, Greater}
 use Rattle.rules.specs.declared.Plan.the-variants.{Nothing, Forward, Back, Reply}
-use Rattle.rules.specs.State.{zeros, withThreshold, withBest, withEstimates, withCpa, withCounter, withStopped, ownValue, ownCost, next, left, compareOn, sameOn, notLess}
+use Rattle.rules.specs.State.{zeros, withThreshold, withBest, withEstimates, withCpa, withCounter, withStopped, ownValue, ownCost, compareOn, sameOn, notLess}
 
 -- 01: "At each record unit i writes a beginning: the values of units 1 to i"; beside it the stamp on these units
 pub record Written : Type 0 where
@@ -83,13 +83,13 @@ abbrev pub afterWrite : View → Bool → Unit → (Bool → Unit → Decision) 
 afterWrite w true u again = recorded (recordOf w u) (again true (takeOff w (withBest (u .cost) (u .values) u)))
 afterWrite w false u again = accepted u (record { plan = Forward; improved = false; message = carried w u }) (recordOf w u ∷ [])
 
--- 01: "Try the values after the current one, ascending. The first with cost + h(v) below the bound is written": m values after v are left,
+-- 01: "Try the values after the current one" in the order of the view (02, job 9). "The first with cost + h(v) below the bound is written": m values after v are left,
 -- the own value is off. "No value: back up." 02, job 3: what is forbidden is below no bound, so a value barred with a filled one, or with no h,
 -- "can't be written, even with no bound".
 unfoldable pub tryAfter : View → ℕ → ℕ → Bool → Unit → Decision
 tryAfter w zero v improved u = backtrack w improved u
 tryAfter w (suc m) v improved u =
-    let x = next v in
+    let x = next w v in
     let c = Of (u .cost) ⊕ costWith w (u .values) (w .place) x in
     cond (below (c ⊕ h w x) (u .bound)) (afterWrite w (eqb (suc (w .place)) (w .n)) (write w x (asNumber c) u) (λ (b : Bool) (t : Unit). tryAfter w m x b t)) (tryAfter w m x improved u)
 

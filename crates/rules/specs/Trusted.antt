@@ -2,16 +2,17 @@
 -- a step accepts it is the step, `trusted-steps` of Laws/Trusted, and a run hands it nothing else (network/specs/Trusted). Assumes nothing.
 use Rattle.base.specs.Library.{ℕ, pred, _-_, Bool, cond, _&&_, _||_, List, ltb, leb, eqb, getD}
 use Rattle.base.specs.Limits.{sendingSize}
-use Rattle.costs.specs.{declared.Seat.Seat, Instance.viewFrom}
+use Rattle.costs.specs.{declared.Seat.Seat, declared.ValueOrder.ValueOrder, Instance.viewFrom}
 use Rattle.message.specs.{declared.Message.Message, declared.Kind.Kind, declared.Read.Read, declared.Read.the-variants.Good, declared.Read.the-variants.Refused, Message.isUnit, Unpack.unpackOf}
 use Rattle.rules.specs.{declared.Unit.Unit, State.fresh, State.inRange, Calls.start}
 use Rattle.rules.specs.Step.{Decision, refused, respond}
 
--- Asked is only what a step can't do without. Of unit and state: one of at most 16 units with at most 16 values, whose threshold and counter may go up by 1.
+-- Asked is only what a step can't do without. Of unit and state: one of at most 16 units with at most 16 values, whose own value is one of these or none,
+-- and whose threshold and counter may go up.
 abbrev pub canStep : ℕ → ℕ → List ℕ → Unit → Bool
 canStep own n sizes u =
     isUnit n own && leb n 16 && leb (getD sizes (own - 1) 0) 16 && leb (getD (u .threshold) (own - 1) 0) 17
-    && (eqb (getD (u .values) (own - 1) 0) 0 || leb (u .counter) (getD (u .values) (own - 1) 0))
+    && leb (getD (u .values) (own - 1) 0) (getD sizes (own - 1) 0) && (eqb (getD (u .values) (own - 1) 0) 0 || leb (u .counter) 16)
 
 -- Of a message: from a unit, and with no value of this one if from a lower one.
 abbrev pub canHear : ℕ → Message → Bool
@@ -34,6 +35,6 @@ onKnown seat costs u (Good k) m = respondTo seat costs k u m
 onKnown seat costs u (Refused r) m = refused r
 
 -- 13; then 8 and 9 of the packet; then 5 and 9, and what a step gives
-unfoldable pub trustedOut : Unit → ℕ → ℕ → List ℕ → List ℕ → List ℕ → ℕ → Decision
-trustedOut u own n sizes costs bytes room =
-    let p = unpackOf bytes in cond (ltb room sendingSize) (refused 13) (onKnown (record { own = own; n = n; sizes = sizes }) costs u (p .answer) (p .message))
+unfoldable pub trustedOut : ValueOrder → Unit → ℕ → ℕ → List ℕ → List ℕ → List ℕ → ℕ → Decision
+trustedOut order u own n sizes costs bytes room =
+    let p = unpackOf bytes in cond (ltb room sendingSize) (refused 13) (onKnown (record { own = own; n = n; sizes = sizes; order = order }) costs u (p .answer) (p .message))

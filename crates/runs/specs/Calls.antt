@@ -3,7 +3,8 @@
 use Rattle.base.specs.Library.{ℕ, zero, suc, _+_, _-_, pred, Bool, cond, _&&_, List, ltb, leb, length, getD, set, replicate}
 use Rattle.base.specs.{Limits.poolSize, Limits.poolCells, Refusal.orElse, Every.every}
 use Rattle.table.specs.Stream.{unitsOf, streamRefusal}
-use Rattle.costs.specs.{Instance.viewOf, Instance.instanceOf, Gather.sizesIn}
+use Rattle.costs.specs.declared.ValueOrder.{ValueOrder}
+use Rattle.costs.specs.{Instance.viewBy, Instance.instanceOf, Gather.sizesIn}
 use Rattle.message.specs.{Message.isUnit, Decode.parseFor}
 use Rattle.rules.specs.{declared.Unit.Unit, State.noUnit, State.fresh, State.inRange, Send.packets, Send.laid, Calls.unlessRefused, Calls.onRead, Units.unitAt}
 use Rattle.rules.specs.Step.{Decision, refused, accepted, assign}
@@ -37,34 +38,34 @@ unfoldable pub makingRefusal : List ℕ → List ℕ → ℕ
 makingRefusal stream pool = orElse (streamRefusal stream) (cond (ltb (length pool) poolSize) 13 0)
 
 -- 01: "Making unit 1 assigns", "making the shed counts unit 1's records"
-unfoldable pub makeOf : List ℕ → List ℕ → Result
-makeOf stream pool = made (unitsOf stream) pool (unlessRefused (makingRefusal stream pool) (assign (viewOf (instanceOf stream) 0) fresh))
+unfoldable pub makeOf : ValueOrder → List ℕ → List ℕ → Result
+makeOf order stream pool = made (unitsOf stream) pool (unlessRefused (makingRefusal stream pool) (assign (viewBy order (instanceOf stream) 0) fresh))
 
 -- ---- a delivery
 
 -- 01, 5: "any unit's state, pool count"; units 1 to n only
-unfoldable pub networkInRange : List ℕ → Network → Bool
-networkInRange stream net =
-    every (λ (k : ℕ). inRange (sizesIn stream) (viewOf (instanceOf stream) k) (unitAt (net .core .units) k)) (unitsOf stream) && leb (net .used) poolCells
+unfoldable pub networkInRange : ValueOrder → List ℕ → Network → Bool
+networkInRange order stream net =
+    every (λ (k : ℕ). inRange (sizesIn stream) (viewBy order (instanceOf stream) k) (unitAt (net .core .units) k)) (unitsOf stream) && leb (net .used) poolCells
 
 -- the first of 13, 5, 6, 7, 5, 12 that applies, or 0: what is asked whatever message is to be delivered
-unfoldable pub networkRefusal : Network → List ℕ → List ℕ → ℕ
-networkRefusal net stream pool =
-    orElse (cond (ltb (length pool) poolSize) 13 0) (orElse (streamRefusal stream) (orElse (cond (networkInRange stream net) 0 5) (cond (unitAt (net .core .units) 0 .stopped) 12 0)))
+unfoldable pub networkRefusal : ValueOrder → Network → List ℕ → List ℕ → ℕ
+networkRefusal order net stream pool =
+    orElse (cond (ltb (length pool) poolSize) 13 0) (orElse (streamRefusal stream) (orElse (cond (networkInRange order stream net) 0 5) (cond (unitAt (net .core .units) 0 .stopped) 12 0)))
 
 -- then 15
-unfoldable pub deliverRefusal : Network → List ℕ → List ℕ → ℕ → ℕ
-deliverRefusal net stream pool cell = orElse (networkRefusal net stream pool) (cond (leb (net .used) cell) 15 0)
+unfoldable pub deliverRefusal : ValueOrder → Network → List ℕ → List ℕ → ℕ → ℕ
+deliverRefusal order net stream pool cell = orElse (networkRefusal order net stream pool) (cond (leb (net .used) cell) 15 0)
 
 -- the unit that a packet names as its receiver; one that is no unit is refused by any unit's reading, as by unit 1's
 abbrev pub receiverOf : ℕ → List ℕ → ℕ
 receiverOf n bytes = cond (isUnit n (getD bytes 2 0)) (getD bytes 2 0) 1
 
 -- 01: "the step's from 8 on"
-unfoldable pub stepFrom8 : List ℕ → List Unit → ℕ → List ℕ → Decision
-stepFrom8 stream units own bytes =
+unfoldable pub stepFrom8 : ValueOrder → List ℕ → List Unit → ℕ → List ℕ → Decision
+stepFrom8 order stream units own bytes =
     let p = parseFor (unitsOf stream) (sizesIn stream) own bytes in
-    onRead (viewOf (instanceOf stream) (pred own)) (unitAt units (pred own)) (p .answer) (p .message)
+    onRead (viewBy order (instanceOf stream) (pred own)) (unitAt units (pred own)) (p .answer) (p .message)
 
 abbrev pub refusedDelivery : Network → List ℕ → ℕ → Result
 refusedDelivery net pool r = record { answer = record { refusal = r; network = net }; pool = pool }
@@ -82,11 +83,11 @@ onOut net pool cell n own (accepted u s ws) =
     (record { answer = record { refusal = 0; network = stepped net own u (length ps) (length ws) }; pool = poolAfter (net .used) cell ps pool })
     (refusedDelivery net pool 14)
 
-abbrev pub deliverBy : ℕ → Network → List ℕ → List ℕ → ℕ → Result
-deliverBy zero net stream pool cell =
+abbrev pub deliverBy : ValueOrder → ℕ → Network → List ℕ → List ℕ → ℕ → Result
+deliverBy order zero net stream pool cell =
     let own = receiverOf (unitsOf stream) (cellOf pool cell) in
-    onOut net pool cell (unitsOf stream) own (stepFrom8 stream (net .core .units) own (cellOf pool cell))
-deliverBy (suc r) net stream pool cell = refusedDelivery net pool (suc r)
+    onOut net pool cell (unitsOf stream) own (stepFrom8 order stream (net .core .units) own (cellOf pool cell))
+deliverBy order (suc r) net stream pool cell = refusedDelivery net pool (suc r)
 
-unfoldable pub deliverOf : Network → List ℕ → List ℕ → ℕ → Result
-deliverOf net stream pool cell = deliverBy (deliverRefusal net stream pool cell) net stream pool cell
+unfoldable pub deliverOf : ValueOrder → Network → List ℕ → List ℕ → ℕ → Result
+deliverOf order net stream pool cell = deliverBy order (deliverRefusal order net stream pool cell) net stream pool cell

@@ -20,9 +20,11 @@ use Rattle.base.specs.Refusal.Laws.{or-left, or-right, or-first}
 use Rattle.base.specs.Limits.{poolCells, poolSize, sendingSize, messageSize, costsSize}
 use Rattle.table.specs.Stream.{unitsOf, streamRefusal, Accepted}
 use Rattle.table.specs.StreamLaws.{accepted-units}
-use Rattle.costs.specs.Instance.{viewOf, instanceOf}
+use Rattle.costs.specs.declared.ValueOrder.{ValueOrder}
+use Rattle.costs.specs.Instance.{viewOf, viewBy, instanceOf}
 use Rattle.costs.specs.Cost.{asNumber}
 use Rattle.costs.specs.Bounds.{costWith}
+use Rattle.costs.specs.Order.{placeTried}
 use Rattle.base.specs.declared.Length.{Length}
 use Rattle.costs.specs.Gather.{sizesIn, gatherOf, gatherInto}
 use Rattle.costs.specs.Gathered.{gathered}
@@ -58,14 +60,14 @@ use Rattle.runs.specs.Pool.Stored.{encode-all-length}
 
 -- ---- the checks
 
-abbrev pub unitInRange : List ℕ → List UnitState → ℕ → Bool
-unitInRange s us k = inRange (sizesIn s) (viewOf (instanceOf s) k) (unitAt us k)
+abbrev pub unitInRange : ValueOrder → List ℕ → List UnitState → ℕ → Bool
+unitInRange order s us k = inRange (sizesIn s) (viewBy order (instanceOf s) k) (unitAt us k)
 
--- by what its own value pays
-pub range-of-paid : (s : List ℕ) (us : List UnitState) (k : ℕ) (u : UnitState) (v paid : ℕ) → u ≡ unitAt us k → v ≡ getD (u .values) k 0
-    → paid ≡ asNumber (costWith (viewOf (instanceOf s) k) (u .values) k v) → paidInRange (unitsOf s) (sizesIn s) (suc k) paid u ≡ unitInRange s us k
-unfolding inRange instanceOf
-range-of-paid s us k u v paid unit own pays = rw (pays, own, unit)
+-- by what its own value pays, and its place
+pub range-of-paid : (order : ValueOrder) (s : List ℕ) (us : List UnitState) (k : ℕ) (u : UnitState) (v paid place : ℕ) → u ≡ unitAt us k → v ≡ getD (u .values) k 0
+    → paid ≡ asNumber (costWith (viewOf (instanceOf s) k) (u .values) k v) → place ≡ placeTried (viewBy order (instanceOf s) k) v → paidInRange (unitsOf s) (sizesIn s) (suc k) paid place u ≡ unitInRange order s us k
+unfolding inRange instanceOf costWith
+range-of-paid order s us k u v paid place unit own pays stands = rw (pays, stands, own, unit)
 
 -- a refusal that was not given says how its test went
 if-so : (t : Bool) (r : ℕ) → cond t (suc r) 0 ≡ 0 → t ≡ false
@@ -77,67 +79,67 @@ if-not true r e = refl
 if-not false r e = absurd (omega arith)
 
 -- what they say together
-pub record Open (net : Network) (s pool : List ℕ) (cell : ℕ) : Type 0 where
+pub record Open (order : ValueOrder) (net : Network) (s pool : List ℕ) (cell : ℕ) : Type 0 where
   pub room : poolSize ≤ length pool
   pub table : Accepted s
-  pub states : (k : ℕ) → k < unitsOf s → unitInRange s (net .core .units) k ≡ true
+  pub states : (k : ℕ) → k < unitsOf s → unitInRange order s (net .core .units) k ≡ true
   pub few : net .used ≤ poolCells
   pub here : cell < net .used
 
-module _ (net : Network) (s pool : List ℕ) (cell : ℕ) where
-  pub check-room : length pool < poolSize → 13 ≡ deliverRefusal net s pool cell
+module _ (order : ValueOrder) (net : Network) (s pool : List ℕ) (cell : ℕ) where
+  pub check-room : length pool < poolSize → 13 ≡ deliverRefusal order net s pool cell
   unfolding deliverRefusal networkRefusal
   check-room l = rw (lt-ltb (length pool) poolSize l)
 
   module _ (room : poolSize ≤ length pool) where
-    pub check-table : (r : ℕ) → r ≡ streamRefusal s → (r ≡ 0 → ⊥) → r ≡ deliverRefusal net s pool cell
+    pub check-table : (r : ℕ) → r ≡ streamRefusal s → (r ≡ 0 → ⊥) → r ≡ deliverRefusal order net s pool cell
     unfolding deliverRefusal networkRefusal
     check-table r e z = rw (le-ltb (length pool) poolSize room, ← e, or-first r _ z, or-first r _ z)
 
     module _ (table : streamRefusal s ≡ 0) where
-      pub check-states : every (unitInRange s (net .core .units)) (unitsOf s) ≡ false → 5 ≡ deliverRefusal net s pool cell
+      pub check-states : every (unitInRange order s (net .core .units)) (unitsOf s) ≡ false → 5 ≡ deliverRefusal order net s pool cell
       unfolding deliverRefusal networkRefusal networkInRange
       check-states e = rw (le-ltb (length pool) poolSize room, table, e)
 
-      module _ (states : every (unitInRange s (net .core .units)) (unitsOf s) ≡ true) where
-        pub check-count : poolCells < net .used → 5 ≡ deliverRefusal net s pool cell
+      module _ (states : every (unitInRange order s (net .core .units)) (unitsOf s) ≡ true) where
+        pub check-count : poolCells < net .used → 5 ≡ deliverRefusal order net s pool cell
         unfolding deliverRefusal networkRefusal networkInRange
         check-count l = rw (le-ltb (length pool) poolSize room, table, states, lt-leb (net .used) poolCells l)
 
         module _ (few : net .used ≤ poolCells) where
-          pub check-stopped : unitAt (net .core .units) 0 .stopped ≡ true → 12 ≡ deliverRefusal net s pool cell
+          pub check-stopped : unitAt (net .core .units) 0 .stopped ≡ true → 12 ≡ deliverRefusal order net s pool cell
           unfolding deliverRefusal networkRefusal networkInRange
           check-stopped e = rw (le-ltb (length pool) poolSize room, table, states, le-leb (net .used) poolCells few, e)
 
-          pub check-cell : unitAt (net .core .units) 0 .stopped ≡ false → net .used ≤ cell → 15 ≡ deliverRefusal net s pool cell
+          pub check-cell : unitAt (net .core .units) 0 .stopped ≡ false → net .used ≤ cell → 15 ≡ deliverRefusal order net s pool cell
           unfolding deliverRefusal networkRefusal networkInRange
           check-cell e l = rw (le-ltb (length pool) poolSize room, table, states, le-leb (net .used) poolCells few, e, le-leb (net .used) cell l)
 
-          pub check-none : unitAt (net .core .units) 0 .stopped ≡ false → cell < net .used → 0 ≡ deliverRefusal net s pool cell
+          pub check-none : unitAt (net .core .units) 0 .stopped ≡ false → cell < net .used → 0 ≡ deliverRefusal order net s pool cell
           unfolding deliverRefusal networkRefusal networkInRange
           check-none e l = rw (le-ltb (length pool) poolSize room, table, states, le-leb (net .used) poolCells few, e, lt-leb (net .used) cell l)
 
-  pub opened : deliverRefusal net s pool cell ≡ 0 → Open net s pool cell
+  pub opened : deliverRefusal order net s pool cell ≡ 0 → Open order net s pool cell
   unfolding deliverRefusal networkRefusal networkInRange Accepted
   opened z =
-      let a = or-left (networkRefusal net s pool) _ z in
+      let a = or-left (networkRefusal order net s pool) _ z in
       let b = or-right (cond (ltb (length pool) poolSize) 13 0) _ a in
-      let c = if-not _ 4 (or-left (cond (every (unitInRange s (net .core .units)) (unitsOf s) && leb (net .used) poolCells) 0 5) _ (or-right (streamRefusal s) _ b)) in
+      let c = if-not _ 4 (or-left (cond (every (unitInRange order s (net .core .units)) (unitsOf s) && leb (net .used) poolCells) 0 5) _ (or-right (streamRefusal s) _ b)) in
       record {
         room = ltb-false (length pool) poolSize (if-so _ 12 (or-left (cond (ltb (length pool) poolSize) 13 0) _ a));
         table = or-left (streamRefusal s) _ b;
-        states = every-at (unitInRange s (net .core .units)) (unitsOf s) (and-left _ _ c);
-        few = leb-true (net .used) poolCells (and-right (every (unitInRange s (net .core .units)) (unitsOf s)) _ c);
-        here = leb-false (net .used) cell (if-so _ 14 (or-right (networkRefusal net s pool) _ z));
+        states = every-at (unitInRange order s (net .core .units)) (unitsOf s) (and-left _ _ c);
+        few = leb-true (net .used) poolCells (and-right (every (unitInRange order s (net .core .units)) (unitsOf s)) _ c);
+        here = leb-false (net .used) cell (if-so _ 14 (or-right (networkRefusal order net s pool) _ z));
       }
 
   -- a refusal ends a delivery, and without one it goes on
-  pub deliver-stops : (r : ℕ) → r ≡ deliverRefusal net s pool cell → (r ≡ 0 → ⊥) → (record { refusal = r; network = net } ≡ deliverOf net s pool cell .answer) × (pool ≡ deliverOf net s pool cell .pool)
+  pub deliver-stops : (r : ℕ) → r ≡ deliverRefusal order net s pool cell → (r ≡ 0 → ⊥) → (record { refusal = r; network = net } ≡ deliverOf order net s pool cell .answer) × (pool ≡ deliverOf order net s pool cell .pool)
   unfolding deliverOf
   deliver-stops zero e z = absurd (z refl)
   deliver-stops (suc r) e z = rw (← e) (refl, refl)
 
-  pub deliver-goes : deliverRefusal net s pool cell ≡ 0 → deliverBy 0 net s pool cell ≡ deliverOf net s pool cell
+  pub deliver-goes : deliverRefusal order net s pool cell ≡ 0 → deliverBy order 0 net s pool cell ≡ deliverOf order net s pool cell
   unfolding deliverOf
   deliver-goes e = rw e
 
@@ -168,59 +170,59 @@ module _ (s : List ℕ) (ok : Accepted s) (own : ℕ) (first : 1 ≤ own) (last 
 -- ---- the step
 
 -- a unit that can step: one of the n, in range
-pub record Stepping (s : List ℕ) (own : ℕ) (u : UnitState) : Type 0 where
+pub record Stepping (order : ValueOrder) (s : List ℕ) (own : ℕ) (u : UnitState) : Type 0 where
   pub table : Accepted s
   pub first : 1 ≤ own
   pub last : own ≤ unitsOf s
-  pub state : inRange (sizesIn s) (viewOf (instanceOf s) (pred own)) u ≡ true
+  pub state : inRange (sizesIn s) (viewBy order (instanceOf s) (pred own)) u ≡ true
 
 -- what a step gives and leaves in its buffer
-pub record Stepped (s : List ℕ) (own : ℕ) (u : UnitState) (bytes before : List ℕ) (r : Outcome) (after : List ℕ) : Type 0 where
-  pub outcome : (us : List UnitState) → unitAt us (pred own) ≡ u → r ≡ outcomeOf (unitsOf s) (pred own) u (stepFrom8 s us own bytes)
-  pub buffer : (us : List UnitState) → unitAt us (pred own) ≡ u → after ≡ bytesOf (unitsOf s) (pred own) before (stepFrom8 s us own bytes)
+pub record Stepped (order : ValueOrder) (s : List ℕ) (own : ℕ) (u : UnitState) (bytes before : List ℕ) (r : Outcome) (after : List ℕ) : Type 0 where
+  pub outcome : (us : List UnitState) → unitAt us (pred own) ≡ u → r ≡ outcomeOf (unitsOf s) (pred own) u (stepFrom8 order s us own bytes)
+  pub buffer : (us : List UnitState) → unitAt us (pred own) ≡ u → after ≡ bytesOf (unitsOf s) (pred own) before (stepFrom8 order s us own bytes)
 
-module _ (s : List ℕ) (ok : Accepted s) (us : List UnitState) (own : ℕ) (first : 1 ≤ own) (last : own ≤ unitsOf s) (state : unitInRange s us (pred own) ≡ true) (bytes : List ℕ) (room : ℕ) (fits : sendingSize ≤ room) where
-  pub passes : Passed (unitAt us (pred own)) own (unitsOf s) (sizesIn s) (gathered s own) room
+module _ (order : ValueOrder) (s : List ℕ) (ok : Accepted s) (us : List UnitState) (own : ℕ) (first : 1 ≤ own) (last : own ≤ unitsOf s) (state : unitInRange order s us (pred own) ≡ true) (bytes : List ℕ) (room : ℕ) (fits : sendingSize ≤ room) where
+  pub passes : Passed order (unitAt us (pred own)) own (unitsOf s) (sizesIn s) (gathered s own) room
   passes = record {
     shape = accepted-sizes-good s ok;
     unit = rw (le-leb 1 own first, le-leb own (unitsOf s) last);
     lent = gathered-good s ok own first last (sizesIn s) (accepted-sizes-first s ok);
-    state = rw (gathered-view s ok own first last (sizesIn s) (accepted-sizes-first s ok)) state;
+    state = rw (gathered-view order s ok own first last (sizesIn s) (accepted-sizes-first s ok)) state;
     fits = fits;
   }
 
-  pub step-is : stepOut (unitAt us (pred own)) own (unitsOf s) (sizesIn s) (gathered s own) bytes room ≡ stepFrom8 s us own bytes
+  pub step-is : stepOut order (unitAt us (pred own)) own (unitsOf s) (sizesIn s) (gathered s own) bytes room ≡ stepFrom8 order s us own bytes
   unfolding stepOut stepFrom8
   step-is =
-      rw (UL.not-refused own (unitsOf s) (sizesIn s) (gathered s own) room (unitAt us (pred own)) passes, gathered-view s ok own first last (sizesIn s) (accepted-sizes-first s ok))
+      rw (UL.not-refused own (unitsOf s) (sizesIn s) (gathered s own) room order (unitAt us (pred own)) passes, gathered-view order s ok own first last (sizesIn s) (accepted-sizes-first s ok))
 
-  pub step-keeps : SizedUnit (unitAt us (pred own)) → AllBytes bytes → Whenever (GoodDecision (unitsOf s) (sizesIn s) (viewOf (instanceOf s) (pred own)) 16) (stepFrom8 s us own bytes)
+  pub step-keeps : SizedUnit (unitAt us (pred own)) → AllBytes bytes → Whenever (GoodDecision (unitsOf s) (sizesIn s) (viewBy order (instanceOf s) (pred own)) 16) (stepFrom8 order s us own bytes)
   step-keeps arrays all =
       let most : unitsOf s ≤ length (sizesIn s) = omega (arith, length-sizes s, accepted-units s ok .1) in
-      subst (λ (o : Decision). Whenever (GoodDecision (unitsOf s) (sizesIn s) (viewOf (instanceOf s) (pred own)) 16) o) step-is
-      (rw (gathered-view s ok own first last (sizesIn s) (accepted-sizes-first s ok)) at
-      (UL.step-kept own (unitsOf s) (sizesIn s) (gathered s own) room most (unitAt us (pred own)) arrays bytes all))
+      subst (λ (o : Decision). Whenever (GoodDecision (unitsOf s) (sizesIn s) (viewBy order (instanceOf s) (pred own)) 16) o) step-is
+      (rw (gathered-view order s ok own first last (sizesIn s) (accepted-sizes-first s ok)) at
+      (UL.step-kept order own (unitsOf s) (sizesIn s) (gathered s own) room most (unitAt us (pred own)) arrays bytes all))
 
 -- a refusal of it has a number
-step-numbered : (s : List ℕ) (us : List UnitState) (own : ℕ) (bytes : List ℕ) → Numbered (stepFrom8 s us own bytes)
+step-numbered : (order : ValueOrder) (s : List ℕ) (us : List UnitState) (own : ℕ) (bytes : List ℕ) → Numbered (stepFrom8 order s us own bytes)
 unfolding stepFrom8
-step-numbered s us own bytes =
+step-numbered order s us own bytes =
     let p = parseFor (unitsOf s) (sizesIn s) own bytes in
-    read-numbered (viewOf (instanceOf s) (pred own)) (unitAt us (pred own)) (p .answer) (p .message) (parse-numbered (unitsOf s) (sizesIn s) own bytes)
+    read-numbered (viewBy order (instanceOf s) (pred own)) (unitAt us (pred own)) (p .answer) (p .message) (parse-numbered (unitsOf s) (sizesIn s) own bytes)
 
 -- the step of `unit`, lent what the stream says
-pub step-told : (s : List ℕ) (own : ℕ) (u : UnitState) → Stepping s own u → (n : ℕ) (sizes costs bytes before after : List ℕ) (r : Outcome) → n ≡ unitsOf s → sizes ≡ sizesIn s → costs ≡ gathered s own
-    → sendingSize ≤ length before → r ≡ outcomeOf n (pred own) u (stepOut u own n sizes costs bytes (length before)) → after ≡ bytesOf n (pred own) before (stepOut u own n sizes costs bytes (length before))
-    → Stepped s own u bytes before r after
-step-told s own u g n sizes costs bytes before after r units array lent fits e f = record {
+pub step-told : (order : ValueOrder) (s : List ℕ) (own : ℕ) (u : UnitState) → Stepping order s own u → (n : ℕ) (sizes costs bytes before after : List ℕ) (r : Outcome) → n ≡ unitsOf s → sizes ≡ sizesIn s → costs ≡ gathered s own
+    → sendingSize ≤ length before → r ≡ outcomeOf n (pred own) u (stepOut order u own n sizes costs bytes (length before)) → after ≡ bytesOf n (pred own) before (stepOut order u own n sizes costs bytes (length before))
+    → Stepped order s own u bytes before r after
+step-told order s own u g n sizes costs bytes before after r units array lent fits e f = record {
   outcome = λ us at. e ∙ rw (units, array, lent) (ap (λ (o : Decision). outcomeOf (unitsOf s) (pred own) u o) (same us at));
   buffer = λ us at. f ∙ rw (units, array, lent) (ap (λ (o : Decision). bytesOf (unitsOf s) (pred own) before o) (same us at));
 }
   where
-    same : (us : List UnitState) → unitAt us (pred own) ≡ u → stepOut u own (unitsOf s) (sizesIn s) (gathered s own) bytes (length before) ≡ stepFrom8 s us own bytes
+    same : (us : List UnitState) → unitAt us (pred own) ≡ u → stepOut order u own (unitsOf s) (sizesIn s) (gathered s own) bytes (length before) ≡ stepFrom8 order s us own bytes
     same us at =
-        ap (λ (x : UnitState). stepOut x own (unitsOf s) (sizesIn s) (gathered s own) bytes (length before)) (sym at)
-        ∙ step-is s (g .table) us own (g .first) (g .last) (rw at (g .state)) bytes (length before) fits
+        ap (λ (x : UnitState). stepOut order x own (unitsOf s) (sizesIn s) (gathered s own) bytes (length before)) (sym at)
+        ∙ step-is order s (g .table) us own (g .first) (g .last) (rw at (g .state)) bytes (length before) fits
 
 -- ---- what is stored
 
@@ -243,12 +245,12 @@ abbrev pub storedPool : Network → ℕ → Outcome → List ℕ → List ℕ �
 storedPool net cell r out pool =
     cond (leb (net .used - 1 + r .sent) poolCells) (paste (closeGap pool (messageSize * cell) (messageSize * net .used)) (messageSize * (net .used - 1)) out (messageSize * r .sent)) pool
 
-module _ (net : Network) (s pool : List ℕ) (cell own : ℕ) (was : UnitState) (o : Decision) (r : Outcome) (told : r ≡ outcomeOf (unitsOf s) (pred own) was o) where
+module _ (order : ValueOrder) (net : Network) (s pool : List ℕ) (cell own : ℕ) (was : UnitState) (o : Decision) (r : Outcome) (told : r ≡ outcomeOf (unitsOf s) (pred own) was o) where
   -- a step never sends more than 16 packets
-  pub few-sent : Whenever (GoodDecision (unitsOf s) (sizesIn s) (viewOf (instanceOf s) (pred own)) 16) o → r .sent ≤ 16
+  pub few-sent : Whenever (GoodDecision (unitsOf s) (sizesIn s) (viewBy order (instanceOf s) (pred own)) 16) o → r .sent ≤ 16
   few-sent k = go o told k
     where
-      go : (o : Decision) → r ≡ outcomeOf (unitsOf s) (pred own) was o → Whenever (GoodDecision (unitsOf s) (sizesIn s) (viewOf (instanceOf s) (pred own)) 16) o → r .sent ≤ 16
+      go : (o : Decision) → r ≡ outcomeOf (unitsOf s) (pred own) was o → Whenever (GoodDecision (unitsOf s) (sizesIn s) (viewBy order (instanceOf s) (pred own)) 16) o → r .sent ≤ 16
       go (U.refused x) e k = rw e (omega arith)
       go (U.accepted u m ws) e k = rw e (k .few)
 
@@ -261,12 +263,12 @@ module _ (net : Network) (s pool : List ℕ) (cell own : ℕ) (was : UnitState) 
       go (U.refused x) e = (rw e, refl)
       go (U.accepted u m ws) e = absurd (z (rw e))
 
-  pub deliver-stores : r .refusal ≡ 0 → Numbered o → Whenever (GoodDecision (unitsOf s) (sizesIn s) (viewOf (instanceOf s) (pred own)) 16) o → cell < net .used → messageSize * net .used ≤ length pool
+  pub deliver-stores : r .refusal ≡ 0 → Numbered o → Whenever (GoodDecision (unitsOf s) (sizesIn s) (viewBy order (instanceOf s) (pred own)) 16) o → cell < net .used → messageSize * net .used ≤ length pool
       → (out was-out : List ℕ) → out ≡ bytesOf (unitsOf s) (pred own) was-out o
       → (storedAnswer net own r ≡ onOut net pool cell (unitsOf s) own o .answer) × (storedPool net cell r out pool ≡ onOut net pool cell (unitsOf s) own o .pool)
   deliver-stores z number k inside fits out was-out sent = go o told number k sent
     where
-      go : (o : Decision) → r ≡ outcomeOf (unitsOf s) (pred own) was o → Numbered o → Whenever (GoodDecision (unitsOf s) (sizesIn s) (viewOf (instanceOf s) (pred own)) 16) o → out ≡ bytesOf (unitsOf s) (pred own) was-out o
+      go : (o : Decision) → r ≡ outcomeOf (unitsOf s) (pred own) was o → Numbered o → Whenever (GoodDecision (unitsOf s) (sizesIn s) (viewBy order (instanceOf s) (pred own)) 16) o → out ≡ bytesOf (unitsOf s) (pred own) was-out o
           → (storedAnswer net own r ≡ onOut net pool cell (unitsOf s) own o .answer) × (storedPool net cell r out pool ≡ onOut net pool cell (unitsOf s) own o .pool)
       go (U.refused x) e number k sent = let q : x ≡ 0 = sym (ap (λ (y : Outcome). y .refusal) e) ∙ z in absurd (omega arith)
       go (U.accepted u m ws) e number k sent = rw e (by-room (leb (net .used - 1 + length (packets (unitsOf s) (pred own) m)) poolCells))
@@ -293,7 +295,7 @@ module _ (net : Network) (s pool : List ℕ) (cell own : ℕ) (was : UnitState) 
 
 -- ---- a delivery whose checks have passed: n and own as its code has them, and the cell's m bytes
 
-module _ (net : Network) (s pool : List ℕ) (cell : ℕ) (checks : Open net s pool cell) (n own m : ℕ) (units : n ≡ unitsOf s) (size : m ≡ messageSize) (named : own ≡ receiverOf n (take m (drop (messageSize * cell) pool))) where
+module _ (order : ValueOrder) (net : Network) (s pool : List ℕ) (cell : ℕ) (checks : Open order net s pool cell) (n own m : ℕ) (units : n ≡ unitsOf s) (size : m ≡ messageSize) (named : own ≡ receiverOf n (take m (drop (messageSize * cell) pool))) where
   own-is : own ≡ receiverOf (unitsOf s) (cellOf pool cell)
   own-is = named ∙ rw (units, size)
 
@@ -310,37 +312,37 @@ module _ (net : Network) (s pool : List ℕ) (cell : ℕ) (checks : Open net s p
     at-place : unitAt (net .core .units) (pred own) ≡ u
     at-place = sym (at ∙ ap (λ (k : ℕ). unitAt (net .core .units) k) (sym (pred-sub own)))
 
-    in-range : unitInRange s (net .core .units) (pred own) ≡ true
+    in-range : unitInRange order s (net .core .units) (pred own) ≡ true
     in-range = checks .states (pred own) (omega (arith, own-first, own-last, pred-sub own))
 
-    pub stepping : Stepping s own u
+    pub stepping : Stepping order s own u
     stepping = record { table = checks .table; first = own-first; last = own-last; state = rw at-place at in-range }
 
-    module _ (before out : List ℕ) (r : Outcome) (told : Stepped s own u (take m (drop (messageSize * cell) pool)) before r out) (arrays : SizedUnit u) (all : AllBytes (take m (drop (messageSize * cell) pool))) where
+    module _ (before out : List ℕ) (r : Outcome) (told : Stepped order s own u (take m (drop (messageSize * cell) pool)) before r out) (arrays : SizedUnit u) (all : AllBytes (take m (drop (messageSize * cell) pool))) where
       abbrev o : Decision
-      o = stepFrom8 s (net .core .units) own (cellOf pool cell)
+      o = stepFrom8 order s (net .core .units) own (cellOf pool cell)
 
-      gives : r ≡ outcomeOf (unitsOf s) (pred own) u (stepFrom8 s (net .core .units) own (cellOf pool cell))
+      gives : r ≡ outcomeOf (unitsOf s) (pred own) u (stepFrom8 order s (net .core .units) own (cellOf pool cell))
       gives = rw size at (told .outcome (net .core .units) at-place)
 
-      leaves : out ≡ bytesOf (unitsOf s) (pred own) before (stepFrom8 s (net .core .units) own (cellOf pool cell))
+      leaves : out ≡ bytesOf (unitsOf s) (pred own) before (stepFrom8 order s (net .core .units) own (cellOf pool cell))
       leaves = rw size at (told .buffer (net .core .units) at-place)
 
-      keeps : Whenever (GoodDecision (unitsOf s) (sizesIn s) (viewOf (instanceOf s) (pred own)) 16) (stepFrom8 s (net .core .units) own (cellOf pool cell))
+      keeps : Whenever (GoodDecision (unitsOf s) (sizesIn s) (viewBy order (instanceOf s) (pred own)) 16) (stepFrom8 order s (net .core .units) own (cellOf pool cell))
       keeps =
-          step-keeps s (checks .table) (net .core .units) own own-first own-last in-range (cellOf pool cell) sendingSize (omega arith) (subst (λ (x : UnitState). SizedUnit x) (sym at-place) arrays)
+          step-keeps order s (checks .table) (net .core .units) own own-first own-last in-range (cellOf pool cell) sendingSize (omega arith) (subst (λ (x : UnitState). SizedUnit x) (sym at-place) arrays)
           (rw size at all)
 
       pub hand-sent : r .sent ≤ 16
-      hand-sent = few-sent net s pool cell own u o r gives keeps
+      hand-sent = few-sent order net s pool cell own u o r gives keeps
 
-      pub hand-refuses : (r .refusal ≡ 0 → ⊥) → (record { refusal = r .refusal; network = net } ≡ deliverBy 0 net s pool cell .answer) × (pool ≡ deliverBy 0 net s pool cell .pool)
-      hand-refuses z = rw (← own-is) (deliver-refuses net s pool cell own u o r gives z)
+      pub hand-refuses : (r .refusal ≡ 0 → ⊥) → (record { refusal = r .refusal; network = net } ≡ deliverBy order 0 net s pool cell .answer) × (pool ≡ deliverBy order 0 net s pool cell .pool)
+      hand-refuses z = rw (← own-is) (deliver-refuses order net s pool cell own u o r gives z)
 
-      pub hand-stores : r .refusal ≡ 0 → (storedAnswer net own r ≡ deliverBy 0 net s pool cell .answer) × (storedPool net cell r out pool ≡ deliverBy 0 net s pool cell .pool)
+      pub hand-stores : r .refusal ≡ 0 → (storedAnswer net own r ≡ deliverBy order 0 net s pool cell .answer) × (storedPool net cell r out pool ≡ deliverBy order 0 net s pool cell .pool)
       hand-stores z =
           rw (← own-is)
-          (deliver-stores net s pool cell own u o r gives z (step-numbered s (net .core .units) own (cellOf pool cell)) keeps (checks .here) (omega (arith, checks .room, checks .few)) out before leaves)
+          (deliver-stores order net s pool cell own u o r gives z (step-numbered order s (net .core .units) own (cellOf pool cell)) keeps (checks .here) (omega (arith, checks .room, checks .few)) out before leaves)
 
 -- ---- making
 
@@ -361,18 +363,19 @@ module _ (s pool : List ℕ) where
   unfolding makingRefusal Accepted
   makeable z = (or-left (streamRefusal s) _ z, ltb-false (length pool) poolSize (if-so _ 12 (or-right (streamRefusal s) _ z)))
 
-  pub make-refuses : (r : ℕ) → r ≡ makingRefusal s pool → (r ≡ 0 → ⊥) → (record { refusal = r; network = noNetwork } ≡ makeOf s pool .answer) × (pool ≡ makeOf s pool .pool)
+module _ (order : ValueOrder) (s pool : List ℕ) where
+  pub make-refuses : (r : ℕ) → r ≡ makingRefusal s pool → (r ≡ 0 → ⊥) → (record { refusal = r; network = noNetwork } ≡ makeOf order s pool .answer) × (pool ≡ makeOf order s pool .pool)
   unfolding makeOf
   make-refuses zero e z = absurd (z refl)
   make-refuses (suc r) e z = rw (← e) (refl, refl)
 
   -- unit 1 assigns
-  pub first-step : Accepted s → (room : ℕ) → sendingSize ≤ room → makeOut 1 (unitsOf s) (sizesIn s) (gathered s 1) room ≡ assign (viewOf (instanceOf s) 0) fresh
+  pub first-step : Accepted s → (room : ℕ) → sendingSize ≤ room → makeOut order 1 (unitsOf s) (sizesIn s) (gathered s 1) room ≡ assign (viewBy order (instanceOf s) 0) fresh
   unfolding makeOut UC.makeRefusal UC.seatRefusal
   first-step ok room fits =
       let last : 1 ≤ unitsOf s = accepted-units s ok .0 in
       let lent = gathered-good s ok 1 (omega arith) last (sizesIn s) (accepted-sizes-first s ok) in
-      rw (accepted-sizes-good s ok, le-leb 1 (unitsOf s) last, lent, le-ltb room sendingSize fits, gathered-view s ok 1 (omega arith) last (sizesIn s) (accepted-sizes-first s ok))
+      rw (accepted-sizes-good s ok, le-leb 1 (unitsOf s) last, lent, le-ltb room sendingSize fits, gathered-view order s ok 1 (omega arith) last (sizesIn s) (accepted-sizes-first s ok))
 
 -- the network as making leaves it, by the outcome of unit 1's making
 abbrev pub begunAnswer : Outcome → Answer
@@ -381,11 +384,11 @@ begunAnswer r = record {
   network = record { core = record { units = set (replicate 16 fresh) 0 (r .unit); records = plus (r .records) zeroCount; deliveries = zeroCount }; used = r .sent };
 }
 
-module _ (s pool : List ℕ) (r : Outcome) (out : List ℕ) (told : r ≡ outcomeOf (unitsOf s) 0 noUnit (assign (viewOf (instanceOf s) 0) fresh))
-    (sent : out ≡ bytesOf (unitsOf s) 0 pool (assign (viewOf (instanceOf s) 0) fresh)) where
-  pub make-begins : makingRefusal s pool ≡ 0 → (begunAnswer r ≡ makeOf s pool .answer) × (out ≡ makeOf s pool .pool)
+module _ (order : ValueOrder) (s pool : List ℕ) (r : Outcome) (out : List ℕ) (told : r ≡ outcomeOf (unitsOf s) 0 noUnit (assign (viewBy order (instanceOf s) 0) fresh))
+    (sent : out ≡ bytesOf (unitsOf s) 0 pool (assign (viewBy order (instanceOf s) 0) fresh)) where
+  pub make-begins : makingRefusal s pool ≡ 0 → (begunAnswer r ≡ makeOf order s pool .answer) × (out ≡ makeOf order s pool .pool)
   unfolding makeOf
-  make-begins z = rw z (go (assign (viewOf (instanceOf s) 0) fresh) (assign-accepts (viewOf (instanceOf s) 0) fresh) told sent)
+  make-begins z = rw z (go (assign (viewBy order (instanceOf s) 0) fresh) (assign-accepts (viewBy order (instanceOf s) 0) fresh) told sent)
     where
       go : (o : Decision) → Accepts o → r ≡ outcomeOf (unitsOf s) 0 noUnit o → out ≡ bytesOf (unitsOf s) 0 pool o
           → (begunAnswer r ≡ made (unitsOf s) pool o .answer) × (out ≡ made (unitsOf s) pool o .pool)

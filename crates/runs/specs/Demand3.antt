@@ -1,5 +1,6 @@
 -- DEMAND 3, stated: one theorem over every list of deliveries to a network of an accepted table, about the very definitions that
--- the contracts of `network::make` and `network::deliver` cite. Its proof is `demand3` of Theorem.antt. Assumes nothing.
+-- the contracts of `network::make_by` and `network::deliver_by` cite, for either order of values. 02, job 9: "in a run, the making and every delivery ..
+-- name the same one". Its proof is `demand3` of Theorem.antt. Assumes nothing.
 --     Shed, shedAfter, runBytes     the run on bytes: the network and the pool after making and a list of cells
 --     acceptedIn, handedIn          how many deliveries of a list are accepted, and the bytes that they handed over
 --     over, reportOf                whether the run has ended, and what it then reports
@@ -8,6 +9,7 @@
 --     Demand3                       two runs of one table
 use Rattle.base.specs.Library.{ℕ, _+_, _*_, _-_, _≤_, _≡_, _⊎_, Bool, true, false, cond, List, [], _∷_, _++_, map, eqb, length, take}
 use Rattle.base.specs.Limits.{messageSize}
+use Rattle.costs.specs.declared.ValueOrder.{ValueOrder}
 use Rattle.costs.specs.{Instance.Instance, Instance.instanceOf, Bounds.Reported, Bounds.N}
 use Rattle.message.specs.{Message.Packet, Written.encode}
 use Rattle.rules.specs.{Send.encodeAll, Units.unitAt, Units.Distinct}
@@ -24,38 +26,38 @@ abbrev pub shedOf : Result → Shed
 shedOf r = record { network = r .answer .network; pool = r .pool }
 
 -- 01: "A table is accepted when making a shed of it isn't refused."
-abbrev pub Made : List ℕ → List ℕ → Type 0
-Made stream pool = makeOf stream pool .answer .refusal ≡ 0
+abbrev pub Made : ValueOrder → List ℕ → List ℕ → Type 0
+Made order stream pool = makeOf order stream pool .answer .refusal ≡ 0
 
 -- as making leaves it
-abbrev pub shedMade : List ℕ → List ℕ → Shed
-shedMade stream pool = shedOf (makeOf stream pool)
+abbrev pub shedMade : ValueOrder → List ℕ → List ℕ → Shed
+shedMade order stream pool = shedOf (makeOf order stream pool)
 
 -- 01: "gets the units, counts and pool as the one before left them"; one that is refused gives the network and pool as lent
-abbrev pub shedAfter : List ℕ → Shed → ℕ → Shed
-shedAfter stream S cell = shedOf (deliverOf (S .network) stream (S .pool) cell)
+abbrev pub shedAfter : ValueOrder → List ℕ → Shed → ℕ → Shed
+shedAfter order stream S cell = shedOf (deliverOf order (S .network) stream (S .pool) cell)
 
-unfoldable pub deliverAll : List ℕ → Shed → List ℕ → Shed
-deliverAll stream S [] = S
-deliverAll stream S (c ∷ cs) = deliverAll stream (shedAfter stream S c) cs
+unfoldable pub deliverAll : ValueOrder → List ℕ → Shed → List ℕ → Shed
+deliverAll order stream S [] = S
+deliverAll order stream S (c ∷ cs) = deliverAll order stream (shedAfter order stream S c) cs
 
 -- 01: "A run is a list of deliveries to a shed as making left it."
-unfoldable pub runBytes : List ℕ → List ℕ → List ℕ → Shed
-runBytes stream pool cells = deliverAll stream (shedMade stream pool) cells
+unfoldable pub runBytes : ValueOrder → List ℕ → List ℕ → List ℕ → Shed
+runBytes order stream pool cells = deliverAll order stream (shedMade order stream pool) cells
 
 -- the refusal of the next delivery, 0 where it is accepted
-abbrev pub refusalAt : List ℕ → Shed → ℕ → ℕ
-refusalAt stream S cell = deliverOf (S .network) stream (S .pool) cell .answer .refusal
+abbrev pub refusalAt : ValueOrder → List ℕ → Shed → ℕ → ℕ
+refusalAt order stream S cell = deliverOf order (S .network) stream (S .pool) cell .answer .refusal
 
 -- 01: "the others are accepted": how many of a list are
-unfoldable pub acceptedIn : List ℕ → Shed → List ℕ → ℕ
-acceptedIn stream S [] = 0
-acceptedIn stream S (c ∷ cs) = cond (eqb (refusalAt stream S c) 0) 1 0 + acceptedIn stream (shedAfter stream S c) cs
+unfoldable pub acceptedIn : ValueOrder → List ℕ → Shed → List ℕ → ℕ
+acceptedIn order stream S [] = 0
+acceptedIn order stream S (c ∷ cs) = cond (eqb (refusalAt order stream S c) 0) 1 0 + acceptedIn order stream (shedAfter order stream S c) cs
 
 -- and what they handed over: the 64 bytes at the cell, for each
-unfoldable pub handedIn : List ℕ → Shed → List ℕ → List (List ℕ)
-handedIn stream S [] = []
-handedIn stream S (c ∷ cs) = cond (eqb (refusalAt stream S c) 0) (cellOf (S .pool) c ∷ []) [] ++ handedIn stream (shedAfter stream S c) cs
+unfoldable pub handedIn : ValueOrder → List ℕ → Shed → List ℕ → List (List ℕ)
+handedIn order stream S [] = []
+handedIn order stream S (c ∷ cs) = cond (eqb (refusalAt order stream S c) 0) (cellOf (S .pool) c ∷ []) [] ++ handedIn order stream (shedAfter order stream S c) cs
 
 -- ---- its end
 
@@ -97,36 +99,37 @@ pub record Follows (S : Shed) (H : History) : Type 0 where
 
 -- ---- one run
 
-pub record Served (stream pool cells : List ℕ) : Type 0 where
+pub record Served (order : ValueOrder) (stream pool cells : List ℕ) : Type 0 where
   -- the byte run follows the run over messages, which is fed only the table and the list
-  pub follows : Follows (runBytes stream pool cells) (run (instanceOf stream) cells)
+  pub follows : Follows (runBytes order stream pool cells) (run order (instanceOf stream) cells)
   -- no beginning is written twice
-  pub distinct : Distinct (written stream cells)
+  pub distinct : Distinct (written order stream cells)
   -- at most (3n - 1) × N deliveries are accepted, and with that many box 1 has stopped
-  pub bounded : acceptedIn stream (shedMade stream pool) cells ≤ most (instanceOf stream)
-  pub ends : acceptedIn stream (shedMade stream pool) cells ≡ most (instanceOf stream) → over (runBytes stream pool cells) ≡ true
+  pub bounded : acceptedIn order stream (shedMade order stream pool) cells ≤ most (instanceOf stream)
+  pub ends : acceptedIn order stream (shedMade order stream pool) cells ≡ most (instanceOf stream) → over (runBytes order stream pool cells) ≡ true
   -- until then a message waits
-  pub waits : over (runBytes stream pool cells) ≡ false → 1 ≤ runBytes stream pool cells .network .used
+  pub waits : over (runBytes order stream pool cells) ≡ false → 1 ≤ runBytes order stream pool cells .network .used
   -- and one of them can be delivered: the pool never refuses all by 14
-  pub progress : over (runBytes stream pool cells) ≡ false → (cell : ℕ) × (refusalAt stream (runBytes stream pool cells) cell ≡ 0)
+  pub progress : over (runBytes order stream pool cells) ≡ false → (cell : ℕ) × (refusalAt order stream (runBytes order stream pool cells) cell ≡ 0)
   -- once stopped it reports the least total, with an assignment that totals just that, or none where there is no assignment
-  pub reported : over (runBytes stream pool cells) ≡ true → Reported (instanceOf stream) (reportOf (runBytes stream pool cells) .total) (reportOf (runBytes stream pool cells) .assignment)
+  pub reported : over (runBytes order stream pool cells) ≡ true → Reported (instanceOf stream) (reportOf (runBytes order stream pool cells) .total) (reportOf (runBytes order stream pool cells) .assignment)
   -- what accepted deliveries handed over was sent, every message at most once
-  pub handed : (t : Packet → Bool) → times t (run (instanceOf stream) cells .handed) + times t (run (instanceOf stream) cells .waiting) ≡ times t (run (instanceOf stream) cells .sent)
+  pub handed : (t : Packet → Bool) → times t (run order (instanceOf stream) cells .handed) + times t (run order (instanceOf stream) cells .waiting) ≡ times t (run order (instanceOf stream) cells .sent)
   -- these messages, in this order, are the bytes that were handed over
-  pub taken : handedIn stream (shedMade stream pool) cells ≡ map (λ p. encode (p .kind) (p .message)) (run (instanceOf stream) cells .handed)
+  pub taken : handedIn order stream (shedMade order stream pool) cells ≡ map (λ p. encode (p .kind) (p .message)) (run order (instanceOf stream) cells .handed)
   -- the counts are exact
-  pub records : valueOf (runBytes stream pool cells .network .core .records) ≡ length (written stream cells)
-  pub deliveries : valueOf (runBytes stream pool cells .network .core .deliveries) ≡ acceptedIn stream (shedMade stream pool) cells
-  pub accepted : acceptedIn stream (shedMade stream pool) cells ≡ length (run (instanceOf stream) cells .handed)
+  pub records : valueOf (runBytes order stream pool cells .network .core .records) ≡ length (written order stream cells)
+  pub deliveries : valueOf (runBytes order stream pool cells .network .core .deliveries) ≡ acceptedIn order stream (shedMade order stream pool) cells
+  pub accepted : acceptedIn order stream (shedMade order stream pool) cells ≡ length (run order (instanceOf stream) cells .handed)
   -- no unit refuses another's packet: only 12 (after the stop), 14 and 15 are ever given
-  pub honest : (cell : ℕ) → (refusalAt stream (runBytes stream pool cells) cell ≡ 0) ⊎ Honest (over (runBytes stream pool cells)) (refusalAt stream (runBytes stream pool cells) cell)
+  pub honest : (cell : ℕ) → (refusalAt order stream (runBytes order stream pool cells) cell ≡ 0) ⊎ Honest (over (runBytes order stream pool cells)) (refusalAt order stream (runBytes order stream pool cells) cell)
 
 -- ---- two runs of one table
 
-pub record Demand3 (stream pool cells pool′ cells′ : List ℕ) : Type 0 where
-  pub one : Served stream pool cells
-  pub other : Served stream pool′ cells′
+-- 02, job 9: "two sheds may differ in theirs"
+pub record Demand3 (stream : List ℕ) (order : ValueOrder) (pool cells : List ℕ) (order′ : ValueOrder) (pool′ cells′ : List ℕ) : Type 0 where
+  pub one : Served order stream pool cells
+  pub other : Served order′ stream pool′ cells′
   -- two sheds of one table report the same total
-  pub agree : over (runBytes stream pool cells) ≡ true → over (runBytes stream pool′ cells′) ≡ true
-      → reportOf (runBytes stream pool cells) .total ≡ reportOf (runBytes stream pool′ cells′) .total
+  pub agree : over (runBytes order stream pool cells) ≡ true → over (runBytes order′ stream pool′ cells′) ≡ true
+      → reportOf (runBytes order stream pool cells) .total ≡ reportOf (runBytes order′ stream pool′ cells′) .total

@@ -7,7 +7,7 @@
 --     written                        the records that a run writes
 use Rattle.base.specs.Library.{ℕ, suc, Bool, cond, List, [], _∷_, _++_, Option, none, some, leb, length, set, take, drop, replicate}
 use Rattle.base.specs.Limits.{poolCells}
-use Rattle.costs.specs.Instance.{Instance, viewOf, instanceOf}
+use Rattle.costs.specs.{declared.ValueOrder.ValueOrder, Instance.Instance, Instance.viewBy, Instance.instanceOf}
 use Rattle.message.specs.Message.{Packet}
 use Rattle.rules.specs.{declared.Unit.Unit, State.fresh, Step.Decision, Step.refused, Step.accepted, Step.Written, Step.assign, Send.packets}
 pub use Rattle.rules.specs.Units.{unitAt, placeOf, stepOn}
@@ -68,13 +68,13 @@ module _ {W : Type 0} (L : Pool W) where
       record { units = set (replicate 16 fresh) 0 u; waiting = L .start ps; written = ws; sent = ps; handed = [] }
 
   -- 01, refusal 15: "no message at that cell"
-  abbrev pub takeCell : Instance → HistoryOf W → ℕ → Option Packet → DeliveryOf W
-  takeCell I H cell none = refusedBy 15
-  takeCell I H cell (some p) = byDecision I H p (L .put (L .without (H .waiting) cell)) (stepOn I (H .units) p)
+  abbrev pub takeCell : ValueOrder → Instance → HistoryOf W → ℕ → Option Packet → DeliveryOf W
+  takeCell order I H cell none = refusedBy 15
+  takeCell order I H cell (some p) = byDecision I H p (L .put (L .without (H .waiting) cell)) (stepOn order I (H .units) p)
 
   -- 01, refusal 12: "(in the shed: unit 1) has stopped"
-  abbrev pub deliverIn : Instance → HistoryOf W → ℕ → DeliveryOf W
-  deliverIn I H cell = cond (stopped H) (refusedBy 12) (takeCell I H cell (L .at (H .waiting) cell))
+  abbrev pub deliverIn : ValueOrder → Instance → HistoryOf W → ℕ → DeliveryOf W
+  deliverIn order I H cell = cond (stopped H) (refusedBy 12) (takeCell order I H cell (L .at (H .waiting) cell))
 
 -- ---- 01's pool: "The pool is 1,024 cells"
 
@@ -95,19 +95,19 @@ abbrev pub History : Type 0
 History = HistoryOf (List Packet)
 
 -- 01: "Making unit 1 assigns"
-unfoldable pub begin : Instance → History
-begin I = begunWith cells I (assign (viewOf I 0) fresh)
+unfoldable pub begin : ValueOrder → Instance → History
+begin order I = begunWith cells I (assign (viewBy order I 0) fresh)
 
-unfoldable pub handOver : Instance → History → ℕ → DeliveryOf (List Packet)
-handOver I H cell = deliverIn cells I H cell
+unfoldable pub handOver : ValueOrder → Instance → History → ℕ → DeliveryOf (List Packet)
+handOver order I H cell = deliverIn cells order I H cell
 
-unfoldable pub runFrom : Instance → History → List ℕ → History
-runFrom I H [] = H
-runFrom I H (c ∷ cs) = runFrom I (onward H (handOver I H c)) cs
+unfoldable pub runFrom : ValueOrder → Instance → History → List ℕ → History
+runFrom order I H [] = H
+runFrom order I H (c ∷ cs) = runFrom order I (onward H (handOver order I H c)) cs
 
-unfoldable pub run : Instance → List ℕ → History
-run I cs = runFrom I (begin I) cs
+unfoldable pub run : ValueOrder → Instance → List ℕ → History
+run order I cs = runFrom order I (begin order I) cs
 
 -- 01: "Which ones a run writes, those of making included, follows from the rules above, fed only the table and the list."
-abbrev pub written : List ℕ → List ℕ → List Written
-written stream cells = run (instanceOf stream) cells .written
+abbrev pub written : ValueOrder → List ℕ → List ℕ → List Written
+written order stream cells = run order (instanceOf stream) cells .written

@@ -14,10 +14,11 @@ use Rattle.base.specs.Members.{In}
 use Rattle.base.specs.Members.Laws.{not-in-nil}
 use borrow.Author.Tests.{eq-eqb}
 use Rattle.table.specs.Stream.{Accepted}
+use Rattle.costs.specs.declared.ValueOrder.{ValueOrder}
 use Rattle.costs.specs.Bounds.{Reported}
 use Rattle.costs.specs.Laws.Prefix.{reported-same}
 use Rattle.costs.specs.Instance.{instanceOf}
-use Rattle.costs.specs.Laws.{problemOf}
+use Rattle.costs.specs.Laws.Tried.{problemBy}
 use Rattle.costs.specs.Laws.Stream.{sound-of}
 use Rattle.message.specs.Message.{Packet}
 use Rattle.rules.specs.declared.Unit.{Unit as UnitState}
@@ -42,117 +43,117 @@ use Rattle.runs.specs.Proof.Delivery.{numberOf, HonestDelivery, Delivers
 
 -- ---- a list of deliveries, from any point of a run
 
-accepted-length : (s : List ℕ) (S : Shed) (cs : List ℕ) → acceptedIn s S cs ≡ length (handedIn s S cs)
+accepted-length : (order : ValueOrder) (s : List ℕ) (S : Shed) (cs : List ℕ) → acceptedIn order s S cs ≡ length (handedIn order s S cs)
 unfolding acceptedIn handedIn
-accepted-length s S [] = refl
-accepted-length s S (c ∷ cs) =
-    let x : List (List ℕ) = cond (eqb (refusalAt s S c) 0) (cellOf (S .pool) c ∷ []) [] in
-    omega (arith, one (eqb (refusalAt s S c) 0), accepted-length s (shedAfter s S c) cs, length-append (cond (eqb (refusalAt s S c) 0) (cellOf (S .pool) c ∷ []) []) (handedIn s (shedAfter s S c) cs))
+accepted-length order s S [] = refl
+accepted-length order s S (c ∷ cs) =
+    let x : List (List ℕ) = cond (eqb (refusalAt order s S c) 0) (cellOf (S .pool) c ∷ []) [] in
+    omega (arith, one (eqb (refusalAt order s S c) 0), accepted-length order s (shedAfter order s S c) cs, length-append (cond (eqb (refusalAt order s S c) 0) (cellOf (S .pool) c ∷ []) []) (handedIn order s (shedAfter order s S c) cs))
   where
     one : (t : Bool) → length (cond t (cellOf (S .pool) c ∷ []) []) ≡ cond t 1 0
     one true = refl
     one false = refl
 
-module _ (s : List ℕ) (ok : Accepted s) where
+module _ (order : ValueOrder) (s : List ℕ) (ok : Accepted s) where
   -- what is kept, and what was handed over
   pub record Ran (S : Shed) (H : History) (A : Network) (cs : List ℕ) : Type 0 where
-    pub invariant : Invariant s ok (deliverAll s S cs) (runFrom (instanceOf s) H cs) (M.run (problemOf (instanceOf s)) poolCells A cs)
-    pub bytes : map packetBytes (H .handed) ++ handedIn s S cs ≡ map packetBytes (runFrom (instanceOf s) H cs .handed)
+    pub invariant : Invariant order s ok (deliverAll order s S cs) (runFrom order (instanceOf s) H cs) (M.run (problemBy order (instanceOf s)) poolCells A cs)
+    pub bytes : map packetBytes (H .handed) ++ handedIn order s S cs ≡ map packetBytes (runFrom order (instanceOf s) H cs .handed)
 
-  pub ran : (cs : List ℕ) (S : Shed) (H : History) (A : Network) → Invariant s ok S H A → Ran S H A cs
+  pub ran : (cs : List ℕ) (S : Shed) (H : History) (A : Network) → Invariant order s ok S H A → Ran S H A cs
   unfolding deliverAll runFrom handedIn
   ran [] S H A i = record { invariant = i; bytes = append-nil (map packetBytes (H .handed)) }
   ran (c ∷ cs) S H A i =
-      let d = delivers s ok S H A i c in
-      let r = ran cs (shedAfter s S c) (onward H (handOver (instanceOf s) H c)) (M.deliver (problemOf (instanceOf s)) poolCells A c) (d .next) in
+      let d = delivers order s ok S H A i c in
+      let r = ran cs (shedAfter order s S c) (onward H (handOver order (instanceOf s) H c)) (M.deliver (problemBy order (instanceOf s)) poolCells A c) (d .next) in
       record {
         invariant = r .invariant;
         bytes =
-            sym (append-assoc (map packetBytes (H .handed)) (cond (eqb (refusalAt s S c) 0) (cellOf (S .pool) c ∷ []) []) (handedIn s (shedAfter s S c) cs))
-            ∙ ap (λ l. l ++ handedIn s (shedAfter s S c) cs) (d .bytes) ∙ r .bytes;
+            sym (append-assoc (map packetBytes (H .handed)) (cond (eqb (refusalAt order s S c) 0) (cellOf (S .pool) c ∷ []) []) (handedIn order s (shedAfter order s S c) cs))
+            ∙ ap (λ l. l ++ handedIn order s (shedAfter order s S c) cs) (d .bytes) ∙ r .bytes;
       }
 
 -- ---- one run
 
-module _ (s pool : List ℕ) (made : Made s pool) where
+module _ (order : ValueOrder) (s pool : List ℕ) (made : Made order s pool) where
   abbrev pub ok : Accepted s
-  ok = accepted-table s pool made
+  ok = accepted-table order s pool made
 
-  all : (cs : List ℕ) → Ran s ok (shedMade s pool) (R.begin (instanceOf s)) (M.make (problemOf (instanceOf s))) cs
-  all cs = ran s ok cs (shedMade s pool) (R.begin (instanceOf s)) (M.make (problemOf (instanceOf s))) (make-invariant s pool made)
+  all : (cs : List ℕ) → Ran order s ok (shedMade order s pool) (R.begin order (instanceOf s)) (M.make (problemBy order (instanceOf s))) cs
+  all cs = ran order s ok cs (shedMade order s pool) (R.begin order (instanceOf s)) (M.make (problemBy order (instanceOf s))) (make-invariant order s pool made)
 
   abbrev pub machine : List ℕ → Network
-  machine cs = M.run (problemOf (instanceOf s)) poolCells (M.make (problemOf (instanceOf s))) cs
+  machine cs = M.run (problemBy order (instanceOf s)) poolCells (M.make (problemBy order (instanceOf s))) cs
 
   -- at each point of the run
-  pub invariant : (cs : List ℕ) → Invariant s ok (runBytes s pool cs) (run (instanceOf s) cs) (machine cs)
+  pub invariant : (cs : List ℕ) → Invariant order s ok (runBytes order s pool cs) (run order (instanceOf s) cs) (machine cs)
   unfolding runBytes run
   invariant cs = all cs .invariant
 
-  taken : (cs : List ℕ) → handedIn s (shedMade s pool) cs ≡ map packetBytes (run (instanceOf s) cs .handed)
+  taken : (cs : List ℕ) → handedIn order s (shedMade order s pool) cs ≡ map packetBytes (run order (instanceOf s) cs .handed)
   unfolding run
-  taken cs = ap (λ l. map packetBytes l ++ handedIn s (shedMade s pool) cs) (sym (none-handed s)) ∙ all cs .bytes
+  taken cs = ap (λ l. map packetBytes l ++ handedIn order s (shedMade order s pool) cs) (sym (none-handed order s)) ∙ all cs .bytes
 
-  counted : (cs : List ℕ) → acceptedIn s (shedMade s pool) cs ≡ length (run (instanceOf s) cs .handed)
-  counted cs = accepted-length s (shedMade s pool) cs ∙ ap length (taken cs) ∙ length-map (run (instanceOf s) cs .handed) packetBytes
+  counted : (cs : List ℕ) → acceptedIn order s (shedMade order s pool) cs ≡ length (run order (instanceOf s) cs .handed)
+  counted cs = accepted-length order s (shedMade order s pool) cs ∙ ap length (taken cs) ∙ length-map (run order (instanceOf s) cs .handed) packetBytes
 
-  next : (cs : List ℕ) (c : ℕ) → Delivers s ok (runBytes s pool cs) (run (instanceOf s) cs) (machine cs) (invariant cs) c (handOver (instanceOf s) (run (instanceOf s) cs) c)
-      (deliverOf (runBytes s pool cs .network) s (runBytes s pool cs .pool) c)
-  next cs c = delivers s ok (runBytes s pool cs) (run (instanceOf s) cs) (machine cs) (invariant cs) c
+  next : (cs : List ℕ) (c : ℕ) → Delivers order s ok (runBytes order s pool cs) (run order (instanceOf s) cs) (machine cs) (invariant cs) c (handOver order (instanceOf s) (run order (instanceOf s) cs) c)
+      (deliverOf order (runBytes order s pool cs .network) s (runBytes order s pool cs .pool) c)
+  next cs c = delivers order s ok (runBytes order s pool cs) (run order (instanceOf s) cs) (machine cs) (invariant cs) c
 
   -- ---- unit 1, on bytes, over messages and in the machine
 
-  unit-is : (cs : List ℕ) → unitAt (runBytes s pool cs .network .core .units) 0 ≡ unitAt (run (instanceOf s) cs .units) 0
+  unit-is : (cs : List ℕ) → unitAt (runBytes order s pool cs .network .core .units) 0 ≡ unitAt (run order (instanceOf s) cs .units) 0
   unit-is cs = ap (λ us. unitAt us 0) (invariant cs .core .same)
 
-  over-is : (cs : List ℕ) → over (runBytes s pool cs) ≡ machine cs .units 0 .stopped
+  over-is : (cs : List ℕ) → over (runBytes order s pool cs) ≡ machine cs .units 0 .stopped
   over-is cs = ap (λ (u : UnitState). u .stopped) (unit-is cs) ∙ invariant cs .core .matches .units 0 (sound-of s ok .n1) .common .stopped-is
 
   -- ---- what a delivery then gives
 
-  honest-next : (cs : List ℕ) (c : ℕ) → (refusalAt s (runBytes s pool cs) c ≡ 0) ⊎ Honest (over (runBytes s pool cs)) (refusalAt s (runBytes s pool cs) c)
+  honest-next : (cs : List ℕ) (c : ℕ) → (refusalAt order s (runBytes order s pool cs) c ≡ 0) ⊎ Honest (over (runBytes order s pool cs)) (refusalAt order s (runBytes order s pool cs) c)
   honest-next cs c =
-      subst (λ r. (r ≡ 0) ⊎ Honest (over (runBytes s pool cs)) r) (sym (next cs c .number))
-      (subst (λ (u : UnitState). (numberOf (handOver (instanceOf s) (run (instanceOf s) cs) c) ≡ 0) ⊎ Honest (u .stopped) (numberOf (handOver (instanceOf s) (run (instanceOf s) cs) c))) (sym (unit-is cs))
-      (go (handOver (instanceOf s) (run (instanceOf s) cs) c) (next cs c .honest)))
+      subst (λ r. (r ≡ 0) ⊎ Honest (over (runBytes order s pool cs)) r) (sym (next cs c .number))
+      (subst (λ (u : UnitState). (numberOf (handOver order (instanceOf s) (run order (instanceOf s) cs) c) ≡ 0) ⊎ Honest (u .stopped) (numberOf (handOver order (instanceOf s) (run order (instanceOf s) cs) c))) (sym (unit-is cs))
+      (go (handOver order (instanceOf s) (run order (instanceOf s) cs) c) (next cs c .honest)))
     where
-      go : (d : DeliveryOf (List Packet)) → HonestDelivery (run (instanceOf s) cs) d → (numberOf d ≡ 0) ⊎ Honest (stopped (run (instanceOf s) cs)) (numberOf d)
+      go : (d : DeliveryOf (List Packet)) → HonestDelivery (run order (instanceOf s) cs) d → (numberOf d ≡ 0) ⊎ Honest (stopped (run order (instanceOf s) cs)) (numberOf d)
       go (R.refusedBy r) h = inr h
       go (R.delivered K) h = inl refl
 
   -- one that the machine accepts is accepted
-  accepted-by : (cs : List ℕ) (c : ℕ) → M.deliver (problemOf (instanceOf s)) poolCells (machine cs) c .accepted ≡ suc (machine cs .accepted) → refusalAt s (runBytes s pool cs) c ≡ 0
-  accepted-by cs c a = go (handOver (instanceOf s) (run (instanceOf s) cs) c) (next cs c)
+  accepted-by : (cs : List ℕ) (c : ℕ) → M.deliver (problemBy order (instanceOf s)) poolCells (machine cs) c .accepted ≡ suc (machine cs .accepted) → refusalAt order s (runBytes order s pool cs) c ≡ 0
+  accepted-by cs c a = go (handOver order (instanceOf s) (run order (instanceOf s) cs) c) (next cs c)
     where
-      go : (d : DeliveryOf (List Packet)) → Delivers s ok (runBytes s pool cs) (run (instanceOf s) cs) (machine cs) (invariant cs) c d (deliverOf (runBytes s pool cs .network) s (runBytes s pool cs .pool) c)
-          → refusalAt s (runBytes s pool cs) c ≡ 0
+      go : (d : DeliveryOf (List Packet)) → Delivers order s ok (runBytes order s pool cs) (run order (instanceOf s) cs) (machine cs) (invariant cs) c d (deliverOf order (runBytes order s pool cs .network) s (runBytes order s pool cs .pool) c)
+          → refusalAt order s (runBytes order s pool cs) c ≡ 0
       go (R.refusedBy r) x = absurd (omega (arith, a, invariant cs .accepted, x .next .accepted))
       go (R.delivered K) x = x .number
 
   -- an accepted one is counted
-  pub one-counted : (cs : List ℕ) (c : ℕ) → refusalAt s (runBytes s pool cs) c ≡ 0
-      → valueOf (shedAfter s (runBytes s pool cs) c .network .core .deliveries) ≡ suc (valueOf (runBytes s pool cs .network .core .deliveries))
+  pub one-counted : (cs : List ℕ) (c : ℕ) → refusalAt order s (runBytes order s pool cs) c ≡ 0
+      → valueOf (shedAfter order s (runBytes order s pool cs) c .network .core .deliveries) ≡ suc (valueOf (runBytes order s pool cs .network .core .deliveries))
   one-counted cs c e =
       let x = next cs c in
-      let h : List (List ℕ) = map packetBytes (run (instanceOf s) cs .handed) in
-      let one = ap (λ t. length (h ++ cond t (cellOf (runBytes s pool cs .pool) c ∷ []) [])) (sym (eq-eqb (refusalAt s (runBytes s pool cs) c) 0 e)) ∙ ap length (x .bytes) in
+      let h : List (List ℕ) = map packetBytes (run order (instanceOf s) cs .handed) in
+      let one = ap (λ t. length (h ++ cond t (cellOf (runBytes order s pool cs .pool) c ∷ []) [])) (sym (eq-eqb (refusalAt order s (runBytes order s pool cs) c) 0 e)) ∙ ap length (x .bytes) in
       omega (
         arith,
         x .next .core .deliveries,
         invariant cs .core .deliveries,
         one,
-        length-append h (cellOf (runBytes s pool cs .pool) c ∷ []),
-        length-map (run (instanceOf s) cs .handed) packetBytes,
-        length-map (onward (run (instanceOf s) cs) (handOver (instanceOf s) (run (instanceOf s) cs) c) .handed) packetBytes,
+        length-append h (cellOf (runBytes order s pool cs .pool) c ∷ []),
+        length-map (run order (instanceOf s) cs .handed) packetBytes,
+        length-map (onward (run order (instanceOf s) cs) (handOver order (instanceOf s) (run order (instanceOf s) cs) c) .handed) packetBytes,
       )
 
   -- once box 1 has stopped every delivery is refused by 12, and changes nothing
-  pub stopped-stays : (cs : List ℕ) (c : ℕ) → over (runBytes s pool cs) ≡ true → shedAfter s (runBytes s pool cs) c ≡ runBytes s pool cs
-  stopped-stays cs c e = ap shedOf (after-stop s ok (runBytes s pool cs) (run (instanceOf s) cs) (machine cs) (invariant cs) c (sym (ap (λ (u : UnitState). u .stopped) (unit-is cs)) ∙ e))
+  pub stopped-stays : (cs : List ℕ) (c : ℕ) → over (runBytes order s pool cs) ≡ true → shedAfter order s (runBytes order s pool cs) c ≡ runBytes order s pool cs
+  stopped-stays cs c e = ap shedOf (after-stop order s ok (runBytes order s pool cs) (run order (instanceOf s) cs) (machine cs) (invariant cs) c (sym (ap (λ (u : UnitState). u .stopped) (unit-is cs)) ∙ e))
 
   -- ---- all of it
 
-  pub served : (cs : List ℕ) → Served s pool cs
+  pub served : (cs : List ℕ) → Served order s pool cs
   served cs =
       record {
         follows = record { units = i .core .same; used = i .stored .count; cells = i .stored .front };
@@ -161,7 +162,7 @@ module _ (s pool : List ℕ) (made : Made s pool) where
         ends = λ e. over-is cs ∙ d .ends (sym (i .accepted) ∙ sym (counted cs) ∙ e);
         waits = λ e. some-wait (d .waits (sym (over-is cs) ∙ e) .0) (d .waits (sym (over-is cs) ∙ e) .1);
         progress = λ e.
-            let p = T.progress (problemOf (instanceOf s)) (laws s ok) (sound-of s ok .n1) poolCells (T.enough-room (problemOf (instanceOf s)) (laws s ok) (sound-of s ok .n1) (sound-of s ok .n16)) cs (sym (over-is cs) ∙ e) in
+            let p = T.progress (problemBy order (instanceOf s)) (laws order s ok) (sound-of s ok .n1) poolCells (T.enough-room (problemBy order (instanceOf s)) (laws order s ok) (sound-of s ok .n1) (sound-of s ok .n16)) cs (sym (over-is cs) ∙ e) in
             (p .0, accepted-by cs (p .0) (p .1));
         reported = report;
         handed = i .balanced;
@@ -172,55 +173,56 @@ module _ (s pool : List ℕ) (made : Made s pool) where
         honest = honest-next cs;
       }
     where
-      i : Invariant s ok (runBytes s pool cs) (run (instanceOf s) cs) (machine cs)
+      i : Invariant order s ok (runBytes order s pool cs) (run order (instanceOf s) cs) (machine cs)
       i = invariant cs
 
-      d : D.Demand3 (problemOf (instanceOf s)) (machine cs)
-      d = T.kept-demand3 (problemOf (instanceOf s)) (laws s ok) (sound-of s ok .n1) (machine cs) (invariant cs .kept)
+      d : D.Demand3 (problemBy order (instanceOf s)) (machine cs)
+      d = T.kept-demand3 (problemBy order (instanceOf s)) (laws order s ok) (sound-of s ok .n1) (machine cs) (invariant cs .kept)
 
-      some-wait : (m : M.Msg) → In m (machine cs .pool) → 1 ≤ runBytes s pool cs .network .used
-      some-wait m j = omega (arith, i .stored .count, read-length (instanceOf s) (run (instanceOf s) cs .waiting) (machine cs .pool) (i .reads), not-empty (machine cs .pool) m j)
+      some-wait : (m : M.Msg) → In m (machine cs .pool) → 1 ≤ runBytes order s pool cs .network .used
+      some-wait m j = omega (arith, i .stored .count, read-length order (instanceOf s) (run order (instanceOf s) cs .waiting) (machine cs .pool) (i .reads), not-empty (machine cs .pool) m j)
         where
           not-empty : (l : List M.Msg) (m : M.Msg) → In m l → 1 ≤ length l
           not-empty [] m j = absurd (not-in-nil j)
           not-empty (x ∷ l) m j = omega arith
 
-      report : over (runBytes s pool cs) ≡ true → Reported (instanceOf s) (reportOf (runBytes s pool cs) .total) (reportOf (runBytes s pool cs) .assignment)
+      report : over (runBytes order s pool cs) ≡ true → Reported (instanceOf s) (reportOf (runBytes order s pool cs) .total) (reportOf (runBytes order s pool cs) .assignment)
       report e =
           subst (λ (u : UnitState). Reported (instanceOf s) (u .bound) (u .best)) (sym (unit-is cs))
-          (reports (instanceOf s) (sound-of s ok) (unitAt (run (instanceOf s) cs .units) 0) (machine cs .units 0) (i .core .matches .units 0 (sound-of s ok .n1)) (d .report (sym (over-is cs) ∙ e))
+          (reports order (instanceOf s) (sound-of s ok) (unitAt (run order (instanceOf s) cs .units) 0) (machine cs .units 0) (i .core .matches .units 0 (sound-of s ok .n1)) (d .report (sym (over-is cs) ∙ e))
           (i .kept .network .safe 0 (sound-of s ok .n1) .stop refl (sym (over-is cs) ∙ e)))
 
   -- ---- its end
 
   -- every list of cells goes on to one after which box 1 has stopped
-  pub finishes : (cs : List ℕ) → (ds : List ℕ) × (over (runBytes s pool (cs ++ ds)) ≡ true)
+  pub finishes : (cs : List ℕ) → (ds : List ℕ) × (over (runBytes order s pool (cs ++ ds)) ≡ true)
   finishes cs =
-      let f = T.finishes (problemOf (instanceOf s)) (laws s ok) (sound-of s ok .n1) poolCells (T.enough-room (problemOf (instanceOf s)) (laws s ok) (sound-of s ok .n1) (sound-of s ok .n16)) cs in
+      let f = T.finishes (problemBy order (instanceOf s)) (laws order s ok) (sound-of s ok .n1) poolCells (T.enough-room (problemBy order (instanceOf s)) (laws order s ok) (sound-of s ok .n1) (sound-of s ok .n16)) cs in
       (f .0, over-is (cs ++ f .0) ∙ f .1)
 
   -- Oldest first, cell 0 each time, is accepted until box 1 stops, and brings the run to its end.
-  pub oldest-accepted : (m : ℕ) → over (runBytes s pool (replicate m 0)) ≡ false → refusalAt s (runBytes s pool (replicate m 0)) 0 ≡ 0
+  pub oldest-accepted : (m : ℕ) → over (runBytes order s pool (replicate m 0)) ≡ false → refusalAt order s (runBytes order s pool (replicate m 0)) 0 ≡ 0
   oldest-accepted m e =
       accepted-by (replicate m 0) 0
-      (O.oldest-accepted (problemOf (instanceOf s)) (laws s ok) (sound-of s ok .n1) poolCells (O.enough-oldest (problemOf (instanceOf s)) (sound-of s ok .n16)) m (sym (over-is (replicate m 0)) ∙ e))
+      (O.oldest-accepted (problemBy order (instanceOf s)) (laws order s ok) (sound-of s ok .n1) poolCells (O.enough-oldest (problemBy order (instanceOf s)) (sound-of s ok .n16)) m (sym (over-is (replicate m 0)) ∙ e))
 
-  pub oldest-ends : over (runBytes s pool (replicate (most (instanceOf s)) 0)) ≡ true
-  oldest-ends = over-is (replicate (most (instanceOf s)) 0) ∙ O.oldest-ends (problemOf (instanceOf s)) (laws s ok) (sound-of s ok .n1) poolCells (O.enough-oldest (problemOf (instanceOf s)) (sound-of s ok .n16))
+  pub oldest-ends : over (runBytes order s pool (replicate (most (instanceOf s)) 0)) ≡ true
+  oldest-ends = over-is (replicate (most (instanceOf s)) 0) ∙ O.oldest-ends (problemBy order (instanceOf s)) (laws order s ok) (sound-of s ok .n1) poolCells (O.enough-oldest (problemBy order (instanceOf s)) (sound-of s ok .n16))
 
 -- ---- two runs of one table
 
--- DEMAND 3: for every table that making accepts, any two pools, and any two lists of cells.
-pub demand3 : (s pool pool′ : List ℕ) → Made s pool → Made s pool′ → (cells cells′ : List ℕ) → Demand3 s pool cells pool′ cells′
-demand3 s pool pool′ made made′ cells cells′ =
+-- DEMAND 3: for every table that making accepts, any two orders of values, any two pools, and any two lists of cells.
+pub demand3 : (s : List ℕ) (order : ValueOrder) (pool : List ℕ) → Made order s pool → (cells : List ℕ) (order′ : ValueOrder) (pool′ : List ℕ) → Made order′ s pool′ → (cells′ : List ℕ)
+    → Demand3 s order pool cells order′ pool′ cells′
+demand3 s order pool made cells order′ pool′ made′ cells′ =
     record {
       one = one;
       other = other;
       agree = λ e e′. reported-same (instanceOf s) _ _ _ _ (one .reported e) (other .reported e′);
     }
   where
-    one : Served s pool cells
-    one = served s pool made cells
+    one : Served order s pool cells
+    one = served order s pool made cells
 
-    other : Served s pool′ cells′
-    other = served s pool′ made′ cells′
+    other : Served order′ s pool′ cells′
+    other = served order′ s pool′ made′ cells′

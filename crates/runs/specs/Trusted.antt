@@ -13,6 +13,7 @@ use Rattle.base.specs.Bytes.Laws.{AllBytes}
 use Rattle.base.specs.Limits.{poolCells, sendingSize, messageSize}
 use Rattle.table.specs.Stream.{unitsOf}
 use Rattle.table.specs.StreamLaws.{accepted-units}
+use Rattle.costs.specs.declared.ValueOrder.{ValueOrder}
 use Rattle.costs.specs.Gather.{sizesIn}
 use Rattle.costs.specs.Gathered.{gathered}
 use Rattle.costs.specs.Gather.Sizes.{length-sizes}
@@ -37,37 +38,37 @@ use Rattle.runs.specs.Calls.{Result, deliverRefusal, receiverOf, stepFro
 use Rattle.runs.specs.Code.{Open, opened, deliver-goes, Stepping, Stepped, passes, step-told, stepping, hand-sent, hand-refuses, hand-stores, storedAnswer, storedPool, pred-sub}
 
 -- the step that trusts, lent what the stream says
-trusted-told : (s : List ℕ) (own : ℕ) (u : UnitState) (us : List UnitState) → unitAt us (pred own) ≡ u → Stepping s own u → (n : ℕ) (sizes costs bytes before after : List ℕ) (r : Outcome) → n ≡ unitsOf s
+trusted-told : (order : ValueOrder) (s : List ℕ) (own : ℕ) (u : UnitState) (us : List UnitState) → unitAt us (pred own) ≡ u → Stepping order s own u → (n : ℕ) (sizes costs bytes before after : List ℕ) (r : Outcome) → n ≡ unitsOf s
     → sizes ≡ sizesIn s → costs ≡ gathered s own → sendingSize ≤ length before → (k : Kind) → parseFor (unitsOf s) (sizesIn s) own bytes .answer ≡ Good k
-    → r ≡ outcomeOf n (pred own) u (trustedOut u own n sizes costs bytes (length before)) → after ≡ bytesOf n (pred own) before (trustedOut u own n sizes costs bytes (length before))
-    → Stepped s own u bytes before r after
-trusted-told s own u us at g n sizes costs bytes before after r units array lent fits k good e f =
-    step-told s own u g n sizes costs bytes before after r units array lent fits (e ∙ ap (λ (o : Decision). outcomeOf n (pred own) u o) same) (f ∙ ap (λ (o : Decision). bytesOf n (pred own) before o) same)
+    → r ≡ outcomeOf n (pred own) u (trustedOut order u own n sizes costs bytes (length before)) → after ≡ bytesOf n (pred own) before (trustedOut order u own n sizes costs bytes (length before))
+    → Stepped order s own u bytes before r after
+trusted-told order s own u us at g n sizes costs bytes before after r units array lent fits k good e f =
+    step-told order s own u g n sizes costs bytes before after r units array lent fits (e ∙ ap (λ (o : Decision). outcomeOf n (pred own) u o) same) (f ∙ ap (λ (o : Decision). bytesOf n (pred own) before o) same)
   where
-    same : trustedOut u own n sizes costs bytes (length before) ≡ stepOut u own n sizes costs bytes (length before)
+    same : trustedOut order u own n sizes costs bytes (length before) ≡ stepOut order u own n sizes costs bytes (length before)
     same =
         let long : unitsOf s ≤ length (sizesIn s) = omega (arith, length-sizes s, accepted-units s (g .table) .1) in
-        let p = passes s (g .table) us own (g .first) (g .last) (rw at (g .state)) bytes (length before) fits in
-        rw (units, array, lent) (trusted-steps u own (unitsOf s) (sizesIn s) (gathered s own) (length before) (rw at at p) long bytes k good)
+        let p = passes order s (g .table) us own (g .first) (g .last) (rw at (g .state)) bytes (length before) fits in
+        rw (units, array, lent) (trusted-steps order u own (unitsOf s) (sizesIn s) (gathered s own) (length before) (rw at at p) long bytes k good)
 
-module _ (net : Network) (s pool : List ℕ) (cell : ℕ) (accepted : deliverOf net s pool cell .answer .refusal ≡ 0) where
-  unrefused : deliverRefusal net s pool cell ≡ 0
+module _ (order : ValueOrder) (net : Network) (s pool : List ℕ) (cell : ℕ) (accepted : deliverOf order net s pool cell .answer .refusal ≡ 0) where
+  unrefused : deliverRefusal order net s pool cell ≡ 0
   unfolding deliverOf
-  unrefused = go (deliverRefusal net s pool cell) accepted
+  unrefused = go (deliverRefusal order net s pool cell) accepted
     where
-      go : (r : ℕ) → deliverBy r net s pool cell .answer .refusal ≡ 0 → r ≡ 0
+      go : (r : ℕ) → deliverBy order r net s pool cell .answer .refusal ≡ 0 → r ≡ 0
       go zero e = refl
       go (suc r) e = e
 
-  pub checks : Open net s pool cell
-  checks = opened net s pool cell unrefused
+  pub checks : Open order net s pool cell
+  checks = opened order net s pool cell unrefused
 
-  goes : deliverBy 0 net s pool cell .answer .refusal ≡ 0
-  goes = ap (λ (x : Result). x .answer .refusal) (deliver-goes net s pool cell unrefused) ∙ accepted
+  goes : deliverBy order 0 net s pool cell .answer .refusal ≡ 0
+  goes = ap (λ (x : Result). x .answer .refusal) (deliver-goes order net s pool cell unrefused) ∙ accepted
 
   -- its packet reads well
   module _ (own : ℕ) (named : own ≡ receiverOf (unitsOf s) (cellOf pool cell)) where
-    unread : (r : ℕ) → parseFor (unitsOf s) (sizesIn s) own (cellOf pool cell) .answer ≡ Refused r → stepFrom8 s (net .core .units) own (cellOf pool cell) ≡ refused r
+    unread : (r : ℕ) → parseFor (unitsOf s) (sizesIn s) own (cellOf pool cell) .answer ≡ Refused r → stepFrom8 order s (net .core .units) own (cellOf pool cell) ≡ refused r
     unfolding stepFrom8
     unread r e = rw e
 
@@ -78,38 +79,38 @@ module _ (net : Network) (s pool : List ℕ) (cell : ℕ) (accepted : deliverOf 
         go (Good k) e f = (k, e)
         go (Refused r) e f =
             let z : r ≡ 0 =
-            ap (λ (o : Decision). onOut net pool cell (unitsOf s) own o .answer .refusal) (sym (unread r e)) ∙ ap (λ (i : ℕ). onOut net pool cell (unitsOf s) i (stepFrom8 s (net .core .units) i (cellOf pool cell)) .answer .refusal) named ∙ goes in
+            ap (λ (o : Decision). onOut net pool cell (unitsOf s) own o .answer .refusal) (sym (unread r e)) ∙ ap (λ (i : ℕ). onOut net pool cell (unitsOf s) i (stepFrom8 order s (net .core .units) i (cellOf pool cell)) .answer .refusal) named ∙ goes in
             absurd (omega (arith, f, z))
 
   -- ---- n and own as the code has them, and the cell's m bytes
 
   module _ (n own m : ℕ) (units : n ≡ unitsOf s) (size : m ≡ messageSize) (named : own ≡ receiverOf n (take m (drop (messageSize * cell) pool))) (u : UnitState) (at : u ≡ unitAt (net .core .units) (own - 1))
       (sizes costs before out : List ℕ) (array : sizes ≡ sizesIn s) (lent : costs ≡ gathered s own) (fits : sendingSize ≤ length before) (r : Outcome)
-      (told : r ≡ outcomeOf n (pred own) u (trustedOut u own n sizes costs (take m (drop (messageSize * cell) pool)) (length before)))
-      (left : out ≡ bytesOf n (pred own) before (trustedOut u own n sizes costs (take m (drop (messageSize * cell) pool)) (length before))) (arrays : SizedUnit u) (all : AllBytes (take m (drop (messageSize * cell) pool))) where
+      (told : r ≡ outcomeOf n (pred own) u (trustedOut order u own n sizes costs (take m (drop (messageSize * cell) pool)) (length before)))
+      (left : out ≡ bytesOf n (pred own) before (trustedOut order u own n sizes costs (take m (drop (messageSize * cell) pool)) (length before))) (arrays : SizedUnit u) (all : AllBytes (take m (drop (messageSize * cell) pool))) where
     named-is : own ≡ receiverOf (unitsOf s) (cellOf pool cell)
     named-is = named ∙ rw (units, size)
 
     good : (k : Kind) × (parseFor (unitsOf s) (sizesIn s) own (take m (drop (messageSize * cell) pool)) .answer ≡ Good k)
     good = rw size (reads own named-is)
 
-    steps : Stepped s own u (take m (drop (messageSize * cell) pool)) before r out
+    steps : Stepped order s own u (take m (drop (messageSize * cell) pool)) before r out
     steps =
-        trusted-told s own u (net .core .units) (ap (λ (k : ℕ). unitAt (net .core .units) k) (pred-sub own) ∙ sym at) (stepping net s pool cell checks n own m units size named u at) n sizes costs (take m (drop (messageSize * cell) pool))
+        trusted-told order s own u (net .core .units) (ap (λ (k : ℕ). unitAt (net .core .units) k) (pred-sub own) ∙ sym at) (stepping order net s pool cell checks n own m units size named u at) n sizes costs (take m (drop (messageSize * cell) pool))
         before out r units array lent fits (good .0) (good .1) told left
 
     pub trusted-sent : r .sent ≤ 16
-    trusted-sent = hand-sent net s pool cell checks n own m units size named u at before out r steps arrays all
+    trusted-sent = hand-sent order net s pool cell checks n own m units size named u at before out r steps arrays all
 
     unrefused-step : r .refusal ≡ 0
     unrefused-step = go (eqb (r .refusal) 0) refl
       where
         go : (t : Bool) → eqb (r .refusal) 0 ≡ t → r .refusal ≡ 0
         go true e = eqb-true (r .refusal) 0 e
-        go false e = ap (λ (x : Answer). x .refusal) (hand-refuses net s pool cell checks n own m units size named u at before out r steps arrays all (eqb-false (r .refusal) 0 e) .0) ∙ goes
+        go false e = ap (λ (x : Answer). x .refusal) (hand-refuses order net s pool cell checks n own m units size named u at before out r steps arrays all (eqb-false (r .refusal) 0 e) .0) ∙ goes
 
-    stores : (storedAnswer net own r ≡ deliverBy 0 net s pool cell .answer) × (storedPool net cell r out pool ≡ deliverBy 0 net s pool cell .pool)
-    stores = hand-stores net s pool cell checks n own m units size named u at before out r steps arrays all unrefused-step
+    stores : (storedAnswer net own r ≡ deliverBy order 0 net s pool cell .answer) × (storedPool net cell r out pool ≡ deliverBy order 0 net s pool cell .pool)
+    stores = hand-stores order net s pool cell checks n own m units size named u at before out r steps arrays all unrefused-step
 
     -- all that it sends fits
     room : leb (net .used - 1 + r .sent) poolCells ≡ true
@@ -122,19 +123,19 @@ module _ (net : Network) (s pool : List ℕ) (cell : ℕ) (accepted : deliverOf 
     pub trusted-room : net .used - 1 + r .sent ≤ poolCells
     trusted-room = leb-true (net .used - 1 + r .sent) poolCells room
 
-    pub trusted-gives : (record { refusal = 0; network = stepped net own (r .unit) (r .sent) (r .records) } ≡ deliverOf net s pool cell .answer)
-        × (paste (closeGap pool (messageSize * cell) (messageSize * net .used)) (messageSize * (net .used - 1)) out (messageSize * r .sent) ≡ deliverOf net s pool cell .pool)
+    pub trusted-gives : (record { refusal = 0; network = stepped net own (r .unit) (r .sent) (r .records) } ≡ deliverOf order net s pool cell .answer)
+        × (paste (closeGap pool (messageSize * cell) (messageSize * net .used)) (messageSize * (net .used - 1)) out (messageSize * r .sent) ≡ deliverOf order net s pool cell .pool)
     trusted-gives =
-        let e = deliver-goes net s pool cell unrefused in
+        let e = deliver-goes order net s pool cell unrefused in
         let t = stores in
         (rw room at (t .0) ∙ ap (λ (x : Result). x .answer) e, rw room at (t .1) ∙ ap (λ (x : Result). x .pool) e)
 
 -- ---- the oldest message, cell 0, of a network whose next delivery of it is accepted; the unit that it is for, and the costs lent with it
 
-pub record Oldest (u : UnitState) (own n : ℕ) (sizes costs pool : List ℕ) (used : ℕ) : Type 0 where
+pub record Oldest (order : ValueOrder) (u : UnitState) (own n : ℕ) (sizes costs pool : List ℕ) (used : ℕ) : Type 0 where
   pub stream : List ℕ
   pub net : Network
-  pub accepted : deliverOf net stream pool 0 .answer .refusal ≡ 0
+  pub accepted : deliverOf order net stream pool 0 .answer .refusal ≡ 0
   pub units : n ≡ unitsOf stream
   pub array : sizes ≡ sizesIn stream
   pub named : own ≡ receiverOf n (take messageSize (drop 0 pool))
@@ -144,27 +145,27 @@ pub record Oldest (u : UnitState) (own n : ℕ) (sizes costs pool : List ℕ) (u
   pub bytes : AllBytes (take messageSize (drop 0 pool))
 
 -- it is handed over: r is what its unit gave, and `after` the pool then
-abbrev pub Handed : {u : UnitState} {own n : ℕ} {sizes costs pool : List ℕ} {used : ℕ} → Oldest u own n sizes costs pool used → Outcome → List ℕ → Type 0
-Handed {u} {own} {n} {sizes} {costs} {pool} {used} t r after =
-    (record { refusal = 0; network = stepped (t .net) own (r .unit) (r .sent) (r .records) } ≡ deliverOf (t .net) (t .stream) pool 0 .answer)
-    × (after ≡ deliverOf (t .net) (t .stream) pool 0 .pool) × (used - 1 + r .sent ≤ poolCells)
+abbrev pub Handed : {order : ValueOrder} {u : UnitState} {own n : ℕ} {sizes costs pool : List ℕ} {used : ℕ} → Oldest order u own n sizes costs pool used → Outcome → List ℕ → Type 0
+Handed {order} {u} {own} {n} {sizes} {costs} {pool} {used} t r after =
+    (record { refusal = 0; network = stepped (t .net) own (r .unit) (r .sent) (r .records) } ≡ deliverOf order (t .net) (t .stream) pool 0 .answer)
+    × (after ≡ deliverOf order (t .net) (t .stream) pool 0 .pool) × (used - 1 + r .sent ≤ poolCells)
 
-module _ {u : UnitState} {own n : ℕ} {sizes costs pool : List ℕ} {used : ℕ} (t : Oldest u own n sizes costs pool used) (before out : List ℕ) (fits : sendingSize ≤ length before) (r : Outcome)
-    (told : r ≡ outcomeOf n (pred own) u (trustedOut u own n sizes costs (take messageSize (drop 0 pool)) (length before)))
-    (left : out ≡ bytesOf n (pred own) before (trustedOut u own n sizes costs (take messageSize (drop 0 pool)) (length before))) (arrays : SizedUnit u) where
-  pub oldest-open : Open (t .net) (t .stream) pool 0
-  oldest-open = checks (t .net) (t .stream) pool 0 (t .accepted)
+module _ {order : ValueOrder} {u : UnitState} {own n : ℕ} {sizes costs pool : List ℕ} {used : ℕ} (t : Oldest order u own n sizes costs pool used) (before out : List ℕ) (fits : sendingSize ≤ length before) (r : Outcome)
+    (told : r ≡ outcomeOf n (pred own) u (trustedOut order u own n sizes costs (take messageSize (drop 0 pool)) (length before)))
+    (left : out ≡ bytesOf n (pred own) before (trustedOut order u own n sizes costs (take messageSize (drop 0 pool)) (length before))) (arrays : SizedUnit u) where
+  pub oldest-open : Open order (t .net) (t .stream) pool 0
+  oldest-open = checks order (t .net) (t .stream) pool 0 (t .accepted)
 
   pub oldest-sent : r .sent ≤ 16
   oldest-sent =
-      trusted-sent (t .net) (t .stream) pool 0 (t .accepted) n own messageSize (t .units) refl (t .named) u (t .unit) sizes costs before out (t .array) (t .lent) fits r told left arrays (t .bytes)
+      trusted-sent order (t .net) (t .stream) pool 0 (t .accepted) n own messageSize (t .units) refl (t .named) u (t .unit) sizes costs before out (t .array) (t .lent) fits r told left arrays (t .bytes)
 
   pub oldest-room : used - 1 + r .sent ≤ poolCells
   oldest-room =
       rw (t .count)
-      (trusted-room (t .net) (t .stream) pool 0 (t .accepted) n own messageSize (t .units) refl (t .named) u (t .unit) sizes costs before out (t .array) (t .lent) fits r told left arrays (t .bytes))
+      (trusted-room order (t .net) (t .stream) pool 0 (t .accepted) n own messageSize (t .units) refl (t .named) u (t .unit) sizes costs before out (t .array) (t .lent) fits r told left arrays (t .bytes))
 
   pub oldest-handed : (after : List ℕ) → after ≡ paste (closeGap pool 0 (messageSize * used)) (messageSize * (used - 1)) out (messageSize * r .sent) → Handed t r after
   oldest-handed after e =
-      let g = trusted-gives (t .net) (t .stream) pool 0 (t .accepted) n own messageSize (t .units) refl (t .named) u (t .unit) sizes costs before out (t .array) (t .lent) fits r told left arrays (t .bytes) in
+      let g = trusted-gives order (t .net) (t .stream) pool 0 (t .accepted) n own messageSize (t .units) refl (t .named) u (t .unit) sizes costs before out (t .array) (t .lent) fits r told left arrays (t .bytes) in
       (g .0, e ∙ rw (t .count) (g .1), oldest-room)

@@ -21,6 +21,7 @@ use Rattle.table.specs.StreamLaws.{opening-most, opening-two, form-two, unaries
 use Rattle.costs.specs.declared.Cost.the-variants.{Of, Forbidden}
 use Rattle.costs.specs.Cost.{_⊕_, pairCost}
 use Rattle.costs.specs.Cost.Laws.{most-is}
+use Rattle.costs.specs.declared.ValueOrder.the-variants.{Ascending}
 use Rattle.costs.specs.Instance.{Instance, instanceOf, viewOf, pairStart, inPair, tableUnary, unaryOf, domOf}
 use Rattle.costs.specs.Bounds.{costWith, total, prefixCount}
 use Rattle.costs.specs.Gather.Steps.{size-some}
@@ -196,7 +197,7 @@ module _ {s starts : List ℕ} {k d v : ℕ} {l : List ℕ} (x : Adding s starts
   pair-read =
       let q : instanceOf s .dom i ≡ domOf s i = ap (λ (f : ℕ → ℕ). f i) (instance-dom s) in
       let start : getD starts (16 * k + i) 0 ≡ startAt s i k = x .filled .at i k h (x .inside) (omega (arith, x .most)) in
-      pair-before (instanceOf s) k i (getD l i 0) v h
+      pair-before Ascending (instanceOf s) k i (getD l i 0) v h
       ∙ rw (read, start, x .size) (cost-at s i k (getD l i 0) v h (x .inside) (x .values i h .0) (omega (arith, x .values i h .1)) (x .v1) (omega (arith, x .vd, x .size)))
 
   -- a forbidden pair
@@ -212,7 +213,7 @@ module _ {s starts : List ℕ} {k d v : ℕ} {l : List ℕ} (x : Adding s starts
     cost-turn sum e = sym (cost-more (viewOf (instanceOf s) k) l i v ∙ rw (pair-number, ← e))
 
     pub cost-small : number ≤ pairLimit
-    cost-small = most-is pairLimit number (instanceOf s .cost i (getD l i 0) k v) (sym (pair-before (instanceOf s) k i (getD l i 0) v h) ∙ pair-number) (sound-of s (x .accepted) .small i (getD l i 0) k v)
+    cost-small = most-is pairLimit number (instanceOf s .cost i (getD l i 0) k v) (sym (pair-before Ascending (instanceOf s) k i (getD l i 0) v h) ∙ pair-number) (sound-of s (x .accepted) .small i (getD l i 0) k v)
 
 -- ---- the next choice
 
@@ -264,7 +265,7 @@ module _ {s starts : List ℕ} {first left level cost : ℕ} {chosen : List ℕ}
       next-cost : costOf (instanceOf s) (pre (level + 1) (set chosen level v)) ≡ Of cost ⊕ costWith (viewOf (instanceOf s) level) chosen level v
       next-cost =
           let next : pre (level + 1) (set chosen level v) ≡ v ∷ pre level chosen = rw add-one (pre-set-next level chosen v (omega (arith, x .sized .most))) in
-          rw (next, x .costs) (sym (cost-next (instanceOf s) level chosen v))
+          rw (next, x .costs) (sym (cost-next Ascending (instanceOf s) level chosen v))
 
       -- which is forbidden
       pub forbidden-next : (b : Best) → b .total ≤ NONE → costWith (viewOf (instanceOf s) level) chosen level v ≡ Forbidden → withValue (instanceOf s) left level chosen v b ≡ b

@@ -1,44 +1,73 @@
-// Prints the listings of the sample sheds of data/, each after its name; then that of T with the newest message delivered each time,
-// and with counts past one word.
+// Prints the listings of the sample sheds of data/, each after its name, values tried ascending; that of T with the newest message delivered
+// each time, and with counts past one word; then listings with the cheapest value tried first.
 use base::FILE_ROOM;
+use costs::ValueOrder;
 use libc::STDOUT_FILENO;
 use network::Core;
 use network::Count;
 use network::Network;
 
 fn main() {
-    // 1 to 6 units; equal totals; no costs; all costs equal; 16 values; 8, 12 and 16 units
-    show(b"one-unit.table");
-    show(b"t.table");
-    show(b"three.table");
-    show(b"three-zero.table");
-    show(b"four-ties.table");
-    show(b"equal.table");
-    show(b"five.table");
-    show(b"six.table");
-    show(b"two-by-sixteen.table");
-    show(b"eight.table");
-    show(b"sparse-twelve.table");
-    show(b"readings-sixteen.table");
-    // barred pairs; no assignment without one, found after some deliveries, and when unit 1 is made
-    show(b"barred-five.table");
-    show(b"none-three.table");
-    show(b"none-at-once.table");
-    // unary costs, with barred pairs in the first; one unit, whose lots cost 7, 2 and 5
-    show(b"priced-five.table");
-    show(b"priced-three.table");
-    show(b"priced-one.table");
-    // a size of 17
-    show(b"bad.table");
+    ascending();
     // 01's case 9: 5 records, 10 deliveries, the most allowed
     io::write_all(STDOUT_FILENO, b"T, newest first\n");
     let net = newest_first();
     report::print_network(2, net);
     io::write_all(STDOUT_FILENO, b"the same, counted past one word\n");
     report::print_network(2, recounted(net));
+    cheapest();
 }
 
-fn show(name: &[u8]) {
+// Document 01's listings.
+fn ascending() {
+    let order = ValueOrder::Ascending;
+    // 1 to 6 units; equal totals; no costs; all costs equal; 16 values; 8, 12 and 16 units
+    show(order, b"one-unit.table");
+    show(order, b"t.table");
+    show(order, b"three.table");
+    show(order, b"three-zero.table");
+    show(order, b"four-ties.table");
+    show(order, b"equal.table");
+    show(order, b"five.table");
+    show(order, b"six.table");
+    show(order, b"two-by-sixteen.table");
+    show(order, b"eight.table");
+    show(order, b"sparse-twelve.table");
+    show(order, b"readings-sixteen.table");
+    // barred pairs; no assignment without one, found after some deliveries, and when unit 1 is made
+    show(order, b"barred-five.table");
+    show(order, b"none-three.table");
+    show(order, b"none-at-once.table");
+    // unary costs, with barred pairs in the first; one unit, whose lots cost 7, 2 and 5
+    show(order, b"priced-five.table");
+    show(order, b"priced-three.table");
+    show(order, b"priced-one.table");
+    // a size of 17
+    show(order, b"bad.table");
+}
+
+// 02, job 9: by rising h.
+fn cheapest() {
+    io::write_all(STDOUT_FILENO, b"cheapest first\n");
+    let order = ValueOrder::CheapestFirst;
+    show(order, b"one-unit.table");
+    show(order, b"t.table");
+    show(order, b"three.table");
+    show(order, b"four-ties.table");
+    show(order, b"six.table");
+    show(order, b"two-by-sixteen.table");
+    show(order, b"eight.table");
+    show(order, b"sparse-twelve.table");
+    show(order, b"readings-sixteen.table");
+    show(order, b"barred-five.table");
+    show(order, b"none-three.table");
+    show(order, b"none-at-once.table");
+    show(order, b"priced-five.table");
+    show(order, b"priced-three.table");
+    show(order, b"bad.table");
+}
+
+fn show(order: ValueOrder, name: &[u8]) {
     let mut file = [0u8; FILE_ROOM];
     let fd = os::open_read(name);
     if fd < 0 {
@@ -49,14 +78,14 @@ fn show(name: &[u8]) {
     libc::close(fd);
     io::write_all(STDOUT_FILENO, name);
     io::write_all(STDOUT_FILENO, b"\n");
-    report::print_settled(&file[..n]);
+    report::print_settled_by(order, &file[..n]);
 }
 
 // The run of T that delivers the last cell each time, 10 times.
 fn newest_first() -> Network {
     let stream = [2u8, 2, 2, 5, 0, 3, 0, 2, 0, 4, 0];
     let mut pool = [0u8; base::POOL_SIZE];
-    let made = network::make(&stream, &mut pool);
+    let made = network::make_by(ValueOrder::Ascending, &stream, &mut pool);
     let mut net = made.network;
     let mut k: usize = 0;
     while k < 10 {
@@ -92,6 +121,6 @@ fn newest(net: Network, stream: &[u8], pool: &mut [u8]) -> Network {
     if used == 0 {
         return net;
     }
-    let next = network::deliver(net, stream, pool, used - 1);
+    let next = network::deliver_by(ValueOrder::Ascending, net, stream, pool, used - 1);
     next.network
 }

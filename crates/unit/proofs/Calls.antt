@@ -11,6 +11,7 @@ use Rattle.base.specs.Refusal.Laws.{or-first}
 use Rattle.base.specs.Shape.{shapeGood}
 use Rattle.base.specs.Shape.Laws.{shape-n}
 use Rattle.costs.specs.declared.Seat.{Seat}
+use Rattle.costs.specs.declared.ValueOrder.{ValueOrder}
 use Rattle.costs.specs.Instance.{View, lentView, viewFrom}
 use Rattle.costs.specs.Lent.{lentRefusal}
 use Rattle.message.specs.declared.Message.{Message}
@@ -100,23 +101,23 @@ module _ (seat : Seat) (costs : List ℕ) where
     unfolding makeRefusal
     make-0 room z l = rw (← e, z, le-ltb room 1024 l)
 
-    pub range-seat : (u : Unit) → (r ≡ 0 → ⊥) → r ≡ rangeRefusal u (seat .own) (seat .n) (seat .sizes) costs
+    pub range-seat : (u : Unit) → (r ≡ 0 → ⊥) → r ≡ rangeRefusal (seat .order) u (seat .own) (seat .n) (seat .sizes) costs
     unfolding rangeRefusal
     range-seat u h = rw (← e, or-first r _ h)
 
-    pub range-5 : (u : Unit) → r ≡ 0 → inRange (seat .sizes) (viewFrom seat costs) u ≡ false → 5 ≡ rangeRefusal u (seat .own) (seat .n) (seat .sizes) costs
+    pub range-5 : (u : Unit) → r ≡ 0 → inRange (seat .sizes) (viewFrom seat costs) u ≡ false → 5 ≡ rangeRefusal (seat .order) u (seat .own) (seat .n) (seat .sizes) costs
     unfolding rangeRefusal
     range-5 u z f = rw (← e, z, f)
 
-    pub range-0 : (u : Unit) → r ≡ 0 → inRange (seat .sizes) (viewFrom seat costs) u ≡ true → 0 ≡ rangeRefusal u (seat .own) (seat .n) (seat .sizes) costs
+    pub range-0 : (u : Unit) → r ≡ 0 → inRange (seat .sizes) (viewFrom seat costs) u ≡ true → 0 ≡ rangeRefusal (seat .order) u (seat .own) (seat .n) (seat .sizes) costs
     unfolding rangeRefusal
     range-0 u z f = rw (← e, z, f)
 
-  pub step-13 : (u : Unit) (room : ℕ) → room < 1024 → 13 ≡ stepRefusal u (seat .own) (seat .n) (seat .sizes) costs room
+  pub step-13 : (u : Unit) (room : ℕ) → room < 1024 → 13 ≡ stepRefusal (seat .order) u (seat .own) (seat .n) (seat .sizes) costs room
   unfolding stepRefusal
   step-13 u room l = rw (lt-ltb room 1024 l)
 
-  pub step-range : (u : Unit) (room : ℕ) → 1024 ≤ room → rangeRefusal u (seat .own) (seat .n) (seat .sizes) costs ≡ stepRefusal u (seat .own) (seat .n) (seat .sizes) costs room
+  pub step-range : (u : Unit) (room : ℕ) → 1024 ≤ room → rangeRefusal (seat .order) u (seat .own) (seat .n) (seat .sizes) costs ≡ stepRefusal (seat .order) u (seat .own) (seat .n) (seat .sizes) costs room
   unfolding stepRefusal
   step-range u room l = rw (le-ltb room 1024 l)
 
@@ -126,24 +127,24 @@ unless : (r : ℕ) (o : Decision) → (r ≡ 0 → ⊥) → unlessRefused r o �
 unless zero o h = absurd (h refl)
 unless (suc r) o h = refl
 
-module _ (own n : ℕ) (sizes costs : List ℕ) (room : ℕ) where
-  pub make-stops : (r : ℕ) → r ≡ makeRefusal own n sizes costs room → (r ≡ 0 → ⊥) → makeOut own n sizes costs room ≡ refused r
+module _ (order : ValueOrder) (own n : ℕ) (sizes costs : List ℕ) (room : ℕ) where
+  pub make-stops : (r : ℕ) → r ≡ makeRefusal own n sizes costs room → (r ≡ 0 → ⊥) → makeOut order own n sizes costs room ≡ refused r
   unfolding makeOut
   make-stops r e h = rw (← e) (unless r _ h)
 
-  pub make-starts : (r : ℕ) → r ≡ makeRefusal own n sizes costs room → r ≡ 0 → makeOut own n sizes costs room ≡ start (lentView own n sizes costs) (pred own)
+  pub make-starts : (r : ℕ) → r ≡ makeRefusal own n sizes costs room → r ≡ 0 → makeOut order own n sizes costs room ≡ start (lentView order own n sizes costs) (pred own)
   unfolding makeOut
   make-starts r e h = rw (← e, h)
 
-module _ (own n : ℕ) (sizes costs out : List ℕ) (m : Makes own n sizes costs (length out)) where
-  pub make-room : Room (seatAt own n sizes) out
-  make-room = room-of (seatAt own n sizes) out (m .shape) (m .unit) (m .fits)
+module _ (order : ValueOrder) (own n : ℕ) (sizes costs out : List ℕ) (m : Makes own n sizes costs (length out)) where
+  pub make-room : Room (seatAt order own n sizes) out
+  make-room = room-of (seatAt order own n sizes) out (m .shape) (m .unit) (m .fits)
 
-  pub make-few : n ≤ length sizes → (was : Unit) (d : Decided) → d ≡ decidedOf was (start (lentView own n sizes costs) (pred own)) → length (packets n (own - 1) (d .sending)) ≤ 16
+  pub make-few : n ≤ length sizes → (was : Unit) (d : Decided) → d ≡ decidedOf was (start (lentView order own n sizes costs) (pred own)) → length (packets n (own - 1) (d .sending)) ≤ 16
   unfolding lentView
   make-few long was d e =
-      let w : View = lentView own n sizes costs in
-      rw (← pred-sub own) (few-decided n sizes w was (start w (pred own)) d e (start-kept n sizes w (lent-good own n sizes costs (m .shape) long (m .unit) (m .lent)) (pred own) refl))
+      let w : View = lentView order own n sizes costs in
+      rw (← pred-sub own) (few-decided n sizes w was (start w (pred own)) d e (start-kept n sizes w (lent-good order own n sizes costs (m .shape) long (m .unit) (m .lent)) (pred own) refl))
 
 -- a new unit refuses nothing, so that what it decides doesn't keep the state before
 start-accepts : (w : View) (k : ℕ) → Accepts (start w k)
@@ -154,31 +155,31 @@ whoever : (was was′ : Unit) (o : Decision) → Accepts o → decidedOf was o �
 whoever was was′ (refused x) a = absurd a
 whoever was was′ (accepted u s ws) a = refl
 
-pub start-decides : (own n : ℕ) (sizes costs : List ℕ) (room : ℕ) → Makes own n sizes costs room → n ≤ length sizes → (was : Unit) (d : Decided) → d ≡ decidedOf fresh (startTo (seatAt own n sizes) costs)
-    → d ≡ decidedOf was (start (lentView own n sizes costs) (pred own))
-start-decides own n sizes costs room m long was d e =
-    e ∙ ap (λ (o : Decision). decidedOf fresh o) (starts own n sizes costs room m long) ∙ whoever fresh was (start (lentView own n sizes costs) (pred own)) (start-accepts (lentView own n sizes costs) (pred own))
+pub start-decides : (order : ValueOrder) (own n : ℕ) (sizes costs : List ℕ) (room : ℕ) → Makes own n sizes costs room → n ≤ length sizes → (was : Unit) (d : Decided) → d ≡ decidedOf fresh (startTo (seatAt order own n sizes) costs)
+    → d ≡ decidedOf was (start (lentView order own n sizes costs) (pred own))
+start-decides order own n sizes costs room m long was d e =
+    e ∙ ap (λ (o : Decision). decidedOf fresh o) (starts order own n sizes costs room m long) ∙ whoever fresh was (start (lentView order own n sizes costs) (pred own)) (start-accepts (lentView order own n sizes costs) (pred own))
 
 -- ---- a step
 
-module _ (u : Unit) (own n : ℕ) (sizes costs : List ℕ) (room : ℕ) where
-  module _ (bytes : List ℕ) (r : ℕ) (e : r ≡ stepRefusal u own n sizes costs room) where
-    pub step-stops : (r ≡ 0 → ⊥) → stepOut u own n sizes costs bytes room ≡ refused r
+module _ (order : ValueOrder) (u : Unit) (own n : ℕ) (sizes costs : List ℕ) (room : ℕ) where
+  module _ (bytes : List ℕ) (r : ℕ) (e : r ≡ stepRefusal order u own n sizes costs room) where
+    pub step-stops : (r ≡ 0 → ⊥) → stepOut order u own n sizes costs bytes room ≡ refused r
     unfolding stepOut
     step-stops h = rw (← e) (unless r _ h)
 
     -- 01: "unless reading gave a message, the step ends there"
-    pub step-unread : r ≡ 0 → (p : Parsed) → p ≡ parseFor n sizes own bytes → (x : ℕ) → p .answer ≡ Refused x → (y : ℕ) → y ≡ refusalOf (p .answer) → stepOut u own n sizes costs bytes room ≡ refused y
+    pub step-unread : r ≡ 0 → (p : Parsed) → p ≡ parseFor n sizes own bytes → (x : ℕ) → p .answer ≡ Refused x → (y : ℕ) → y ≡ refusalOf (p .answer) → stepOut order u own n sizes costs bytes room ≡ refused y
     unfolding stepOut
     step-unread z p f x a y g = rw (g, ← e, z, ← f, a)
 
-    pub step-reads : r ≡ 0 → (p : Parsed) → p ≡ parseFor n sizes own bytes → (k : Kind) → p .answer ≡ Good k → stepOut u own n sizes costs bytes room ≡ respond (lentView own n sizes costs) k u (p .message)
+    pub step-reads : r ≡ 0 → (p : Parsed) → p ≡ parseFor n sizes own bytes → (k : Kind) → p .answer ≡ Good k → stepOut order u own n sizes costs bytes room ≡ respond (lentView order own n sizes costs) k u (p .message)
     unfolding stepOut
     step-reads z p f k a = rw (← e, z, ← f, a)
 
-module _ (u : Unit) (own n : ℕ) (sizes costs out : List ℕ) (q : Passed u own n sizes costs (length out)) where
-  pub step-room : Room (seatAt own n sizes) out
-  step-room = room-of (seatAt own n sizes) out (q .shape) (q .unit) (q .fits)
+module _ (order : ValueOrder) (u : Unit) (own n : ℕ) (sizes costs out : List ℕ) (q : Passed order u own n sizes costs (length out)) where
+  pub step-room : Room (seatAt order own n sizes) out
+  step-room = room-of (seatAt order own n sizes) out (q .shape) (q .unit) (q .fits)
 
   module _ (long : n ≤ length sizes) (bytes : List ℕ) (p : Parsed) (read : p ≡ parseFor n sizes own bytes) (k : Kind) (good : p .answer ≡ Good k) where
     answered : parseFor n sizes own bytes .answer ≡ Good k
@@ -193,16 +194,16 @@ module _ (u : Unit) (own n : ℕ) (sizes costs out : List ℕ) (q : Passed u own
     to-own : p .message .receiver ≡ own
     to-own = rw fields (known .receiver)
 
-    pub step-decides : (d : Decided) → d ≡ decidedOf u (respondTo (seatAt own n sizes) costs k u (p .message)) → d ≡ decidedOf u (respond (lentView own n sizes costs) k u (p .message))
-    step-decides d e = e ∙ rw fields (ap (λ (o : Decision). decidedOf u o) (responds u own n sizes costs (length out) q long bytes k answered))
+    pub step-decides : (d : Decided) → d ≡ decidedOf u (respondTo (seatAt order own n sizes) costs k u (p .message)) → d ≡ decidedOf u (respond (lentView order own n sizes costs) k u (p .message))
+    step-decides d e = e ∙ rw fields (ap (λ (o : Decision). decidedOf u o) (responds order u own n sizes costs (length out) q long bytes k answered))
 
-    pub step-few : SizedUnit u → Sized (p .message) → (was : Unit) (d : Decided) → d ≡ decidedOf was (respond (lentView own n sizes costs) k u (p .message)) → length (packets n (own - 1) (d .sending)) ≤ 16
+    pub step-few : SizedUnit u → Sized (p .message) → (was : Unit) (d : Decided) → d ≡ decidedOf was (respond (lentView order own n sizes costs) k u (p .message)) → length (packets n (own - 1) (d .sending)) ≤ 16
     unfolding lentView
     step-few arrays z was d e =
-        let w : View = lentView own n sizes costs in
+        let w : View = lentView order own n sizes costs in
         let to : p .message .receiver ≡ suc (pred own) = omega (arith, to-own, unit-range n own (q .unit) .0) in
         rw (← pred-sub own) (few-decided n sizes w was (respond w k u (p .message)) d e
-        (respond-kept n sizes w (lent-good own n sizes costs (q .shape) long (q .unit) (q .lent)) k u (p .message) (q .state) arrays record { address = rw fields (known .address); form = rw fields (known .formed); arrays = z } to))
+        (respond-kept n sizes w (lent-good order own n sizes costs (q .shape) long (q .unit) (q .lent)) k u (p .message) (q .state) arrays record { address = rw fields (known .address); form = rw fields (known .formed); arrays = z } to))
 
 -- ---- a step on what is known to be good
 

@@ -1,2 +1,4 @@
--- What the proofs of making and a step share.
+-- What the proofs of making and of the steps share.
 pub mod Calls
+pub mod InPlace
+mod Steps

@@ -3,6 +3,7 @@
 mod send; // what is sent, laid into the lent buffer
 
 use costs::Seat;
+pub use costs::ValueOrder;
 pub use decide::fresh;
 pub use decide::in_range_paid;
 pub use decide::no_unit;
@@ -14,6 +15,7 @@ pub use rules::Unit;
 ghost use mathlib.Core.Path.{_≡_};
 ghost use Prim.Native.Nat.{ℕ, pred, _-_, _≤_};
 ghost use lib.ListN.{length};
+ghost use Rattle.costs.specs.Order.{defaultOrder};
 ghost use Rattle.rules.specs.State.{noUnit};
 ghost use Rattle.rules.specs.Step.{Decision, refused};
 ghost use Rattle.rules.specs.Send.{packets};
@@ -23,10 +25,30 @@ ghost use Rattle.rules.specs.Trusted.{trustedOut};
 ghost use Rattle.rules.specs.Ready.{decidedOf};
 
 // A unit is made: unit 1 assigns, the others wait. Refusals 5, 10, 6, 7, 13 in order.
+// Each call that is told no order of values has `by` one that is; these try the cheapest first.
 pub fn make(own: u8, n: u8, sizes: [u8; 16], costs: &[u8], out: &mut [u8]) -> Outcome
-    ensures { λ r. ⌜ (r ≡ outcomeOf n (pred own) noUnit (makeOut own n sizes (now (costs .entry)) (length (now (out .entry))))) × (now (out .exit) ≡ bytesOf n (pred own) (now (out .entry)) (makeOut own n sizes (now (costs .entry)) (length (now (out .entry))))) ⌝ }
+    ensures { λ r. ⌜ (r ≡ outcomeOf n (pred own) noUnit (makeOut defaultOrder own n sizes (now (costs .entry)) (length (now (out .entry))))) × (now (out .exit) ≡ bytesOf n (pred own) (now (out .entry)) (makeOut defaultOrder own n sizes (now (costs .entry)) (length (now (out .entry))))) ⌝ }
 {
-    let seat = Seat { own, n, sizes };
+    make_by(ValueOrder::CheapestFirst, own, n, sizes, costs, out)
+}
+
+// The same, values tried in this order.
+pub fn make_by(
+    order: ValueOrder,
+    own: u8,
+    n: u8,
+    sizes: [u8; 16],
+    costs: &[u8],
+    out: &mut [u8],
+) -> Outcome
+    ensures { λ r. ⌜ (r ≡ outcomeOf n (pred own) noUnit (makeOut order own n sizes (now (costs .entry)) (length (now (out .entry))))) × (now (out .exit) ≡ bytesOf n (pred own) (now (out .entry)) (makeOut order own n sizes (now (costs .entry)) (length (now (out .entry))))) ⌝ }
+{
+    let seat = Seat {
+        own,
+        n,
+        sizes,
+        order,
+    };
     let refusal = make_refusal(seat, costs, out.len());
     if refusal != 0 {
         return refused(refusal, no_unit());
@@ -45,9 +67,39 @@ pub fn step(
     packet: &[u8],
     out: &mut [u8],
 ) -> Outcome
-    ensures { λ r. ⌜ (r ≡ outcomeOf n (pred own) u (stepOut u own n sizes (now (costs .entry)) (now (packet .entry)) (length (now (out .entry))))) × (now (out .exit) ≡ bytesOf n (pred own) (now (out .entry)) (stepOut u own n sizes (now (costs .entry)) (now (packet .entry)) (length (now (out .entry))))) ⌝ }
+    ensures { λ r. ⌜ (r ≡ outcomeOf n (pred own) u (stepOut defaultOrder u own n sizes (now (costs .entry)) (now (packet .entry)) (length (now (out .entry))))) × (now (out .exit) ≡ bytesOf n (pred own) (now (out .entry)) (stepOut defaultOrder u own n sizes (now (costs .entry)) (now (packet .entry)) (length (now (out .entry))))) ⌝ }
 {
-    let seat = Seat { own, n, sizes };
+    step_by(
+        ValueOrder::CheapestFirst,
+        u,
+        own,
+        n,
+        sizes,
+        costs,
+        packet,
+        out,
+    )
+}
+
+// The same, values tried in this order.
+pub fn step_by(
+    order: ValueOrder,
+    u: Unit,
+    own: u8,
+    n: u8,
+    sizes: [u8; 16],
+    costs: &[u8],
+    packet: &[u8],
+    out: &mut [u8],
+) -> Outcome
+    ensures { λ r. ⌜ (r ≡ outcomeOf n (pred own) u (stepOut order u own n sizes (now (costs .entry)) (now (packet .entry)) (length (now (out .entry))))) × (now (out .exit) ≡ bytesOf n (pred own) (now (out .entry)) (stepOut order u own n sizes (now (costs .entry)) (now (packet .entry)) (length (now (out .entry))))) ⌝ }
+{
+    let seat = Seat {
+        own,
+        n,
+        sizes,
+        order,
+    };
     let refusal = step_refusal(seat, costs, u, out.len());
     if refusal != 0 {
         return refused(refusal, u);
@@ -63,8 +115,9 @@ pub fn step(
 }
 
 // The step on what is known to be good, as in a run that checked its table once: it asks only what it can't do without. Refusals 13, 8, 9, 5,
-// then 12, 11. On what `step` accepts it is the step.
-pub fn step_trusted(
+// then 12, 11. On what `step_by` accepts it is the step.
+pub fn step_trusted_by(
+    order: ValueOrder,
     u: Unit,
     own: u8,
     n: u8,
@@ -73,9 +126,14 @@ pub fn step_trusted(
     packet: &[u8],
     out: &mut [u8],
 ) -> Outcome
-    ensures { λ r. ⌜ (r ≡ outcomeOf n (pred own) u (trustedOut u own n sizes (now (costs .entry)) (now (packet .entry)) (length (now (out .entry))))) × (now (out .exit) ≡ bytesOf n (pred own) (now (out .entry)) (trustedOut u own n sizes (now (costs .entry)) (now (packet .entry)) (length (now (out .entry))))) ⌝ }
+    ensures { λ r. ⌜ (r ≡ outcomeOf n (pred own) u (trustedOut order u own n sizes (now (costs .entry)) (now (packet .entry)) (length (now (out .entry))))) × (now (out .exit) ≡ bytesOf n (pred own) (now (out .entry)) (trustedOut order u own n sizes (now (costs .entry)) (now (packet .entry)) (length (now (out .entry))))) ⌝ }
 {
-    let seat = Seat { own, n, sizes };
+    let seat = Seat {
+        own,
+        n,
+        sizes,
+        order,
+    };
     if out.len() < base::SENDING_SIZE {
         return refused(13, u);
     }
@@ -99,7 +157,7 @@ pub fn step_in_place(
     packet: &[u8],
     out: &mut [u8],
 ) -> Report
-    ensures { λ r. ⌜ (r ≡ numbersOf (outcomeOf n (pred own) (now (u .entry)) (stepOut (now (u .entry)) own n sizes (now (costs .entry)) (now (packet .entry)) (length (now (out .entry)))))) × (now (u .exit) ≡ outcomeOf n (pred own) (now (u .entry)) (stepOut (now (u .entry)) own n sizes (now (costs .entry)) (now (packet .entry)) (length (now (out .entry)))) .unit) × (now (out .exit) ≡ bytesOf n (pred own) (now (out .entry)) (stepOut (now (u .entry)) own n sizes (now (costs .entry)) (now (packet .entry)) (length (now (out .entry))))) ⌝ }
+    ensures { λ r. ⌜ (r ≡ numbersOf (outcomeOf n (pred own) (now (u .entry)) (stepOut defaultOrder (now (u .entry)) own n sizes (now (costs .entry)) (now (packet .entry)) (length (now (out .entry)))))) × (now (u .exit) ≡ outcomeOf n (pred own) (now (u .entry)) (stepOut defaultOrder (now (u .entry)) own n sizes (now (costs .entry)) (now (packet .entry)) (length (now (out .entry)))) .unit) × (now (out .exit) ≡ bytesOf n (pred own) (now (out .entry)) (stepOut defaultOrder (now (u .entry)) own n sizes (now (costs .entry)) (now (packet .entry)) (length (now (out .entry))))) ⌝ }
 {
     let v = *u;
     let r = step(v, own, n, sizes, costs, packet, out);
@@ -112,11 +170,48 @@ pub fn step_in_place(
     }
 }
 
+// The same, values tried in this order.
+pub fn step_in_place_by(
+    order: ValueOrder,
+    u: &mut Unit,
+    own: u8,
+    n: u8,
+    sizes: [u8; 16],
+    costs: &[u8],
+    packet: &[u8],
+    out: &mut [u8],
+) -> Report
+    ensures { λ r. ⌜ (r ≡ numbersOf (outcomeOf n (pred own) (now (u .entry)) (stepOut order (now (u .entry)) own n sizes (now (costs .entry)) (now (packet .entry)) (length (now (out .entry)))))) × (now (u .exit) ≡ outcomeOf n (pred own) (now (u .entry)) (stepOut order (now (u .entry)) own n sizes (now (costs .entry)) (now (packet .entry)) (length (now (out .entry)))) .unit) × (now (out .exit) ≡ bytesOf n (pred own) (now (out .entry)) (stepOut order (now (u .entry)) own n sizes (now (costs .entry)) (now (packet .entry)) (length (now (out .entry))))) ⌝ }
+{
+    let v = *u;
+    let r = step_by(order, v, own, n, sizes, costs, packet, out);
+    let w = r.unit;
+    *u = w;
+    Report {
+        refusal: r.refusal,
+        sent: r.sent,
+        records: r.records,
+    }
+}
+
 // Whether a lent state is in range, told by the refusal that a step would give: 5, 10, 6, 7, 5 in order, or 0.
 pub fn in_range(u: Unit, own: u8, n: u8, sizes: [u8; 16], costs: &[u8]) -> u8
-    ensures { λ r. ⌜ r ≡ rangeRefusal u own n sizes (now (costs .entry)) ⌝ }
+    ensures { λ r. ⌜ r ≡ rangeRefusal defaultOrder u own n sizes (now (costs .entry)) ⌝ }
 {
-    range_refusal(Seat { own, n, sizes }, costs, u)
+    in_range_by(ValueOrder::CheapestFirst, u, own, n, sizes, costs)
+}
+
+// The same, values tried in this order.
+pub fn in_range_by(order: ValueOrder, u: Unit, own: u8, n: u8, sizes: [u8; 16], costs: &[u8]) -> u8
+    ensures { λ r. ⌜ r ≡ rangeRefusal order u own n sizes (now (costs .entry)) ⌝ }
+{
+    let seat = Seat {
+        own,
+        n,
+        sizes,
+        order,
+    };
+    range_refusal(seat, costs, u)
 }
 
 // The first refusal of making that applies, or 0.
@@ -135,7 +230,7 @@ fn make_refusal(seat: Seat, costs: &[u8], room: usize) -> u8
 
 // The first refusal of a step that applies before its packet is read, or 0.
 fn step_refusal(seat: Seat, costs: &[u8], u: Unit, room: usize) -> u8
-    ensures { λ r. ⌜ r ≡ stepRefusal u (seat .own) (seat .n) (seat .sizes) (now (costs .entry)) room ⌝ }
+    ensures { λ r. ⌜ r ≡ stepRefusal (seat .order) u (seat .own) (seat .n) (seat .sizes) (now (costs .entry)) room ⌝ }
 {
     if room < base::SENDING_SIZE {
         return 13;
@@ -145,7 +240,7 @@ fn step_refusal(seat: Seat, costs: &[u8], u: Unit, room: usize) -> u8
 
 // The first refusal of a lent state, or 0.
 fn range_refusal(seat: Seat, costs: &[u8], u: Unit) -> u8
-    ensures { λ r. ⌜ r ≡ rangeRefusal u (seat .own) (seat .n) (seat .sizes) (now (costs .entry)) ⌝ }
+    ensures { λ r. ⌜ r ≡ rangeRefusal (seat .order) u (seat .own) (seat .n) (seat .sizes) (now (costs .entry)) ⌝ }
 {
     let refusal = seat_refusal(seat, costs);
     if refusal != 0 {

@@ -1,5 +1,6 @@
 // Makes units and feeds them the packets of data/steps, and says what comes of each: the numbers handed back, the state, and the
-// messages sent. A record of the file has 160 bytes: 31 of name; 0 for making, 1 for a step; own number; n; 16 sizes; how many
+// messages sent. A record of the file has 160 bytes: 31 of name; 0 for making and 1 for a step, values tried ascending, 2 and 3 for the
+// same with no order named; own number; n; 16 sizes; how many
 // bytes of costs, and 32 for them; how many bytes of packet, and 65 for them; 1 where the output lent is a byte too short; what the
 // state's first threshold byte is set to before the step, if not 0.
 // Each step goes on from the state that the record before left. What is sent is printed, and goes to no unit.
@@ -11,9 +12,10 @@ use message::Message;
 use message::Read;
 use unit::Outcome;
 use unit::Unit;
+use unit::ValueOrder;
 
 fn main() {
-    let mut file = [0u8; 16384];
+    let mut file = [0u8; 20480];
     let fd = os::open_read(b"steps");
     if fd < 0 {
         os::fail(b"steps");
@@ -59,7 +61,11 @@ fn call(u: Unit, r: &[u8], out: &mut [u8]) -> Outcome {
     let n = base::byte_at(r, 33);
     let sizes = sizes_in(r);
     let costs = part(r, 50, 32);
-    if base::byte_at(r, 31) == 0 {
+    let call = base::byte_at(r, 31);
+    if call == 0 {
+        return unit::make_by(ValueOrder::Ascending, own, n, sizes, costs, out);
+    }
+    if call == 2 {
         return unit::make(own, n, sizes, costs, out);
     }
     let packet = part(r, 83, 65);
@@ -68,7 +74,10 @@ fn call(u: Unit, r: &[u8], out: &mut [u8]) -> Outcome {
     if first != 0 {
         v.threshold[0] = first;
     }
-    unit::step(v, own, n, sizes, costs, packet, out)
+    if call == 3 {
+        return unit::step(v, own, n, sizes, costs, packet, out);
+    }
+    unit::step_by(ValueOrder::Ascending, v, own, n, sizes, costs, packet, out)
 }
 
 // The bytes behind their number at `at`, at most `most` of them.

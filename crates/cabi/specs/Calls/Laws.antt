@@ -9,6 +9,7 @@ use Rattle.message.specs.declared.Parsed.{Parsed as Reading}
 use Rattle.message.specs.declared.Read.the-variants.{Good, Refused}
 use Rattle.message.specs.Message.{kindOf, refusalOf}
 use Rattle.message.specs.Decode.{writeRefusal, packetInto}
+use Rattle.costs.specs.declared.ValueOrder.{ValueOrder}
 use Rattle.rules.specs.declared.Outcome.{Outcome}
 use Rattle.rules.specs.declared.Unit.{Unit}
 use Rattle.rules.specs.Calls.{outcomeOf, bytesOf, stepOut}
@@ -45,17 +46,17 @@ module _ (n : ℕ) (sizes : List ℕ) (code : ℕ) (m : Message) where
   written-unknown r out e = rw e
 
 -- a step: what the call does, one thing after the other
-module _ (s : LentUnit) (own n : ℕ) (sizes costs packet : List ℕ) (v : Unit) (read : v ≡ unitFrom s) where
-  pub step-is : (room : ℕ) (r : Outcome) (x : LentOutcome) → r ≡ outcomeOf n (pred own) v (stepOut v own n sizes costs packet room) → x ≡ outcomeBack s r → x ≡ stepOf s own n sizes costs packet room
+module _ (order : ValueOrder) (s : LentUnit) (own n : ℕ) (sizes costs packet : List ℕ) (v : Unit) (read : v ≡ unitFrom s) where
+  pub step-is : (room : ℕ) (r : Outcome) (x : LentOutcome) → r ≡ outcomeOf n (pred own) v (stepOut order v own n sizes costs packet room) → x ≡ outcomeBack s r → x ≡ stepOf order s own n sizes costs packet room
   unfolding stepOf
   step-is room r x e f = f ∙ rw (e, read)
 
-  pub stepped-is : (out l : List ℕ) → l ≡ bytesOf n (pred own) out (stepOut v own n sizes costs packet (length out)) → l ≡ steppedBytes s own n sizes costs packet out
+  pub stepped-is : (out l : List ℕ) → l ≡ bytesOf n (pred own) out (stepOut order v own n sizes costs packet (length out)) → l ≡ steppedBytes order s own n sizes costs packet out
   unfolding steppedBytes
   stepped-is out l e = e ∙ rw read
 
 -- a delivery
-pub delivery-is : (s : LentNetwork) (stream pool : List ℕ) (cell : ℕ) (t : Network) (a : Answer) (x : LentAnswer) (l : List ℕ)
-    → t ≡ networkFrom s → (a ≡ deliverOf t stream pool cell .answer) × (l ≡ deliverOf t stream pool cell .pool) → x ≡ answerBack s a → (x ≡ deliveredTo s stream pool cell) × (l ≡ deliveredPool s stream pool cell)
+pub delivery-is : (order : ValueOrder) (s : LentNetwork) (stream pool : List ℕ) (cell : ℕ) (t : Network) (a : Answer) (x : LentAnswer) (l : List ℕ)
+    → t ≡ networkFrom s → (a ≡ deliverOf order t stream pool cell .answer) × (l ≡ deliverOf order t stream pool cell .pool) → x ≡ answerBack s a → (x ≡ deliveredTo order s stream pool cell) × (l ≡ deliveredPool order s stream pool cell)
 unfolding deliveredTo deliveredPool
-delivery-is s stream pool cell t a x l read e f = (f ∙ rw (e .0, read), e .1 ∙ rw read)
+delivery-is order s stream pool cell t a x l read e f = (f ∙ rw (e .0, read), e .1 ∙ rw read)

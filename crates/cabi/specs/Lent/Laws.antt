@@ -12,7 +12,8 @@ use lib.Dec.{leb, eqb}
 use lib.ListN.{length, getD, set, drop, length-append, length-set, drop-of-length-le, List·getD-append as getD-append}
 use lib.Seq.{drop-cons, set-at, getD-at, getD-set-same, getD-set-other, ext-getD}
 use Rattle.table.specs.Stream.{unitsOf}
-use Rattle.costs.specs.Instance.{View, viewOf, instanceOf}
+use Rattle.costs.specs.declared.ValueOrder.{ValueOrder}
+use Rattle.costs.specs.Instance.{View, viewBy, instanceOf}
 use Rattle.costs.specs.Gather.{sizesIn}
 use Rattle.base.specs.Every.Laws.{every-not}
 use Rattle.rules.specs.declared.Unit.{Unit}
@@ -72,12 +73,12 @@ up-to-at (suc n) f k d h = go (eqb k n) refl (λ q. up-to-at n f k d q)
         getD-append (upTo n f) (f n ∷ []) d k l ∙ below (omega arith)
 
 -- a network with such a byte in one of its n units is out of range, 5
-pub no-flag-network : (stream : List ℕ) (s : LentNetwork) (k : ℕ) → k < unitsOf stream → k < 16 → flagGood (getD (s .core .units) k emptyLent) ≡ false → networkInRange stream (networkFrom s) ≡ false
+pub no-flag-network : (order : ValueOrder) (stream : List ℕ) (s : LentNetwork) (k : ℕ) → k < unitsOf stream → k < 16 → flagGood (getD (s .core .units) k emptyLent) ≡ false → networkInRange order stream (networkFrom s) ≡ false
 unfolding networkInRange
-no-flag-network stream s k h h16 e =
+no-flag-network order stream s k h h16 e =
     let at = up-to-at 16 (λ (i : ℕ). unitFrom (getD (s .core .units) i emptyLent)) k emptyUnit h16 in
-    let out : inRange (sizesIn stream) (viewOf (instanceOf stream) k) (unitAt (unitsFrom (s .core .units)) k) ≡ false = rw at (no-flag-out-of-range (sizesIn stream) (viewOf (instanceOf stream) k) (getD (s .core .units) k emptyLent) e) in
-    rw (every-not (λ (i : ℕ). inRange (sizesIn stream) (viewOf (instanceOf stream) i) (unitAt (unitsFrom (s .core .units)) i)) (unitsOf stream) k h out)
+    let out : inRange (sizesIn stream) (viewBy order (instanceOf stream) k) (unitAt (unitsFrom (s .core .units)) k) ≡ false = rw at (no-flag-out-of-range (sizesIn stream) (viewBy order (instanceOf stream) k) (getD (s .core .units) k emptyLent) e) in
+    rw (every-not (λ (i : ℕ). inRange (sizesIn stream) (viewBy order (instanceOf stream) i) (unitAt (unitsFrom (s .core .units)) i)) (unitsOf stream) k h out)
 
 module _ (ss : List LentUnit) (sixteen : length ss ≡ 16) where
   kept : (us : List Unit) (i : ℕ) → i < 16 → getD us i emptyUnit ≡ getD (unitsFrom ss) i emptyUnit → unitBack (getD ss i emptyLent) (getD us i emptyUnit) ≡ getD ss i emptyLent

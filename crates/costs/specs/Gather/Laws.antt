@@ -22,7 +22,8 @@ use Rattle.table.specs.StreamLaws.{unaries-two, streamUnary, streamCost, costs-
 use Rattle.base.specs.Shape.{isValue}
 use Rattle.base.specs.Shape.Laws.{range-value, value-range}
 use Rattle.costs.specs.Cost.{Cost, Of, pairCost}
-use Rattle.costs.specs.Instance.{View, viewOf, pairStart, inPair, costNumber, instanceOf, otherStart, lentUnary, lentCost, lentView, domOf, unaryOf}
+use Rattle.costs.specs.Instance.{View, viewOf, viewBy, pairStart, inPair, costNumber, instanceOf, otherStart, lentUnary, lentCost, lentView, domOf, unaryOf}
+use Rattle.costs.specs.declared.ValueOrder.{ValueOrder}
 use Rattle.costs.specs.Laws.Stream.{unariesFrom, costsOf, in-pair-lt, unary-number-at, cost-number-at, unary-costs, pair-costs, accepted-fit, dom-most}
 use Rattle.costs.specs.Lent.{unaryCount, lentCount, lentRefusal}
 use Rattle.costs.specs.Lent.Checks.{refusal-none}
@@ -250,25 +251,25 @@ module _ (s : List ℕ) (fit : needed s ≤ length s) where
             ∙ rw (f, unary-number-at s (sumTo (domOf s) k + (v - 1)))
 
 -- What unit `own` sees in the costs gathered for it, with any array whose first n places are the sizes.
-pub gathered-view : (s : List ℕ) → Accepted s → (own : ℕ) → 1 ≤ own → own ≤ unitsOf s → (sizes : List ℕ) → take (unitsOf s) sizes ≡ sizesOf s
-    → lentView own (unitsOf s) sizes (gathered s own) ≡ viewOf (instanceOf s) (pred own)
+pub gathered-view : (order : ValueOrder) (s : List ℕ) → Accepted s → (own : ℕ) → 1 ≤ own → own ≤ unitsOf s → (sizes : List ℕ) → take (unitsOf s) sizes ≡ sizesOf s
+    → lentView order own (unitsOf s) sizes (gathered s own) ≡ viewBy order (instanceOf s) (pred own)
 unfolding lentView gathered instanceOf
-gathered-view s ok own lo hi sizes e = same-sizes ∙ same-costs
+gathered-view order s ok own lo hi sizes e = same-sizes ∙ same-costs
   where
     costs : List ℕ
     costs = gatherTo s (pred own) (unitsOf s)
 
     seen : List ℕ → View
-    seen t = record { place = pred own; n = unitsOf s; dom = λ k. getD t k 0; unary = lentUnary (getD t (pred own) 0) costs; pair = lentCost (unitsOf s) (λ k. getD t k 0) (pred own) costs }
+    seen t = record { order = order; place = pred own; n = unitsOf s; dom = λ k. getD t k 0; unary = lentUnary (getD t (pred own) 0) costs; pair = lentCost (unitsOf s) (λ k. getD t k 0) (pred own) costs }
 
-    same-sizes : lentView own (unitsOf s) sizes (gathered s own) ≡ seen (sizesOf s)
+    same-sizes : lentView order own (unitsOf s) sizes (gathered s own) ≡ seen (sizesOf s)
     same-sizes = ap seen e
 
-    same-costs : seen (sizesOf s) ≡ viewOf (instanceOf s) (pred own)
+    same-costs : seen (sizesOf s) ≡ viewBy order (instanceOf s) (pred own)
     same-costs =
-        ap (λ (f : ℕ → ℕ). record { place = pred own; n = unitsOf s; dom = domOf s; unary = f; pair = lentCost (unitsOf s) (domOf s) (pred own) costs })
+        ap (λ (f : ℕ → ℕ). record { order = order; place = pred own; n = unitsOf s; dom = domOf s; unary = f; pair = lentCost (unitsOf s) (domOf s) (pred own) costs })
         (fun-ext (λ v. unary-seen s (accepted-fit s ok) (pred own) (omega arith) v))
-        ∙ ap (λ (p : ℕ → ℕ → ℕ → Cost). record { place = pred own; n = unitsOf s; dom = domOf s; unary = unaryOf s (pred own); pair = p })
+        ∙ ap (λ (p : ℕ → ℕ → ℕ → Cost). record { order = order; place = pred own; n = unitsOf s; dom = domOf s; unary = unaryOf s (pred own); pair = p })
         (fun-ext (λ j. fun-ext (λ u. fun-ext (λ v. pair-seen s (accepted-fit s ok) (pred own) (omega arith) j u v))))
 
 -- ---- and they pass the checks of lent costs

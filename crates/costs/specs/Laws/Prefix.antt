@@ -13,7 +13,8 @@ use lib.Seq.{getD-set-same, getD-set-other}
 use borrow.Author.Tests.{lt-ltb, le-ltb, eqb-true, eqb-false}
 use Rattle.base.specs.Limits.{NONE, totalLimit}
 use Rattle.costs.specs.Cost.{Cost, Of, Forbidden, _⊕_, sumTo, least, asNumber}
-use Rattle.costs.specs.Instance.{Instance, viewOf}
+use Rattle.costs.specs.Instance.{Instance, viewBy}
+use Rattle.costs.specs.declared.ValueOrder.{ValueOrder}
 use Rattle.costs.specs.Bounds.{costWith, h, estimate, Permitted, Assignment, total, Reported}
 use Rattle.costs.specs.Problem.{InDomains, Full, Closed, closed-least}
 use Rattle.costs.specs.Cost.Laws.{add-assoc, add-zero, add-comm, sumFrom-cong, sumTo-cong, least-cong, number-not-forbidden, sum-right, sum-number, sums-number, sums-part, AtMost, number-below, number-is}
@@ -55,13 +56,6 @@ pre-cong (suc k) l m e =
 -- ---- a unit's view of an instance
 
 module _ (I : Instance) (k : ℕ) where
-  -- the view's pair costs are the instance's
-  pub pair-before : (j u v : ℕ) → j < k → viewOf I k .pair j u v ≡ I .cost j u k v
-  pair-before j u v l = simp (lt-ltb j k l)
-
-  pub pair-after : (j u v : ℕ) → k < j → viewOf I k .pair j u v ≡ I .cost k v j u
-  pair-after j u v l = let q : k ≤ j = omega arith in simp (le-ltb j k q)
-
   -- against an array, unit by unit
   against-sum : (v m : ℕ) (l : List ℕ) → Of (I .unary k v) ⊕ sumTo (λ j. I .cost j (getD l j 0) k v) m ≡ against I k v (pre m l)
   against-sum v zero l = add-zero (Of (I .unary k v))
@@ -70,30 +64,38 @@ module _ (I : Instance) (k : ℕ) where
       (sym (add-assoc (Of (I .unary k v)) (sumTo (λ j. I .cost j (getD l j 0) k v) m) (I .cost m (getD l m 0) k v))
       ∙ ap (λ (x : Cost). x ⊕ I .cost m (getD l m 0) k v) (against-sum v m l) ∙ add-comm (against I k v (pre m l)) (I .cost m (getD l m 0) k v))
 
-  pub cost-with-prefix : (values : List ℕ) (m v : ℕ) → m ≤ k → costWith (viewOf I k) values m v ≡ against I k v (pre m values)
+module _ (o : ValueOrder) (I : Instance) (k : ℕ) where
+  -- the view's pair costs are the instance's
+  pub pair-before : (j u v : ℕ) → j < k → viewBy o I k .pair j u v ≡ I .cost j u k v
+  pair-before j u v l = simp (lt-ltb j k l)
+
+  pub pair-after : (j u v : ℕ) → k < j → viewBy o I k .pair j u v ≡ I .cost k v j u
+  pair-after j u v l = let q : k ≤ j = omega arith in simp (le-ltb j k q)
+
+  pub cost-with-prefix : (values : List ℕ) (m v : ℕ) → m ≤ k → costWith (viewBy o I k) values m v ≡ against I k v (pre m values)
   unfolding costWith
   cost-with-prefix values m v le =
       ap (λ (x : Cost). Of (I .unary k v) ⊕ x)
-      (sumTo-cong (λ j. viewOf I k .pair j (getD values j 0) v) (λ j. I .cost j (getD values j 0) k v) m (λ j l. pair-before j (getD values j 0) v (omega arith)))
-      ∙ against-sum v m values
+      (sumTo-cong (λ j. viewBy o I k .pair j (getD values j 0) v) (λ j. I .cost j (getD values j 0) k v) m (λ j l. pair-before j (getD values j 0) v (omega arith)))
+      ∙ against-sum I k v m values
 
-  pub h-of-view : (v : ℕ) → h (viewOf I k) v ≡ hOf I k v
+  pub h-of-view : (v : ℕ) → h (viewBy o I k) v ≡ hOf I k v
   unfolding h
   h-of-view v =
-      sumFrom-cong (λ j. least (λ u. viewOf I k .pair j u v) (I .dom j)) (λ j. least (λ u. I .cost k v j u) (I .dom j)) (suc k) (I .n - suc k)
-      (λ j l m. least-cong (λ u. viewOf I k .pair j u v) (λ u. I .cost k v j u) (I .dom j) (λ u. pair-after j u v l))
+      sumFrom-cong (λ j. least (λ u. viewBy o I k .pair j u v) (I .dom j)) (λ j. least (λ u. I .cost k v j u) (I .dom j)) (suc k) (I .n - suc k)
+      (λ j l m. least-cong (λ u. viewBy o I k .pair j u v) (λ u. I .cost k v j u) (I .dom j) (λ u. pair-after j u v l))
 
-  pub estimate-prefix : (values : List ℕ) (m : ℕ) → m ≤ k → estimate (viewOf I k) values m ≡ estimateOf I k (pre m values)
+  pub estimate-prefix : (values : List ℕ) (m : ℕ) → m ≤ k → estimate (viewBy o I k) values m ≡ estimateOf I k (pre m values)
   unfolding estimate
   estimate-prefix values m le =
-      least-cong (λ v. costWith (viewOf I k) values m v ⊕ h (viewOf I k) v) (λ v. against I k v (pre m values) ⊕ hOf I k v) (I .dom k)
+      least-cong (λ v. costWith (viewBy o I k) values m v ⊕ h (viewBy o I k) v) (λ v. against I k v (pre m values) ⊕ hOf I k v) (I .dom k)
       (λ v. rw (cost-with-prefix values m v le, h-of-view v))
 
   -- the cost and the lower bound of the prefix that value v makes of the first k values
-  pub cost-next : (values : List ℕ) (v : ℕ) → costOf I (pre k values) ⊕ costWith (viewOf I k) values k v ≡ costOf I (v ∷ pre k values)
+  pub cost-next : (values : List ℕ) (v : ℕ) → costOf I (pre k values) ⊕ costWith (viewBy o I k) values k v ≡ costOf I (v ∷ pre k values)
   cost-next values v = rw (length-pre k values, cost-with-prefix values k v (omega arith))
 
-  pub lookahead-next : (values : List ℕ) (v : ℕ) → costOf I (pre k values) ⊕ costWith (viewOf I k) values k v ⊕ h (viewOf I k) v ≡ lookaheadOf I (v ∷ pre k values)
+  pub lookahead-next : (values : List ℕ) (v : ℕ) → costOf I (pre k values) ⊕ costWith (viewBy o I k) values k v ⊕ h (viewBy o I k) v ≡ lookaheadOf I (v ∷ pre k values)
   lookahead-next values v = rw (length-pre k values, cost-with-prefix values k v (omega arith), h-of-view v)
 
 -- ---- assignments

@@ -19,6 +19,7 @@ use Rattle.table.specs.StreamLaws.{costs-at, pair-small, unary-most}
 use Rattle.costs.specs.Cost.{Cost, Of, _⊕_, sumTo, least}
 use Rattle.costs.specs.Cost.Laws.{AtMost, good-cost, most-add, most-least, most-sumFrom, most-sumTo}
 use Rattle.costs.specs.Instance.{View, domIn, costNumber, lentView}
+use Rattle.costs.specs.declared.ValueOrder.{ValueOrder}
 use Rattle.costs.specs.Bounds.{costWith, h, estimate}
 use Rattle.costs.specs.Lent.{unaryCount, lentCount, lentGood, lentRefusal}
 
@@ -64,9 +65,9 @@ module _ (own n : ℕ) (sizes costs : List ℕ) (ok : lentRefusal own n sizes co
   pub lent-length : length costs ≡ 2 * lentCount own n sizes
   lent-length = eqb-true (length costs) (2 * lentCount own n sizes) (tests .0)
 
-  pub lent-unary-most : (v : ℕ) → lentView own n sizes costs .unary v ≤ unaryLimit
+  pub lent-unary-most : (order : ValueOrder) (v : ℕ) → lentView order own n sizes costs .unary v ≤ unaryLimit
   unfolding lentView lentGood
-  lent-unary-most v = go (isValue (unaryCount own n sizes) v) refl
+  lent-unary-most order v = go (isValue (unaryCount own n sizes) v) refl
     where
       go : (t : Bool) → isValue (unaryCount own n sizes) v ≡ t → cond t (costNumber costs (v - 1)) 0 ≤ unaryLimit
       go true e =
@@ -92,8 +93,8 @@ module _ (own n : ℕ) (sizes costs : List ℕ) (ok : lentRefusal own n sizes co
           let z : costNumber costs i ≡ 0 = u16-past costs (2 * i) l in
           rw z (pair-small 0 (omega arith))
 
-  pub lent-pair-most : (j u v : ℕ) → AtMost pairLimit (lentView own n sizes costs .pair j u v)
+  pub lent-pair-most : (order : ValueOrder) (j u v : ℕ) → AtMost pairLimit (lentView order own n sizes costs .pair j u v)
   unfolding lentView
-  lent-pair-most j u v =
+  lent-pair-most order j u v =
       cond-most (not (eqb j (pred own)) && ltb j n && isValue (domIn n sizes j) u && isValue (domIn n sizes (pred own)) v) pairLimit _
       (good-cost _ (lent-number-good _ (omega arith)))

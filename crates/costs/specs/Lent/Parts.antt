@@ -1,4 +1,4 @@
--- The parts that the sums and least values over lent costs are worked out in. No public contract cites them.
+-- The parts that the sums, least values and counts over lent costs are worked out in. No public contract cites them.
 -- Assumes nothing.
 use Prim.Native.Nat.{ℕ, _+_, _*_, _-_, pred}
 use mathlib.Core.Bool.{cond, not, _&&_}
@@ -10,6 +10,7 @@ use Rattle.costs.specs.Cost.{Cost, Of, _⊕_, sumFrom, least, pairCost}
 use Rattle.costs.specs.Instance.{View, domIn, inPair, costNumber}
 use Rattle.costs.specs.declared.Seat.{Seat}
 use Rattle.costs.specs.Bounds.{costWith, h}
+use Rattle.costs.specs.Order.{earlier, howMany}
 
 -- the domain sizes at a seat
 abbrev pub domFrom : Seat → ℕ → ℕ
@@ -41,3 +42,7 @@ runsFrom seat costs v j =
 -- the least, over own values up to d, of the cost with a prefix of k units and h
 unfoldable pub leastCost : View → List ℕ → ℕ → ℕ → Cost
 leastCost w values k d = least (λ v. costWith w values k v ⊕ h w v) d
+
+-- how many of 1, .., d come before own value v by rising h
+unfoldable pub earlierUpTo : View → ℕ → ℕ → ℕ
+earlierUpTo w v d = howMany (λ u. earlier w u v) d

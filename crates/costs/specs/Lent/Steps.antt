@@ -1,5 +1,5 @@
--- How the sums and least values over lent costs grow by one turn of a loop. Each by taking a definition's tests apart.
--- In order: domain sizes; sums and least values in general; a pair's cost; the cost with a prefix; h; the estimate.
+-- How the sums, least values and counts over lent costs grow by one turn of a loop. Each by taking a definition's tests apart.
+-- In order: domain sizes; sums and least values in general; a pair's cost; the cost with a prefix; h; the estimate; the order tried.
 -- Assumes nothing.
 use Prim.Native.Nat.{ℕ, zero, suc, _+_, _*_, _-_, _≤_, _<_, pred}
 use mathlib.Core.Path.{_≡_, refl, sym, ap, _∙_}
@@ -21,7 +21,9 @@ use Rattle.costs.specs.Cost.Laws.{add-assoc as sum-assoc, add-zero, sumF
 use Rattle.costs.specs.Instance.{View, domIn, inPair, costNumber, lentUnary, lentCost, lentView, viewFrom}
 use Rattle.costs.specs.declared.Seat.{Seat}
 use Rattle.costs.specs.Bounds.{costWith, h, estimate}
-use Rattle.costs.specs.Lent.Parts.{othersBefore, pairFrom, leastRun, runStart, runsFrom, leastCost, domFrom}
+use Rattle.costs.specs.declared.ValueOrder.the-variants.{CheapestFirst}
+use Rattle.costs.specs.Order.{cheaper, earlier, placeBy, placeTried}
+use Rattle.costs.specs.Lent.Parts.{othersBefore, pairFrom, leastRun, runStart, runsFrom, leastCost, earlierUpTo, domFrom}
 
 -- ---- domain sizes
 
@@ -188,3 +190,24 @@ leastCost-none w values m = refl
 pub leastCost-more : (w : View) (values : List ℕ) (m v : ℕ) → leastCost w values m (v + 1) ≡ lesser (leastCost w values m v) (costWith w values m (v + 1) ⊕ h w (v + 1))
 unfolding leastCost
 leastCost-more w values m v = least-more (λ i. costWith w values m i ⊕ h w i) v
+
+-- ---- the order tried
+
+pub earlier-none : (w : View) (v : ℕ) → earlierUpTo w v 0 ≡ 0
+unfolding earlierUpTo
+earlier-none w v = refl
+
+-- one value more
+pub earlier-more : (w : View) (v u : ℕ) → earlierUpTo w v (u + 1) ≡ earlierUpTo w v u + cond (cheaper (h w (u + 1)) (u + 1) (h w v) v) 1 0
+unfolding earlierUpTo earlier
+earlier-more w v u = rw add-one
+
+pub order-from : (seat : Seat) (costs : List ℕ) → viewFrom seat costs .order ≡ seat .order
+unfolding lentView
+order-from seat costs = refl
+
+pub cheapest-place : (seat : Seat) (costs : List ℕ) (v : ℕ) → seat .order ≡ CheapestFirst → 1 ≤ v
+    → placeTried (viewFrom seat costs) v ≡ suc (earlierUpTo (viewFrom seat costs) v (domFrom seat (pred (seat .own))))
+unfolding placeTried lentView earlierUpTo
+cheapest-place seat costs zero e lo = absurd (omega arith)
+cheapest-place seat costs (suc v) e lo = ap (λ o. placeBy o (viewFrom seat costs) (suc v)) e

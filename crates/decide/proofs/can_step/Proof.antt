@@ -2,8 +2,10 @@
 -- Assumes nothing.
 use Prim.Native.Nat.{_≤_, _<_, _-_}
 use mathlib.Core.Path.{_≡_, sym, _∙_}
-use mathlib.Core.Bool.{true, false}
+use mathlib.Core.Bool.{true, false, _&&_}
 use native.Mathlib.Omega.{arith}
+use lib.Dec.{leb}
+use lib.ListN.{getD}
 use borrow.Author.Needs.{needs}
 use borrow.Author.Tests.{not-true, not-false, le-leb, lt-leb, eq-eqb, ne-eqb}
 use Rattle.message.specs.Message.{isUnit}
@@ -31,13 +33,20 @@ returns-3 c = rw (unit (c .before .before .before), le-leb _ 16 (c .before .befo
 returns-4 : tie.Need-returns-4
 returns-4 c = rw (unit (c .before .before .before .before .before), le-leb _ 16 (c .before .before .before .before .if2 .left), le-leb _ 16 (c .before .before .if3 .left), lt-leb _ 17 (c .if4 .taken))
 
+-- all but the own value and the counter
+most : (c : tie.Else4)
+    → let a = c .before .before .before .before .before .before .before .args in
+    (isUnit (a .t1 .n) (a .t1 .own) && leb (a .t1 .n) 16 && leb (getD (a .t1 .sizes) (a .t1 .own - 1) 0) 16 && leb (getD (a .t2 .threshold) (a .t1 .own - 1) 0) 17) ≡ true
+most c = rw (unit (c .before .before .before .before .before), le-leb _ 16 (c .before .before .before .before .if2 .left), le-leb _ 16 (c .before .before .if3 .left), le-leb _ 17 (c .if4 .left))
+
 returns-5 : tie.Need-returns-5
-returns-5 c =
-    rw (unit (c .before .before .before .before .before .before .before), le-leb _ 16 (c .before .before .before .before .before .before .if2 .left), le-leb _ 16 (c .before .before .before .before .if3 .left), le-leb _ 17 (c .before .before .if4 .left), eq-eqb _ 0 (c .if5 .taken))
+returns-5 c = rw (most (c .before .before .before), lt-leb _ _ (c .if5 .taken))
 
 returns-6 : tie.Need-returns-6
-returns-6 c =
-    rw (unit (c .before .before .before .before .before .before .before), le-leb _ 16 (c .before .before .before .before .before .before .if2 .left), le-leb _ 16 (c .before .before .before .before .if3 .left), le-leb _ 17 (c .before .before .if4 .left), ne-eqb _ 0 (c .if5 .left))
+returns-6 c = rw (most (c .before .before .before .before), le-leb _ _ (c .before .if5 .left), eq-eqb _ 0 (c .if6 .taken))
+
+returns-7 : tie.Need-returns-7
+returns-7 c = rw (most (c .before .before .before .before), le-leb _ _ (c .before .if5 .left), ne-eqb _ 0 (c .if6 .left))
 
 pub can-step-spec : {M : Type 1} → statement M
 can-step-spec =
@@ -53,5 +62,7 @@ can-step-spec =
     (λ c. place (c .before .before) .1)
     returns-4
     (λ c. place (c .before .before .before .before) .1)
+    (λ c. place (c .before .before .before .before .before) .1)
     returns-5
-    returns-6)
+    returns-6
+    returns-7)

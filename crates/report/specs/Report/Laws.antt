@@ -13,6 +13,7 @@ use Rattle.base.specs.Limits.{poolSize, streamSize}
 use Rattle.base.specs.Refusal.Laws.{or-first}
 use Rattle.table.specs.File.{streamOf, readRefusal, readOf, readInto}
 use Rattle.table.specs.FileLaws.{read-most}
+use Rattle.costs.specs.declared.ValueOrder.{ValueOrder}
 use Rattle.search.specs.declared.Found.{Found}
 use Rattle.search.specs.Search.{searchRefusal, searchOf}
 use Rattle.search.specs.Laws.{search-refusal}
@@ -21,9 +22,9 @@ use Rattle.runs.specs.Settle.{settleOf}
 use Rattle.report.specs.Report.{fileRefusal, settleRefusal}
 
 -- the number of a run, or that of the search
-abbrev pub refusalBy : Bool → List ℕ → ℕ
-refusalBy true s = settleRefusal s
-refusalBy false s = searchRefusal s
+abbrev pub refusalBy : Bool → ValueOrder → List ℕ → ℕ
+refusalBy true order s = settleRefusal order s
+refusalBy false order s = searchRefusal s
 
 module _ (f out : List ℕ) (r : Length) (e : r ≡ readOf f (length out)) (room : length out ≡ streamSize) where
   refusal-of : r .refusal ≡ readRefusal f streamSize
@@ -61,6 +62,6 @@ pub found-refusal : (s : List ℕ) (r : Found) → r ≡ searchOf s → r .refus
 found-refusal s r e = ap (λ (x : Found). x .refusal) e ∙ search-refusal s
 
 -- the run's own number
-pub settled-refusal : (s : List ℕ) (a : Answer) → a ≡ settleOf s (replicate poolSize 0) .answer → a .refusal ≡ settleRefusal s
+pub settled-refusal : (order : ValueOrder) (s : List ℕ) (a : Answer) → a ≡ settleOf order s (replicate poolSize 0) .answer → a .refusal ≡ settleRefusal order s
 unfolding settleRefusal
-settled-refusal s a e = ap (λ (x : Answer). x .refusal) e
+settled-refusal order s a e = ap (λ (x : Answer). x .refusal) e

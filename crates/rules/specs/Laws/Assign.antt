@@ -1,7 +1,7 @@
 -- Assigning and backtracking keep a state in range and send what can be written, from a CPA in hand whose own value is off.
 -- The threshold's own place is at most 16 before, so at most 17 after backtracking; the counter is at most the value tried. By recursion over
 -- the values left. In order: what is kept; backtrack; a value written; the values left; assign and resume. Assumes nothing.
-use Prim.Native.Nat.{ℕ, zero, suc, _+_, _*_, _-_, _≤_, _<_}
+use Prim.Native.Nat.{ℕ, zero, suc, _+_, _*_, _≤_, _<_}
 use mathlib.Core.Path.{_≡_, refl, sym, ap, _∙_, subst}
 use mathlib.Core.Bool.{Bool, true, false, cond, false≢true}
 use mathlib.Core.List.{List, [], _∷_}
@@ -17,6 +17,8 @@ use Rattle.costs.specs.declared.Cost.the-variants.{Of}
 use Rattle.costs.specs.Cost.{_⊕_, sumTo, below, asNumber}
 use Rattle.costs.specs.Cost.Laws.{AtMost, below-numbers, number-behind}
 use Rattle.costs.specs.Instance.{View}
+use Rattle.costs.specs.Order.{placeTried, next, left}
+use Rattle.costs.specs.Order.Laws.{place-most, next-place, next-least, next-most}
 use Rattle.costs.specs.Bounds.{costWith, h}
 use Rattle.costs.specs.Laws.{limit-next, limit-total}
 use Rattle.costs.specs.Lent.Bounds.{cost-most}
@@ -120,39 +122,43 @@ module _ (n : ℕ) (sizes : List ℕ) (w : View) (g : GoodView n sizes w) where
   unfolding costWith
   cost-set l a x = ap (λ (c : Cost). Of (w .unary x) ⊕ c) (sum-set l a x (w .place) (w .place) (omega arith))
 
-  module _ (u : State) (v : ℕ) (i : InHand n sizes w u) (tried : u .counter ≤ v) (left : v < getD sizes (w .place) 0)
-      (number : costWith w (u .values) (w .place) (suc v) ≡ Of (asNumber (costWith w (u .values) (w .place) (suc v)))) where
+  -- value x, one of the unit's, whose place is past the counter
+  module _ (u : State) (x : ℕ) (i : InHand n sizes w u) (least : 1 ≤ x) (most : x ≤ getD sizes (w .place) 0) (tried : u .counter < placeTried w x)
+      (number : costWith w (u .values) (w .place) x ≡ Of (asNumber (costWith w (u .values) (w .place) x))) where
     abbrev next-cost : ℕ
-    next-cost = asNumber (costAt w (suc v) u)
+    next-cost = asNumber (costAt w x u)
 
-    next-is : next-cost ≡ u .cost + asNumber (costWith w (u .values) (w .place) (suc v))
+    next-is : next-cost ≡ u .cost + asNumber (costWith w (u .values) (w .place) x)
     next-is = ap (λ (c : Cost). asNumber (Of (u .cost) ⊕ c)) number
 
     abbrev written : State
-    written = write w (suc v) next-cost u
+    written = write w x next-cost u
+
+    place-in : placeTried w x ≤ getD sizes (w .place) 0
+    place-in = rw (g .dom) at (place-most w x (omega (arith, g .dom)))
 
     stamp-filled : filledTo (suc (w .place)) sizes (written .stamp) ≡ true
-    stamp-filled = filled-own sizes (u .stamp) (w .place) (i .arrays .stamp) k16 (suc (u .counter)) (omega arith) (omega arith) (i .stamp)
+    stamp-filled = filled-own sizes (u .stamp) (w .place) (i .arrays .stamp) k16 (suc (u .counter)) (omega arith) (omega (arith, place-in)) (i .stamp)
 
     values-filled : filledTo (suc (w .place)) sizes (written .values) ≡ true
-    values-filled = filled-own sizes (u .values) (w .place) (i .arrays .values) k16 (suc v) (omega arith) left (i .values)
+    values-filled = filled-own sizes (u .values) (w .place) (i .arrays .values) k16 x least most (i .values)
 
-    own-is : ownValue w written ≡ suc v
-    own-is = getD-set-same (u .values) (w .place) (suc v) 0 (omega (arith, i .arrays .values, k16))
+    own-is : ownValue w written ≡ x
+    own-is = getD-set-same (u .values) (w .place) x 0 (omega (arith, i .arrays .values, k16))
 
     own-stamp : getD (written .stamp) (w .place) 0 ≡ suc (u .counter)
     own-stamp = getD-set-same (u .stamp) (w .place) (suc (u .counter)) 0 (omega (arith, i .arrays .stamp, k16))
 
-    paid-is : ownCost w written ≡ asNumber (costWith w (u .values) (w .place) (suc v))
-    paid-is = rw own-is (ap asNumber (cost-set (u .values) (suc v) (suc v)))
+    paid-is : ownCost w written ≡ asNumber (costWith w (u .values) (w .place) x)
+    paid-is = rw own-is (ap asNumber (cost-set (u .values) x x))
 
     bare-is : bareCost w written ≡ u .cost
     bare-is = omega (arith, paid-is, next-is)
 
     cost-limit : next-cost ≤ prefixLimit (suc (w .place))
     cost-limit =
-        let paid : asNumber (costWith w (u .values) (w .place) (suc v)) ≤ unaryLimit + pairLimit * w .place =
-        subst (λ c. AtMost (unaryLimit + pairLimit * w .place) c) number (cost-most w (g .unary-small) (g .small) (u .values) (w .place) (suc v)) in
+        let paid : asNumber (costWith w (u .values) (w .place) x) ≤ unaryLimit + pairLimit * w .place =
+        subst (λ c. AtMost (unaryLimit + pairLimit * w .place) c) number (cost-most w (g .unary-small) (g .small) (u .values) (w .place) x) in
         omega (arith, i .cost, paid, next-is, limit-next (w .place))
 
     stamp-most : (j : ℕ) → j < 16 → getD (written .stamp) j 0 ≤ 16
@@ -174,14 +180,14 @@ module _ (n : ℕ) (sizes : List ℕ) (w : View) (g : GoodView n sizes w) where
           threshold = λ j l. omega (arith, stamp-most j l);
           estimates = i .estimates;
           bound = rw (g .units) (i .bound);
-          none = λ z. absurd (omega (arith, own-is));
+          none = λ z. absurd (omega (arith, own-is, least));
           out = λ l.
               record {
                 stamp = stamp-filled;
                 values = values-filled;
                 cost = cost-limit;
                 counter = sym own-stamp;
-                tried = omega (arith, own-is);
+                tried = rw own-is tried;
                 threshold = ap notLess (places-equal (suc (w .place)) (written .stamp) (written .stamp) (λ j b. refl));
                 paid = omega (arith, paid-is, next-is);
                 bare = omega (arith, bare-is, i .cost);
@@ -236,32 +242,35 @@ module _ (n : ℕ) (sizes : List ℕ) (w : View) (g : GoodView n sizes w) where
       below d = omega (arith, g .place, g .units)
 
   -- one value tried, where those after it keep what is to be kept
-  module _ (m : ℕ) (again : Bool → State → Decision) (x : ℕ)
-      (next : (b : Bool) (u : State) → InHand n sizes w u → u .counter ≤ x → Improved n sizes (w .place) (u .bound) (u .best) b → Whenever (GoodDecision n sizes w m) (again b u)) where
-    after-write-kept : (v : ℕ) → x ≡ suc v → (u : State) (i : InHand n sizes w u) (tried : u .counter ≤ v) (left : v < getD sizes (w .place) 0)
-        (number : costWith w (u .values) (w .place) (suc v) ≡ Of (asNumber (costWith w (u .values) (w .place) (suc v)))) (b : Bool) → isLast w ≡ b
-        → Whenever (GoodDecision n sizes w (suc m)) (afterWrite w b (write w (suc v) (asNumber (costAt w (suc v) u)) u) again)
-    after-write-kept v q u i tried left number true e =
+  module _ (m : ℕ) (again : Bool → State → Decision) (x : ℕ) (least : 1 ≤ x) (most : x ≤ getD sizes (w .place) 0)
+      (next : (b : Bool) (u : State) → InHand n sizes w u → u .counter ≤ placeTried w x → Improved n sizes (w .place) (u .bound) (u .best) b → Whenever (GoodDecision n sizes w m) (again b u)) where
+    after-write-kept : (u : State) (i : InHand n sizes w u) (tried : u .counter < placeTried w x)
+        (number : costWith w (u .values) (w .place) x ≡ Of (asNumber (costWith w (u .values) (w .place) x))) (b : Bool) → isLast w ≡ b
+        → Whenever (GoodDecision n sizes w (suc m)) (afterWrite w b (write w x (asNumber (costAt w x u)) u) again)
+    after-write-kept u i tried number true e =
         let l : suc (w .place) ≡ n = last-or-not true e .0 refl in
-        kept-after n sizes w m (recordOf w (written u v i tried left number)) (again true (taken u v i tried left number))
-        (next true (taken u v i tried left number) (taken-in-hand u v i tried left number l) (omega arith) (λ z. (l, best-good u v i tried left number l)))
-    after-write-kept v q u i tried left number false e =
-        kept-more n sizes w 1 (suc m) (omega arith) (accepted _ _ _) (forward-kept u v i tried left number (last-or-not false e .1 refl))
+        kept-after n sizes w m (recordOf w (written u x i least most tried number)) (again true (taken u x i least most tried number))
+        (next true (taken u x i least most tried number) (taken-in-hand u x i least most tried number l) (omega arith) (λ z. (l, best-good u x i least most tried number l)))
+    after-write-kept u i tried number false e =
+        kept-more n sizes w 1 (suc m) (omega arith) (accepted _ _ _) (forward-kept u x i least most tried number (last-or-not false e .1 refl))
 
-    try-kept : (v : ℕ) → x ≡ suc v → (u : State) → InHand n sizes w u → u .counter ≤ v → v < getD sizes (w .place) 0 → (b : Bool) → Improved n sizes (w .place) (u .bound) (u .best) b
-        → (t : Bool) → below (costAt w (suc v) u ⊕ h w (suc v)) (u .bound) ≡ t
-        → Whenever (GoodDecision n sizes w (suc m)) (tryValue w t (suc v) (asNumber (costAt w (suc v) u)) b u again)
-    try-kept v q u i tried left b imp true e =
-        after-write-kept v q u i tried left (number-behind (u .cost) (costWith w (u .values) (w .place) (suc v)) (below-numbers (costAt w (suc v) u) (h w (suc v)) (u .bound) e)) (isLast w) refl
-    try-kept v q u i tried left b imp false e = kept-more n sizes w m (suc m) (omega arith) (again b u) (next b u i (omega arith) imp)
+    try-kept : (u : State) → InHand n sizes w u → u .counter < placeTried w x → (b : Bool) → Improved n sizes (w .place) (u .bound) (u .best) b
+        → (t : Bool) → below (costAt w x u ⊕ h w x) (u .bound) ≡ t
+        → Whenever (GoodDecision n sizes w (suc m)) (tryValue w t x (asNumber (costAt w x u)) b u again)
+    try-kept u i tried b imp true e =
+        after-write-kept u i tried (number-behind (u .cost) (costWith w (u .values) (w .place) x) (below-numbers (costAt w x u) (h w x) (u .bound) e)) (isLast w) refl
+    try-kept u i tried b imp false e = kept-more n sizes w m (suc m) (omega arith) (again b u) (next b u i (omega arith) imp)
 
-  pub values-kept : (m v : ℕ) → m + v ≡ getD sizes (w .place) 0 → (b : Bool) (u : State) → InHand n sizes w u → u .counter ≤ v → Improved n sizes (w .place) (u .bound) (u .best) b
+  pub values-kept : (m v : ℕ) → m + placeTried w v ≡ getD sizes (w .place) 0 → (b : Bool) (u : State) → InHand n sizes w u → u .counter ≤ placeTried w v → Improved n sizes (w .place) (u .bound) (u .best) b
       → Whenever (GoodDecision n sizes w m) (tryAfter w m v b u)
   unfolding tryAfter
   values-kept zero v e b u i tried imp = backtrack-kept u i b imp
   values-kept (suc m) v e b u i tried imp =
-      try-kept m (λ (b : Bool) (t : State). tryAfter w m (suc v) b t) (suc v) (λ b u i tried imp. values-kept m (suc v) (omega arith) b u i tried imp) v refl u i tried (omega arith) b imp
-      (below (costAt w (suc v) u ⊕ h w (suc v)) (u .bound)) refl
+      let more : placeTried w v < w .dom (w .place) = omega (arith, g .dom) in
+      let up : placeTried w (next w v) ≡ suc (placeTried w v) = next-place w v more in
+      try-kept m (λ (b : Bool) (t : State). tryAfter w m (next w v) b t) (next w v) (next-least w v more) (rw (g .dom) at (next-most w v))
+      (λ b u i tried imp. values-kept m (next w v) (omega (arith, up)) b u i tried imp) u i (omega (arith, up)) b imp
+      (below (costAt w (next w v) u ⊕ h w (next w v)) (u .bound)) refl
 
 -- ---- assign and resume
 
@@ -276,7 +285,7 @@ pub record Ready (n : ℕ) (sizes : List ℕ) (w : View) (u : State) : Type 0 wh
   pub values : filledTo (w .place) sizes (set (u .values) (w .place) 0) ≡ true
   pub bare : bareCost w u ≤ prefixLimit (w .place)
   pub value : ownValue w u ≤ getD sizes (w .place) 0
-  pub tried : 1 ≤ ownValue w u → u .counter ≤ ownValue w u
+  pub tried : 1 ≤ ownValue w u → u .counter ≤ placeTried w (ownValue w u)
 
 module _ (n : ℕ) (sizes : List ℕ) (w : View) (g : GoodView n sizes w) (u : State) (r : Ready n sizes w u) where
   begun-in-hand : InHand n sizes w (begun w u)
@@ -306,10 +315,10 @@ module _ (n : ℕ) (sizes : List ℕ) (w : View) (g : GoodView n sizes w) (u : S
       }
 
   -- 01: "if the paper has no own value the counter becomes 0"
-  begun-tried : begun w u .counter ≤ ownValue w u
+  begun-tried : begun w u .counter ≤ placeTried w (ownValue w u)
   begun-tried = go (eqb (ownValue w u) 0) refl
     where
-      go : (t : Bool) → eqb (ownValue w u) 0 ≡ t → cond t 0 (u .counter) ≤ ownValue w u
+      go : (t : Bool) → eqb (ownValue w u) 0 ≡ t → cond t 0 (u .counter) ≤ placeTried w (ownValue w u)
       go true e = omega arith
       go false e = r .tried (nonzero (ownValue w u) (eqb-false (ownValue w u) 0 e))
         where
@@ -319,10 +328,10 @@ module _ (n : ℕ) (sizes : List ℕ) (w : View) (g : GoodView n sizes w) (u : S
   pub assign-kept : Whenever (GoodDecision n sizes w 16) (assign w u)
   unfolding assign
   assign-kept =
-      let d : w .dom (w .place) - ownValue w u + ownValue w u ≡ getD sizes (w .place) 0 = omega (arith, g .dom, r .value) in
-      kept-more n sizes w (w .dom (w .place) - ownValue w u) 16 (omega (arith, g .dom, size-most n sizes w g (w .place) (g .place)))
-      (tryAfter w (w .dom (w .place) - ownValue w u) (ownValue w u) false (begun w u))
-      (values-kept n sizes w g (w .dom (w .place) - ownValue w u) (ownValue w u) d false (begun w u) begun-in-hand begun-tried (λ e. absurd (false≢true e)))
+      let d : left w (ownValue w u) + placeTried w (ownValue w u) ≡ getD sizes (w .place) 0 = omega (arith, g .dom, place-most w (ownValue w u) (omega (arith, g .dom, r .value))) in
+      kept-more n sizes w (left w (ownValue w u)) 16 (omega (arith, g .dom, size-most n sizes w g (w .place) (g .place)))
+      (tryAfter w (left w (ownValue w u)) (ownValue w u) false (begun w u))
+      (values-kept n sizes w g (left w (ownValue w u)) (ownValue w u) d false (begun w u) begun-in-hand begun-tried (λ e. absurd (false≢true e)))
 
   pub resume-kept : Whenever (GoodDecision n sizes w 16) (resume w u)
   unfolding resume

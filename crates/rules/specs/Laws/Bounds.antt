@@ -14,6 +14,7 @@ use Rattle.costs.specs.declared.Cost.{Cost}
 use Rattle.costs.specs.Cost.{_⊕_, below, asNumber}
 use Rattle.costs.specs.Cost.Laws.{below-part}
 use Rattle.costs.specs.Bounds.{h}
+use Rattle.costs.specs.Order.{next, left}
 use Rattle.message.specs.declared.Message.{Message}
 use Rattle.message.specs.declared.Kind.{Kind}
 use Rattle.message.specs.declared.Kind.the-variants.{Cpa, Request, Estimate, Solution, Stop}
@@ -21,7 +22,7 @@ use Rattle.rules.specs.declared.Unit.{Unit as State}
 use Rattle.rules.specs.declared.Ordering.{Ordering}
 use Rattle.rules.specs.declared.Ordering.the-variants.{Less, Equal, Greater}
 use Rattle.rules.specs.declared.Sending.{Sending}
-use Rattle.rules.specs.State.{withThreshold, withBest, withCpa, left, ownValue, compareOn, sameOn}
+use Rattle.rules.specs.State.{withThreshold, withBest, withCpa, ownValue, compareOn, sameOn}
 use Rattle.rules.specs.Step.{Decision, refused, accepted, Written, recorded, quiet, takeBound, bareCost, takeOff, backtrack, write, recordOf, afterWrite, tryAfter, begun, assign, resume, onDown, isOut, isCpaOut, onBack, onCpa, onFresh, onRequest, onOwnEstimate, onTimely, onEstimate, onSolution, onStop, byKind, respond}
 use Rattle.rules.specs.Tests.{costAt, sumLater, stored, silent, isLast, tryValue, onOwn, takeLower, reachedBound, onEither, reachedByEstimates, unlessStopped}
 use Rattle.rules.specs.Send.{packets}
@@ -105,23 +106,23 @@ module _ (w : View) where
   backtrack-lowers b u = omega arith
 
   -- a value tried, where those after it raise no bound
-  module _ (again : Bool → State → Decision) (next : (b : Bool) (u : State) → Whenever (BoundAtMost (u .bound)) (again b u)) where
+  module _ (again : Bool → State → Decision) (after : (b : Bool) (u : State) → Whenever (BoundAtMost (u .bound)) (again b u)) where
     after-write-lowers : (b : Bool) (B : ℕ) (u : State) → u .bound ≤ B → u .cost ≤ B → Whenever (BoundAtMost B) (afterWrite w b u again)
     after-write-lowers true B u l c =
         let t : State = takeOff w (withBest (u .cost) (u .values) u) in
-        most-after B (recordOf w u) (again true t) (most-of (u .cost) B c (again true t) (next true t))
+        most-after B (recordOf w u) (again true t) (most-of (u .cost) B c (again true t) (after true t))
     after-write-lowers false B u l c = l
 
     try-lowers : (t : Bool) (v : ℕ) (c : Cost) (b : Bool) (u : State) → below (c ⊕ h w v) (u .bound) ≡ t → Whenever (BoundAtMost (u .bound)) (tryValue w t v (asNumber c) b u again)
     try-lowers true v c b u e = after-write-lowers (isLast w) (u .bound) (write w v (asNumber c) u) (omega arith) (omega (arith, below-part c (h w v) (u .bound) e))
-    try-lowers false v c b u e = next b u
+    try-lowers false v c b u e = after b u
 
   values-lower : (m v : ℕ) (b : Bool) (u : State) → Whenever (BoundAtMost (u .bound)) (tryAfter w m v b u)
   unfolding tryAfter
   values-lower zero v b u = backtrack-lowers b u
   values-lower (suc m) v b u =
-      let c : Cost = costAt w (suc v) u in
-      try-lowers (λ (b : Bool) (t : State). tryAfter w m (suc v) b t) (λ b t. values-lower m (suc v) b t) (below (c ⊕ h w (suc v)) (u .bound)) (suc v) c b u refl
+      let c : Cost = costAt w (next w v) u in
+      try-lowers (λ (b : Bool) (t : State). tryAfter w m (next w v) b t) (λ b t. values-lower m (next w v) b t) (below (c ⊕ h w (next w v)) (u .bound)) (next w v) c b u refl
 
   pub assign-lowers : (u : State) → Whenever (BoundAtMost (u .bound)) (assign w u)
   unfolding assign
@@ -219,21 +220,21 @@ module _ (w : View) (last : isLast w ≡ true) where
   unfolding backtrack
   backtrack-none b u = zeros-everywhere 16 (w .place)
 
-  module _ (again : Bool → State → Decision) (next : (b : Bool) (u : State) → Whenever (NoneOut w) (again b u)) where
+  module _ (again : Bool → State → Decision) (after : (b : Bool) (u : State) → Whenever (NoneOut w) (again b u)) where
     after-write-none : (b : Bool) → isLast w ≡ b → (u : State) → Whenever (NoneOut w) (afterWrite w b u again)
-    after-write-none true e u = let t : State = takeOff w (withBest (u .cost) (u .values) u) in none-after (recordOf w u) (again true t) (next true t)
+    after-write-none true e u = let t : State = takeOff w (withBest (u .cost) (u .values) u) in none-after (recordOf w u) (again true t) (after true t)
     after-write-none false e u = absurd (false≢true (sym e ∙ last))
 
     try-none : (t : Bool) (v c : ℕ) (b : Bool) (u : State) → Whenever (NoneOut w) (tryValue w t v c b u again)
     try-none true v c b u = after-write-none (isLast w) refl (write w v c u)
-    try-none false v c b u = next b u
+    try-none false v c b u = after b u
 
   values-none : (m v : ℕ) (b : Bool) (u : State) → Whenever (NoneOut w) (tryAfter w m v b u)
   unfolding tryAfter
   values-none zero v b u = backtrack-none b u
   values-none (suc m) v b u =
-      let c : Cost = costAt w (suc v) u in
-      try-none (λ (b : Bool) (t : State). tryAfter w m (suc v) b t) (λ b t. values-none m (suc v) b t) (below (c ⊕ h w (suc v)) (u .bound)) (suc v) (asNumber c) b u
+      let c : Cost = costAt w (next w v) u in
+      try-none (λ (b : Bool) (t : State). tryAfter w m (next w v) b t) (λ b t. values-none m (next w v) b t) (below (c ⊕ h w (next w v)) (u .bound)) (next w v) (asNumber c) b u
 
   resume-none : (u : State) → Whenever (NoneOut w) (resume w u)
   unfolding resume assign

@@ -11,6 +11,7 @@ use borrow.Author.Tests.{ltb-false, le-ltb, not-false}
 use Rattle.base.specs.Limits.{sendingSize}
 use Rattle.base.specs.Refusal.Laws.{or-left, or-right}
 use Rattle.base.specs.Shape.{shapeGood}
+use Rattle.costs.specs.declared.ValueOrder.{ValueOrder}
 use Rattle.costs.specs.Instance.{View, lentView}
 use Rattle.costs.specs.Lent.{lentRefusal}
 use Rattle.message.specs.declared.Message.{Message}
@@ -43,11 +44,11 @@ pub record Makes (own n : ℕ) (sizes costs : List ℕ) (room : ℕ) : Type 0 wh
   pub fits : sendingSize ≤ room
 
 -- a step that isn't refused before its message is read
-pub record Passed (u : State) (own n : ℕ) (sizes costs : List ℕ) (room : ℕ) : Type 0 where
+pub record Passed (order : ValueOrder) (u : State) (own n : ℕ) (sizes costs : List ℕ) (room : ℕ) : Type 0 where
   pub shape : shapeGood n sizes ≡ true
   pub unit : isUnit n own ≡ true
   pub lent : lentRefusal own n sizes costs ≡ 0
-  pub state : inRange sizes (lentView own n sizes costs) u ≡ true
+  pub state : inRange sizes (lentView order own n sizes costs) u ≡ true
   pub fits : sendingSize ≤ room
 
 -- what is lent beside a state, not refused
@@ -84,15 +85,15 @@ module _ (own n : ℕ) (sizes costs : List ℕ) where
         let s = seated (or-left _ _ e) in
         record { shape = s .shape; unit = s .unit; lent = s .lent; fits = ltb-false room sendingSize (fails (ltb room sendingSize) 12 0 (or-right (seatRefusal own n sizes costs) _ e) .0) }
 
-    module _ (u : State) where
-      pub passed : stepRefusal u own n sizes costs room ≡ 0 → Passed u own n sizes costs room
+    module _ (order : ValueOrder) (u : State) where
+      pub passed : stepRefusal order u own n sizes costs room ≡ 0 → Passed order u own n sizes costs room
       unfolding stepRefusal rangeRefusal
       passed e =
           let f = fails (ltb room sendingSize) 12 _ e in
           let s = seated (or-left _ _ (f .1)) in
           record { shape = s .shape; unit = s .unit; lent = s .lent; state = holds _ 4 (or-right (seatRefusal own n sizes costs) _ (f .1)); fits = ltb-false room sendingSize (f .0) }
 
-      pub not-refused : Passed u own n sizes costs room → stepRefusal u own n sizes costs room ≡ 0
+      pub not-refused : Passed order u own n sizes costs room → stepRefusal order u own n sizes costs room ≡ 0
       unfolding stepRefusal rangeRefusal
       not-refused p = rw (le-ltb room sendingSize (p .fits), seat-good (record { shape = p .shape; unit = p .unit; lent = p .lent }), p .state)
 
@@ -101,9 +102,9 @@ unless-refused : (P : Decision → Type 0) (r : ℕ) (o : Decision) → ((x : �
 unless-refused P zero o f g = g refl
 unless-refused P (suc r) o f g = f (suc r)
 
-module _ (own n : ℕ) (sizes costs : List ℕ) (room : ℕ) (long : n ≤ length sizes) where
+module _ (order : ValueOrder) (own n : ℕ) (sizes costs : List ℕ) (room : ℕ) (long : n ≤ length sizes) where
   abbrev view : View
-  view = lentView own n sizes costs
+  view = lentView order own n sizes costs
 
   own-suc : isUnit n own ≡ true → own ≡ suc (pred own)
   own-suc e = omega (arith, unit-range n own e .0)
@@ -114,11 +115,11 @@ module _ (own n : ℕ) (sizes costs : List ℕ) (room : ℕ) (long : n ≤ lengt
 
   -- ---- making
 
-  pub make-kept : Whenever (GoodDecision n sizes (lentView own n sizes costs) 16) (makeOut own n sizes costs room)
+  pub make-kept : Whenever (GoodDecision n sizes (lentView order own n sizes costs) 16) (makeOut order own n sizes costs room)
   unfolding makeOut
   make-kept =
       unless-refused (Whenever (GoodDecision n sizes view 16)) (makeRefusal own n sizes costs room) (start view (pred own)) (λ x. tt)
-      (λ e. let m = makes own n sizes costs room e in start-kept n sizes view (lent-good own n sizes costs (m .shape) long (m .unit) (m .lent)) (pred own) (sym place-is))
+      (λ e. let m = makes own n sizes costs room e in start-kept n sizes view (lent-good order own n sizes costs (m .shape) long (m .unit) (m .lent)) (pred own) (sym place-is))
 
   -- ---- a step
 
@@ -126,27 +127,27 @@ module _ (own n : ℕ) (sizes costs : List ℕ) (room : ℕ) (long : n ≤ lengt
     receiver-is : isUnit n own ≡ true → (m : Message) → m .receiver ≡ own → m .receiver ≡ suc (view .place)
     receiver-is i m e = omega (arith, unit-range n own i .0, place-is)
 
-    read-kept : Passed u own n sizes costs room → (a : Read) → parseFor n sizes own bytes .answer ≡ a → Whenever (GoodDecision n sizes view 16) (onRead view u a (parseFor n sizes own bytes .message))
+    read-kept : Passed order u own n sizes costs room → (a : Read) → parseFor n sizes own bytes .answer ≡ a → Whenever (GoodDecision n sizes view 16) (onRead view u a (parseFor n sizes own bytes .message))
     read-kept p (Refused r) e = tt
     read-kept p (Good k) e =
         let a = parsed-good n sizes own bytes k e in
         let m : Message = messageIn bytes in
         subst (λ (x : Message). Whenever (GoodDecision n sizes view 16) (respond view k u x)) (sym (ap (λ (x : Parsed). x .message) (a .whole)))
-        (respond-kept n sizes view (lent-good own n sizes costs (p .shape) long (p .unit) (p .lent)) k u m (p .state) arrays
+        (respond-kept n sizes view (lent-good order own n sizes costs (p .shape) long (p .unit) (p .lent)) k u m (p .state) arrays
         record { address = a .address; form = a .formed; arrays = sized-in bytes (check-length bytes (a .check)) all } (receiver-is (p .unit) m (a .receiver)))
 
-    pub step-kept : Whenever (GoodDecision n sizes (lentView own n sizes costs) 16) (stepOut u own n sizes costs bytes room)
+    pub step-kept : Whenever (GoodDecision n sizes (lentView order own n sizes costs) 16) (stepOut order u own n sizes costs bytes room)
     unfolding stepOut
     step-kept =
-        unless-refused (Whenever (GoodDecision n sizes view 16)) (stepRefusal u own n sizes costs room) (onRead view u (parseFor n sizes own bytes .answer) (parseFor n sizes own bytes .message)) (λ x. tt)
-        (λ e. read-kept (passed own n sizes costs room u e) (parseFor n sizes own bytes .answer) refl)
+        unless-refused (Whenever (GoodDecision n sizes view 16)) (stepRefusal order u own n sizes costs room) (onRead view u (parseFor n sizes own bytes .answer) (parseFor n sizes own bytes .message)) (λ x. tt)
+        (λ e. read-kept (passed own n sizes costs room order u e) (parseFor n sizes own bytes .answer) refl)
 
   -- a packet that can be written, written and given to its receiver, is what the unit responds to
-  pub step-of-packet : (u : State) → Passed u own n sizes costs room → (p : Packet) → Sendable n sizes p → p .message .receiver ≡ own
-      → stepOut u own n sizes costs (encode (p .kind) (p .message)) room ≡ respond (lentView own n sizes costs) (p .kind) u (p .message)
+  pub step-of-packet : (u : State) → Passed order u own n sizes costs room → (p : Packet) → Sendable n sizes p → p .message .receiver ≡ own
+      → stepOut order u own n sizes costs (encode (p .kind) (p .message)) room ≡ respond (lentView order own n sizes costs) (p .kind) u (p .message)
   unfolding stepOut
   step-of-packet u q p s to =
       let read : Parsed = record { answer = Good (p .kind); message = p .message } in
       let e : parseFor n sizes own (encode (p .kind) (p .message)) ≡ read =
       subst (λ (x : ℕ). parseFor n sizes x (encode (p .kind) (p .message)) ≡ read) to (parse-encode n sizes (p .kind) (p .message) (q .shape) (s .address) (s .form) (s .arrays)) in
-      rw (not-refused own n sizes costs room u q, e)
+      rw (not-refused own n sizes costs room order u q, e)

@@ -17,6 +17,7 @@ use Rattle.costs.specs.Laws.{limit-total}
 use Rattle.costs.specs.Cost.Laws.{add-forbidden}
 use Rattle.costs.specs.Instance.{View}
 use Rattle.costs.specs.Bounds.{costWith, h}
+use Rattle.costs.specs.Order.{next}
 use Rattle.message.specs.declared.Message.{Message}
 use Rattle.rules.specs.declared.Unit.{Unit}
 use Rattle.rules.specs.declared.Ordering.the-variants.{Equal}
@@ -26,12 +27,12 @@ use Rattle.rules.specs.Tests.{costAt, sumLater, stored}
 use Rattle.rules.specs.Laws.Range.{range-facts}
 
 -- 02: "if there are none, the value can't be written, even with no bound"
-pub no-h-passed-over : (w : View) (m v : ℕ) (improved : Bool) (u : Unit) → h w (suc v) ≡ Forbidden → tryAfter w (suc m) v improved u ≡ tryAfter w m (suc v) improved u
+pub no-h-passed-over : (w : View) (m v : ℕ) (improved : Bool) (u : Unit) → h w (next w v) ≡ Forbidden → tryAfter w (suc m) v improved u ≡ tryAfter w m (next w v) improved u
 unfolding tryAfter
-no-h-passed-over w m v improved u e = rw (e, add-forbidden (costAt w (suc v) u))
+no-h-passed-over w m v improved u e = rw (e, add-forbidden (costAt w (next w v) u))
 
 -- "A lotting with a barred pair isn't a lotting"
-pub forbidden-passed-over : (w : View) (m v : ℕ) (improved : Bool) (u : Unit) → costWith w (u .values) (w .place) (suc v) ≡ Forbidden → tryAfter w (suc m) v improved u ≡ tryAfter w m (suc v) improved u
+pub forbidden-passed-over : (w : View) (m v : ℕ) (improved : Bool) (u : Unit) → costWith w (u .values) (w .place) (next w v) ≡ Forbidden → tryAfter w (suc m) v improved u ≡ tryAfter w m (next w v) improved u
 unfolding tryAfter
 forbidden-passed-over w m v improved u e = rw e
 

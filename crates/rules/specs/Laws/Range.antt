@@ -12,6 +12,7 @@ use borrow.Author.Tests.{leb-true, le-leb, eqb-true, eqb-false, eq-eqb, ne-eqb}
 use Rattle.base.specs.Limits.{estimateLimit, prefixLimit}
 use Rattle.base.specs.Shape.Laws.{and-left, and-right}
 use Rattle.costs.specs.Instance.{View}
+use Rattle.costs.specs.Order.{placeTried}
 use Rattle.message.specs.Message.{filledTo, noneOrBound}
 use Rattle.rules.specs.declared.Unit.{Unit}
 use Rattle.rules.specs.State.{ownValue, ownCost, compareOn, notLess, cpaZero, cpaOutInRange, paidInRange, inRangePaid, inRange}
@@ -37,7 +38,7 @@ pub record CpaOut (sizes : List ℕ) (w : View) (u : Unit) : Type 0 where
   pub values : filledTo (suc (w .place)) sizes (u .values) ≡ true
   pub cost : u .cost ≤ prefixLimit (suc (w .place))
   pub counter : u .counter ≡ getD (u .stamp) (w .place) 0
-  pub tried : u .counter ≤ ownValue w u
+  pub tried : u .counter ≤ placeTried w (ownValue w u)
   pub threshold : notLess (compareOn (suc (w .place)) (u .threshold) (u .stamp)) ≡ true
   pub paid : ownCost w u ≤ u .cost
   pub bare : u .cost - ownCost w u ≤ prefixLimit (w .place)
@@ -69,7 +70,7 @@ module _ (sizes : List ℕ) (w : View) (u : Unit) where
   unfolding cpaZero
   none-tests f = both _ _ (both _ _ (f .stamp) (f .values)) (eq-eqb (u .cost) 0 (f .cost))
 
-  out-facts : cpaOutInRange sizes (suc (w .place)) (ownCost w u) u ≡ true → CpaOut sizes w u
+  out-facts : cpaOutInRange sizes (suc (w .place)) (ownCost w u) (placeTried w (ownValue w u)) u ≡ true → CpaOut sizes w u
   unfolding cpaOutInRange
   out-facts e =
       let b = split _ _ e in
@@ -90,7 +91,7 @@ module _ (sizes : List ℕ) (w : View) (u : Unit) where
         bare = leb-true _ _ (b .1);
       }
 
-  out-tests : CpaOut sizes w u → cpaOutInRange sizes (suc (w .place)) (ownCost w u) u ≡ true
+  out-tests : CpaOut sizes w u → cpaOutInRange sizes (suc (w .place)) (ownCost w u) (placeTried w (ownValue w u)) u ≡ true
   unfolding cpaOutInRange
   out-tests f =
       both _ _
@@ -119,7 +120,7 @@ module _ (sizes : List ℕ) (w : View) (u : Unit) where
   range-tests f =
       both _ _ (both _ _ (both _ _ (at-most 17 (u .threshold) (f .threshold)) (at-most estimateLimit (u .estimates) (f .estimates))) (f .bound)) (go (eqb (ownValue w u) 0) refl)
     where
-      go : (t : Bool) → eqb (ownValue w u) 0 ≡ t → cond t (cpaZero sizes u) (cpaOutInRange sizes (suc (w .place)) (ownCost w u) u) ≡ true
+      go : (t : Bool) → eqb (ownValue w u) 0 ≡ t → cond t (cpaZero sizes u) (cpaOutInRange sizes (suc (w .place)) (ownCost w u) (placeTried w (ownValue w u)) u) ≡ true
       go true e = none-tests (f .none (eqb-true (ownValue w u) 0 e))
       go false e = out-tests (f .out (nonzero (ownValue w u) (eqb-false (ownValue w u) 0 e)))
         where
@@ -127,6 +128,6 @@ module _ (sizes : List ℕ) (w : View) (u : Unit) where
           nonzero x h = omega arith
 
 -- by the number of a unit
-pub range-numbered : (n : ℕ) (sizes : List ℕ) (k paid : ℕ) (u : Unit) → k < 16 → inRangePaid n sizes (k + 1) paid u ≡ paidInRange n sizes (suc k) paid u
+pub range-numbered : (n : ℕ) (sizes : List ℕ) (k paid place : ℕ) (u : Unit) → k < 16 → inRangePaid n sizes (k + 1) paid place u ≡ paidInRange n sizes (suc k) paid place u
 unfolding inRangePaid
-range-numbered n sizes k paid u l = simp (add-one, le-leb 1 (suc k) (omega arith), le-leb (suc k) 16 (omega arith))
+range-numbered n sizes k paid place u l = simp (add-one, le-leb 1 (suc k) (omega arith), le-leb (suc k) 16 (omega arith))

@@ -3,11 +3,12 @@
 use Prim.Native.Nat.{ℕ, zero, suc, pred, _-_, _≤_, _<_}
 use native.Mathlib.Omega.{arith}
 use mathlib.Core.Path.{_≡_, refl, ap}
+use mathlib.Core.Logic.{_≢_}
 use mathlib.Core.Bool.{Bool, true, false, cond}
 use mathlib.Core.List.{List}
-use lib.Dec.{ltb}
+use lib.Dec.{ltb, eqb}
 use lib.ListN.{getD, length}
-use borrow.Author.Tests.{lt-ltb}
+use borrow.Author.Tests.{lt-ltb, eqb-true, eqb-false}
 use Rattle.base.specs.Shape.{shapeGood}
 use Rattle.base.specs.Shape.Laws.{shape-n, shape-size}
 use Rattle.costs.specs.declared.Seat.{Seat}
@@ -16,13 +17,13 @@ use Rattle.message.specs.declared.Message.{Message}
 use Rattle.message.specs.declared.Kind.{Kind}
 use Rattle.message.specs.declared.Kind.the-variants.{Cpa, Request, Estimate, Solution, Stop}
 use Rattle.message.specs.Message.{carriedOf, isUnit, addressGood, wellFormed}
-use Rattle.message.specs.Laws.{cpaCount, filled-past, Addressed, addressed, formed}
+use Rattle.message.specs.Laws.{cpaCount, filled-at, filled-past, Addressed, addressed, formed}
 use Rattle.rules.specs.declared.Unit.{Unit}
-use Rattle.rules.specs.State.{fresh, zeros, ownValue, inRange}
+use Rattle.rules.specs.State.{fresh, ownValue, inRange}
 use Rattle.rules.specs.Ready.{Own, Shaped, Ready, Heard}
 use Rattle.rules.specs.Laws.Views.{unit-range}
 use Rattle.rules.specs.Laws.Filled.{filled-most, zeros-at}
-use Rattle.rules.specs.Laws.Range.{range-facts}
+use Rattle.rules.specs.Laws.Range.{CpaOut, InRange, range-facts}
 
 pub own-of : (own n : ℕ) (sizes : List ℕ) → shapeGood n sizes ≡ true → isUnit n own ≡ true → Own own
 own-of own n sizes s e = let u = unit-range n own e in record { first = u .0; last = omega (arith, u .1, shape-n n sizes s .1) }
@@ -47,18 +48,33 @@ value-at : (seat : Seat) (costs : List ℕ) (u : Unit) → ownValue (viewFrom se
 unfolding lentView
 value-at seat costs u = ap (λ (k : ℕ). getD (u .values) k 0) (pred-sub (seat .own))
 
-pub ready-of : (seat : Seat) (costs : List ℕ) (u : Unit) → Own (seat .own) → inRange (seat .sizes) (viewFrom seat costs) u ≡ true → Ready (seat .own) u
-ready-of seat costs u o e =
+-- the counter is the own stamp, which is at most the own domain size
+pub ready-of : (seat : Seat) (costs : List ℕ) (u : Unit) → shapeGood (seat .n) (seat .sizes) ≡ true → seat .n ≤ length (seat .sizes) → isUnit (seat .n) (seat .own) ≡ true
+    → inRange (seat .sizes) (viewFrom seat costs) u ≡ true → Ready seat u
+unfolding lentView
+ready-of seat costs u s long i e =
+    let o = own-of (seat .own) (seat .n) (seat .sizes) s i in
     let f = range-facts (seat .sizes) (viewFrom seat costs) u e in
     let v = value-at seat costs u in
-    record { threshold = f .threshold (seat .own - 1) (omega arith); counter = λ z. rw v at (f .out (rw v z) .tried) }
+    record { threshold = f .threshold (seat .own - 1) (omega (arith, o .first, o .last)); value = valued o f (eqb (getD (u .values) (seat .own - 1) 0) 0) refl; counter = λ z. counted o (f .out (rw v z)) }
+  where
+    valued : Own (seat .own) → InRange (seat .sizes) (viewFrom seat costs) u → (t : Bool) → eqb (getD (u .values) (seat .own - 1) 0) 0 ≡ t
+        → getD (u .values) (seat .own - 1) 0 ≤ getD (seat .sizes) (seat .own - 1) 0
+    valued o f true z = omega (arith, eqb-true (getD (u .values) (seat .own - 1) 0) 0 z)
+    valued o f false z =
+        let ne : getD (u .values) (seat .own - 1) 0 ≢ 0 = eqb-false (getD (u .values) (seat .own - 1) 0) 0 z in
+        let out = f .out (omega (arith, value-at seat costs u)) in
+        rw (pred-sub (seat .own)) at (filled-at (suc (pred (seat .own))) (seat .sizes) (u .values) (out .values) (pred (seat .own)) (omega arith) (omega (arith, o .first, o .last)) .1)
+
+    counted : Own (seat .own) → CpaOut (seat .sizes) (viewFrom seat costs) u → u .counter ≤ 16
+    counted o c =
+        let r = unit-range (seat .n) (seat .own) i in
+        omega (arith, c .counter, filled-most (seat .n) (suc (pred (seat .own))) (seat .sizes) (u .stamp) (omega (arith, r .0, r .1)) (λ j l. shape-size (seat .n) (seat .sizes) s long j l .1) (c .stamp) (pred (seat .own)) (omega (arith, o .first, o .last)))
 
 -- 01: "It starts with bound none, all else zero."
-pub ready-fresh : (own : ℕ) → Own own → Ready own fresh
-ready-fresh own o =
-    let z = zeros-at (own - 1) (omega arith) in record { threshold = omega arith; counter = λ l. absurd (none l) } where
-      none : 0 < getD zeros (own - 1) 0 → ⊥
-      none l = omega (arith, zeros-at (own - 1) (omega arith))
+pub ready-fresh : (seat : Seat) → Own (seat .own) → Ready seat fresh
+ready-fresh seat o =
+    let z = zeros-at (seat .own - 1) (omega (arith, o .first, o .last)) in record { threshold = omega arith; value = omega arith; counter = λ l. absurd (omega arith) }
 
 -- ---- the message
 

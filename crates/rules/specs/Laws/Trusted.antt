@@ -11,6 +11,7 @@ use borrow.Author.Tests.{le-leb, lt-leb, leb-true, leb-false, lt-ltb, le-ltb, eq
 use Rattle.base.specs.Limits.{sendingSize}
 use Rattle.base.specs.Shape.Laws.{and-left, and-right}
 use Rattle.costs.specs.declared.Seat.{Seat}
+use Rattle.costs.specs.declared.ValueOrder.{ValueOrder}
 use Rattle.costs.specs.Instance.{View, lentView, viewFrom}
 use Rattle.message.specs.declared.Kind.{Kind}
 use Rattle.message.specs.declared.Message.{Message}
@@ -36,8 +37,8 @@ use Rattle.rules.specs.Laws.Readiness.{shaped-of, ready-of, ready-fresh,
 use Rattle.rules.specs.Laws.Calls.{Makes, Passed, not-refused}
 
 -- a seat by its parts
-abbrev pub seatAt : ℕ → ℕ → List ℕ → Seat
-seatAt own n sizes = record { own = own; n = n; sizes = sizes }
+abbrev pub seatAt : ValueOrder → ℕ → ℕ → List ℕ → Seat
+seatAt order own n sizes = record { own = own; n = n; sizes = sizes; order = order }
 
 -- ---- what the tests say
 
@@ -46,8 +47,12 @@ either true b e f = let c : _≡_ {A = ℕ} 0 1 = cc in absurd (omega arith)
 either false b e f = e
 
 module _ (seat : Seat) (u : State) (e : canStep (seat .own) (seat .n) (seat .sizes) u ≡ true) where
+  valued : (isUnit (seat .n) (seat .own) && leb (seat .n) 16 && leb (getD (seat .sizes) (seat .own - 1) 0) 16 && leb (getD (u .threshold) (seat .own - 1) 0) 17
+      && leb (getD (u .values) (seat .own - 1) 0) (getD (seat .sizes) (seat .own - 1) 0)) ≡ true
+  valued = and-left _ _ e
+
   counted : (isUnit (seat .n) (seat .own) && leb (seat .n) 16 && leb (getD (seat .sizes) (seat .own - 1) 0) 16 && leb (getD (u .threshold) (seat .own - 1) 0) 17) ≡ true
-  counted = and-left _ _ e
+  counted = and-left _ _ valued
 
   pub known-shaped : Shaped seat
   known-shaped =
@@ -62,10 +67,11 @@ module _ (seat : Seat) (u : State) (e : canStep (seat .own) (seat .n) (seat .siz
         size = leb-true _ 16 (and-right (isUnit (seat .n) (seat .own) && leb (seat .n) 16) _ s);
       }
 
-  pub known-ready : Ready (seat .own) u
+  pub known-ready : Ready seat u
   known-ready = record {
     threshold = leb-true _ 17 (and-right (isUnit (seat .n) (seat .own) && leb (seat .n) 16 && leb (getD (seat .sizes) (seat .own - 1) 0) 16) _ counted);
-    counter = λ l. leb-true _ _ (either _ _ (and-right (isUnit (seat .n) (seat .own) && leb (seat .n) 16 && leb (getD (seat .sizes) (seat .own - 1) 0) 16 && leb (getD (u .threshold) (seat .own - 1) 0) 17) _ e) (ne-eqb (getD (u .values) (seat .own - 1) 0) 0 (λ z. omega (arith, l, z))));
+    value = leb-true _ _ (and-right (isUnit (seat .n) (seat .own) && leb (seat .n) 16 && leb (getD (seat .sizes) (seat .own - 1) 0) 16 && leb (getD (u .threshold) (seat .own - 1) 0) 17) _ valued);
+    counter = λ l. leb-true _ _ (either _ _ (and-right (isUnit (seat .n) (seat .own) && leb (seat .n) 16 && leb (getD (seat .sizes) (seat .own - 1) 0) 16 && leb (getD (u .threshold) (seat .own - 1) 0) 17 && leb (getD (u .values) (seat .own - 1) 0) (getD (seat .sizes) (seat .own - 1) 0)) _ e) (ne-eqb (getD (u .values) (seat .own - 1) 0) 0 (λ z. omega (arith, l, z))));
   }
 
 pub known-heard : (own : ℕ) (m : Message) → canHear own m ≡ true → Heard own m
@@ -110,17 +116,17 @@ module _ (seat : Seat) (costs : List ℕ) where
   unfolding startTo
   start-on e = rw e
 
-module _ (u : State) (own n : ℕ) (sizes costs bytes : List ℕ) (room : ℕ) where
-  pub trusted-13 : room < sendingSize → trustedOut u own n sizes costs bytes room ≡ refused 13
+module _ (order : ValueOrder) (u : State) (own n : ℕ) (sizes costs bytes : List ℕ) (room : ℕ) where
+  pub trusted-13 : room < sendingSize → trustedOut order u own n sizes costs bytes room ≡ refused 13
   unfolding trustedOut
   trusted-13 l = rw (lt-ltb room sendingSize l)
 
   module _ (fits : sendingSize ≤ room) (p : Parsed) (read : p ≡ unpackOf bytes) where
-    pub trusted-unread : (x : ℕ) → p .answer ≡ Refused x → (y : ℕ) → y ≡ refusalOf (p .answer) → trustedOut u own n sizes costs bytes room ≡ refused y
+    pub trusted-unread : (x : ℕ) → p .answer ≡ Refused x → (y : ℕ) → y ≡ refusalOf (p .answer) → trustedOut order u own n sizes costs bytes room ≡ refused y
     unfolding trustedOut
     trusted-unread x a y g = rw (g, le-ltb room sendingSize fits, ← read, a)
 
-    pub trusted-on : (k : Kind) → p .answer ≡ Good k → trustedOut u own n sizes costs bytes room ≡ respondTo (seatAt own n sizes) costs k u (p .message)
+    pub trusted-on : (k : Kind) → p .answer ≡ Good k → trustedOut order u own n sizes costs bytes room ≡ respondTo (seatAt order own n sizes) costs k u (p .message)
     unfolding trustedOut
     trusted-on k a = rw (le-ltb room sendingSize fits, ← read, a)
 
@@ -146,18 +152,18 @@ pub in-range-at : (seat : Seat) (costs : List ℕ) (u : State) → Own (seat .ow
 unfolding inRangeAt
 in-range-at seat costs u o = rw (le-leb 1 (seat .own) (o .first), le-leb (seat .own) 16 (o .last))
 
-fits-counter : (value counter : ℕ) → (0 < value → counter ≤ value) → (eqb value 0 || leb counter value) ≡ true
+fits-counter : (value counter : ℕ) → (0 < value → counter ≤ 16) → (eqb value 0 || leb counter 16) ≡ true
 fits-counter value counter f = go (eqb value 0) refl
   where
-    go : (t : Bool) → eqb value 0 ≡ t → (t || leb counter value) ≡ true
+    go : (t : Bool) → eqb value 0 ≡ t → (t || leb counter 16) ≡ true
     go true e = refl
     go false e = le-leb _ _ (f (nonzero (eqb-false _ 0 e)))
       where
         nonzero : (value ≡ 0 → ⊥) → 0 < value
         nonzero h = omega arith
 
-can-step : (seat : Seat) (u : State) → Shaped seat → isUnit (seat .n) (seat .own) ≡ true → Ready (seat .own) u → canStep (seat .own) (seat .n) (seat .sizes) u ≡ true
-can-step seat u s e r = rw (e, le-leb (seat .n) 16 (s .units), le-leb _ 16 (s .size), le-leb _ 17 (r .threshold)) (fits-counter (getD (u .values) (seat .own - 1) 0) (u .counter) (r .counter))
+can-step : (seat : Seat) (u : State) → Shaped seat → isUnit (seat .n) (seat .own) ≡ true → Ready seat u → canStep (seat .own) (seat .n) (seat .sizes) u ≡ true
+can-step seat u s e r = rw (e, le-leb (seat .n) 16 (s .units), le-leb _ 16 (s .size), le-leb _ 17 (r .threshold), le-leb _ _ (r .value)) (fits-counter (getD (u .values) (seat .own - 1) 0) (u .counter) (r .counter))
 
 can-hear : (own : ℕ) (m : Message) → Heard own m → canHear own m ≡ true
 can-hear own m h = rw (le-leb 1 (m .sender) (h .sender .first), le-leb (m .sender) 16 (h .sender .last), le-leb _ 17 (h .stamp)) (go (leb own (m .sender)) refl)
@@ -166,23 +172,23 @@ can-hear own m h = rw (le-leb 1 (m .sender) (h .sender .first), le-leb (m .sende
     go true e = refl
     go false e = eq-eqb _ 0 (h .bare (leb-false own (m .sender) e))
 
-pub starts : (own n : ℕ) (sizes costs : List ℕ) (room : ℕ) → Makes own n sizes costs room → n ≤ length sizes → startTo (seatAt own n sizes) costs ≡ start (lentView own n sizes costs) (pred own)
-starts own n sizes costs room m long =
-    let seat : Seat = seatAt own n sizes in
+pub starts : (order : ValueOrder) (own n : ℕ) (sizes costs : List ℕ) (room : ℕ) → Makes own n sizes costs room → n ≤ length sizes → startTo (seatAt order own n sizes) costs ≡ start (lentView order own n sizes costs) (pred own)
+starts order own n sizes costs room m long =
+    let seat : Seat = seatAt order own n sizes in
     let s = shaped-of seat (m .shape) long (m .unit) in
-    start-on seat costs (can-step seat fresh s (m .unit) (ready-fresh own (s .number)))
+    start-on seat costs (can-step seat fresh s (m .unit) (ready-fresh seat (s .number)))
 
-module _ (u : State) (own n : ℕ) (sizes costs : List ℕ) (room : ℕ) (q : Passed u own n sizes costs room) (long : n ≤ length sizes) (bytes : List ℕ) (k : Kind) (good : parseFor n sizes own bytes .answer ≡ Good k) where
+module _ (order : ValueOrder) (u : State) (own n : ℕ) (sizes costs : List ℕ) (room : ℕ) (q : Passed order u own n sizes costs room) (long : n ≤ length sizes) (bytes : List ℕ) (k : Kind) (good : parseFor n sizes own bytes .answer ≡ Good k) where
   known : ParsedGood n sizes own bytes k
   known = parsed-good n sizes own bytes k good
 
-  pub responds : respondTo (seatAt own n sizes) costs k u (messageIn bytes) ≡ respond (lentView own n sizes costs) k u (messageIn bytes)
+  pub responds : respondTo (seatAt order own n sizes) costs k u (messageIn bytes) ≡ respond (lentView order own n sizes costs) k u (messageIn bytes)
   responds =
-      let seat : Seat = seatAt own n sizes in
+      let seat : Seat = seatAt order own n sizes in
       let s = shaped-of seat (q .shape) long (q .unit) in
       let m = heard-of own n sizes k (messageIn bytes) (q .shape) long (known .address) (known .receiver) (known .formed) in
-      respond-on seat costs k u (messageIn bytes) (can-step seat u s (q .unit) (ready-of seat costs u (s .number) (q .state))) (can-hear own (messageIn bytes) m)
+      respond-on seat costs k u (messageIn bytes) (can-step seat u s (q .unit) (ready-of seat costs u (q .shape) long (q .unit) (q .state))) (can-hear own (messageIn bytes) m)
 
-  pub trusted-steps : trustedOut u own n sizes costs bytes room ≡ stepOut u own n sizes costs bytes room
+  pub trusted-steps : trustedOut order u own n sizes costs bytes room ≡ stepOut order u own n sizes costs bytes room
   unfolding trustedOut stepOut
-  trusted-steps = rw (unpack-parsed n sizes own bytes k good, known .whole, le-ltb room sendingSize (q .fits), not-refused own n sizes costs room u q) responds
+  trusted-steps = rw (unpack-parsed n sizes own bytes k good, known .whole, le-ltb room sendingSize (q .fits), not-refused own n sizes costs room order u q) responds

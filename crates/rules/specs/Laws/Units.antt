@@ -13,7 +13,8 @@ use lib.Seq.{getD-set-same, getD-set-other}
 use borrow.Author.Tests.{eqb-true, eqb-false}
 use Rattle.base.specs.Shape.Laws.{and-right}
 use Rattle.base.specs.Members.{Every}
-use Rattle.costs.specs.Instance.{Instance, viewOf}
+use Rattle.costs.specs.declared.ValueOrder.{ValueOrder}
+use Rattle.costs.specs.Instance.{Instance, viewBy}
 use Rattle.message.specs.Message.{Packet, isUnit, addressGood}
 use Rattle.rules.specs.declared.Unit.{Unit as State}
 use Rattle.rules.specs.declared.Sending.{Sending}
@@ -55,25 +56,25 @@ module _ (n : ℕ) (sizes : List ℕ) (p : Packet) (w : Sendable n sizes p) wher
 
 -- ---- units in range
 
-pub record AllInRange (I : Instance) (sizes : List ℕ) (us : List State) : Type 0 where
+pub record AllInRange (order : ValueOrder) (I : Instance) (sizes : List ℕ) (us : List State) : Type 0 where
   pub size : length us ≡ 16
-  pub states : (k : ℕ) → k < I .n → inRange sizes (viewOf I k) (unitAt us k) ≡ true
+  pub states : (k : ℕ) → k < I .n → inRange sizes (viewBy order I k) (unitAt us k) ≡ true
   pub arrays : (k : ℕ) → k < I .n → SizedUnit (unitAt us k)
 
 -- what a step of the unit at place k leaves: all in range, and at most 16 packets that can be written
-pub record Leaves (I : Instance) (sizes : List ℕ) (us : List State) (k : ℕ) (u : State) (s : Sending) (ws : List Written) : Type 0 where
-  pub units : AllInRange I sizes (set us k u)
+pub record Leaves (order : ValueOrder) (I : Instance) (sizes : List ℕ) (us : List State) (k : ℕ) (u : State) (s : Sending) (ws : List Written) : Type 0 where
+  pub units : AllInRange order I sizes (set us k u)
   pub sent : Every (Sendable (I .n) sizes) (packets (I .n) k s)
   pub few : length (packets (I .n) k s) ≤ 16
 
-module _ (I : Instance) (sizes : List ℕ) (n16 : I .n ≤ 16) (views : (k : ℕ) → k < I .n → GoodView (I .n) sizes (viewOf I k)) where
-  leaves : (us : List State) → AllInRange I sizes us → (k : ℕ) → k < I .n → (o : Decision) → Whenever (GoodDecision (I .n) sizes (viewOf I k) 16) o → Whenever (Leaves I sizes us k) o
+module _ (order : ValueOrder) (I : Instance) (sizes : List ℕ) (n16 : I .n ≤ 16) (views : (k : ℕ) → k < I .n → GoodView (I .n) sizes (viewBy order I k)) where
+  leaves : (us : List State) → AllInRange order I sizes us → (k : ℕ) → k < I .n → (o : Decision) → Whenever (GoodDecision (I .n) sizes (viewBy order I k) 16) o → Whenever (Leaves order I sizes us k) o
   leaves us r k lt (refused x) h = tt
   leaves us r k lt (accepted u s ws) h =
       record {
         units = record {
           size = length-set us k u ∙ r .size;
-          states = λ i l. set-unit (λ j x. j < I .n → inRange sizes (viewOf I j) x ≡ true) us k u (omega (arith, lt, n16, r .size)) (λ z. h .state) (λ j ne. r .states j) i l;
+          states = λ i l. set-unit (λ j x. j < I .n → inRange sizes (viewBy order I j) x ≡ true) us k u (omega (arith, lt, n16, r .size)) (λ z. h .state) (λ j ne. r .states j) i l;
           arrays = λ i l. set-unit (λ j x. j < I .n → SizedUnit x) us k u (omega (arith, lt, n16, r .size)) (λ z. h .arrays) (λ j ne. r .arrays j) i l;
         };
         sent = h .sent;
@@ -85,22 +86,22 @@ module _ (I : Instance) (sizes : List ℕ) (n16 : I .n ≤ 16) (views : (k : ℕ
   pub fresh-all : (i : ℕ) → i < I .n → unitAt (replicate 16 fresh) i ≡ fresh
   fresh-all i lt = getD-replicate 16 i fresh emptyUnit (omega (arith, lt, n16))
 
-  fresh-units : AllInRange I sizes (replicate 16 fresh)
+  fresh-units : AllInRange order I sizes (replicate 16 fresh)
   fresh-units =
       record {
         size = refl;
-        states = λ i l. subst (λ x. inRange sizes (viewOf I i) x ≡ true) (sym (fresh-all i l)) (fresh-in-range (I .n) sizes (viewOf I i) (views i l));
-        arrays = λ i l. subst SizedUnit (sym (fresh-all i l)) (fresh-arrays (I .n) sizes (viewOf I i) (views i l));
+        states = λ i l. subst (λ x. inRange sizes (viewBy order I i) x ≡ true) (sym (fresh-all i l)) (fresh-in-range (I .n) sizes (viewBy order I i) (views i l));
+        arrays = λ i l. subst SizedUnit (sym (fresh-all i l)) (fresh-arrays (I .n) sizes (viewBy order I i) (views i l));
       }
 
-  pub start-in-range : 0 < I .n → Whenever (Leaves I sizes (replicate 16 fresh) 0) (assign (viewOf I 0) fresh)
-  start-in-range n1 = leaves (replicate 16 fresh) fresh-units 0 n1 (assign (viewOf I 0) fresh) (start-kept (I .n) sizes (viewOf I 0) (views 0 n1) 0 refl)
+  pub start-in-range : 0 < I .n → Whenever (Leaves order I sizes (replicate 16 fresh) 0) (assign (viewBy order I 0) fresh)
+  start-in-range n1 = leaves (replicate 16 fresh) fresh-units 0 n1 (assign (viewBy order I 0) fresh) (start-kept (I .n) sizes (viewBy order I 0) (views 0 n1) 0 refl)
 
   -- ---- a step
 
-  pub step-in-range : (us : List State) → AllInRange I sizes us → (p : Packet) → Sendable (I .n) sizes p → Whenever (Leaves I sizes us (placeOf p)) (stepOn I us p)
+  pub step-in-range : (us : List State) → AllInRange order I sizes us → (p : Packet) → Sendable (I .n) sizes p → Whenever (Leaves order I sizes us (placeOf p)) (stepOn order I us p)
   step-in-range us r p w =
       let q = place-in (I .n) sizes p w in
-      leaves us r (placeOf p) (q .0) (stepOn I us p)
-      (respond-kept (I .n) sizes (viewOf I (placeOf p)) (views (placeOf p) (q .0)) (p .kind) (unitAt us (placeOf p)) (p .message) (r .states (placeOf p) (q .0)) (r .arrays (placeOf p) (q .0))
+      leaves us r (placeOf p) (q .0) (stepOn order I us p)
+      (respond-kept (I .n) sizes (viewBy order I (placeOf p)) (views (placeOf p) (q .0)) (p .kind) (unitAt us (placeOf p)) (p .message) (r .states (placeOf p) (q .0)) (r .arrays (placeOf p) (q .0))
       (record { address = w .address; form = w .form; arrays = w .arrays }) (q .1))

@@ -13,7 +13,8 @@ use Rattle.base.specs.Limits.{pairLimit, unaryLimit}
 use Rattle.base.specs.Shape.{shapeGood}
 use Rattle.base.specs.Shape.Laws.{shape-n, shape-size, and-left, and-right}
 use Rattle.costs.specs.Cost.Laws.{AtMost}
-use Rattle.costs.specs.Instance.{Instance, View, viewOf, lentView}
+use Rattle.costs.specs.declared.ValueOrder.{ValueOrder}
+use Rattle.costs.specs.Instance.{Instance, View, viewBy, lentView}
 use Rattle.costs.specs.Laws.{Sound}
 use Rattle.costs.specs.Lent.{lentRefusal}
 use Rattle.costs.specs.Lent.Bounds.{lent-unary-most, lent-pair-most}
@@ -42,26 +43,26 @@ module _ (n : ℕ) (sizes : List ℕ) (w : View) (g : GoodView n sizes w) where
 pub unit-range : (n i : ℕ) → isUnit n i ≡ true → (1 ≤ i) × (i ≤ n)
 unit-range n i e = (leb-true 1 i (and-left _ _ e), leb-true i n (and-right (leb 1 i) _ e))
 
-pub lent-good : (own n : ℕ) (sizes costs : List ℕ) → shapeGood n sizes ≡ true → n ≤ length sizes → isUnit n own ≡ true → lentRefusal own n sizes costs ≡ 0
-    → GoodView n sizes (lentView own n sizes costs)
+pub lent-good : (order : ValueOrder) (own n : ℕ) (sizes costs : List ℕ) → shapeGood n sizes ≡ true → n ≤ length sizes → isUnit n own ≡ true → lentRefusal own n sizes costs ≡ 0
+    → GoodView n sizes (lentView order own n sizes costs)
 unfolding lentView
-lent-good own n sizes costs s l i r =
+lent-good order own n sizes costs s l i r =
     record {
       shape = s;
       long = l;
       units = refl;
       place = below;
       dom = getD-take n sizes (pred own) 0 below;
-      unary-small = lent-unary-most own n sizes costs r;
-      small = lent-pair-most own n sizes costs r;
+      unary-small = lent-unary-most own n sizes costs r order;
+      small = lent-pair-most own n sizes costs r order;
     }
   where
     below : pred own < n
     below = omega (arith, unit-range n own i .0, unit-range n own i .1)
 
 -- what a unit sees of a sound instance of these sizes
-pub view-good : (I : Instance) (sizes : List ℕ) (k : ℕ) → Sound I → shapeGood (I .n) sizes ≡ true → I .n ≤ length sizes → k < I .n → I .dom k ≡ getD sizes k 0 → GoodView (I .n) sizes (viewOf I k)
-view-good I sizes k s g l b d = record { shape = g; long = l; units = refl; place = b; dom = d; unary-small = s .unary-small k; small = λ j u v. go (ltb j k) j u v }
+pub view-good : (order : ValueOrder) (I : Instance) (sizes : List ℕ) (k : ℕ) → Sound I → shapeGood (I .n) sizes ≡ true → I .n ≤ length sizes → k < I .n → I .dom k ≡ getD sizes k 0 → GoodView (I .n) sizes (viewBy order I k)
+view-good order I sizes k s g l b d = record { shape = g; long = l; units = refl; place = b; dom = d; unary-small = s .unary-small k; small = λ j u v. go (ltb j k) j u v }
   where
     go : (t : Bool) (j u v : ℕ) → AtMost pairLimit (cond t (I .cost j u k v) (I .cost k v j u))
     go true j u v = s .small j u k v

@@ -9,6 +9,7 @@ use lib.Dec.{ltb, leb}
 use Rattle.costs.specs.Cost.{_⊕_, below, asNumber}
 use Rattle.costs.specs.Instance.{View}
 use Rattle.costs.specs.Bounds.{h}
+use Rattle.costs.specs.Order.{next, left}
 use Rattle.message.specs.declared.Message.{Message}
 use Rattle.message.specs.declared.Kind.{Kind}
 use Rattle.message.specs.declared.Kind.the-variants.{Cpa, Request, Estimate, Solution, Stop}
@@ -16,7 +17,7 @@ use Rattle.rules.specs.declared.Unit.{Unit as State}
 use Rattle.rules.specs.declared.Ordering.{Ordering}
 use Rattle.rules.specs.declared.Ordering.the-variants.{Less, Equal, Greater}
 use Rattle.rules.specs.declared.Plan.the-variants.{Forward}
-use Rattle.rules.specs.State.{next, ownValue, left, compareOn, sameOn, withBest, withThreshold, withStopped}
+use Rattle.rules.specs.State.{ownValue, compareOn, sameOn, withBest, withThreshold, withStopped}
 use Rattle.rules.specs.Step.{Decision, refused, accepted, Written, recorded, quiet, takeBound, takeOff, begun, recordOf, write, carried, afterWrite, tryAfter, assign, backtrack, bareCost, resume, received, onDown, isCpaOut, onBack, onCpa, reply, onFresh, onRequest, isOut, onOwnEstimate, onTimely, onEstimate, onSolution, onStop, byKind, respond}
 use Rattle.rules.specs.Tests.{costAt, isLast, tryValue, reachedBound, onOwn, onEither, sumLater, stored, reachedByEstimates, unlessStopped}
 
@@ -38,7 +39,7 @@ module _ (w : View) (P : Decision → Type 0) (goes : (u : State) → P (accepte
   unfolding tryAfter
   try-by zero v b u l = backs b u l
   try-by (suc m) v b u l =
-      value-by (below (costAt w (next v) u ⊕ h w (next v)) (u .bound)) (next v) (asNumber (costAt w (next v) u)) b u (λ (b : Bool) (t : State). tryAfter w m (next v) b t) l (λ b t k. try-by m (next v) b t k)
+      value-by (below (costAt w (next w v) u ⊕ h w (next w v)) (u .bound)) (next w v) (asNumber (costAt w (next w v) u)) b u (λ (b : Bool) (t : State). tryAfter w m (next w v) b t) l (λ b t k. try-by m (next w v) b t k)
 
   no-improvement : false ≡ true → isLast w ≡ true
   no-improvement e = let c : _≡_ {A = ℕ} 0 1 = cc in absurd (omega arith)

@@ -13,10 +13,11 @@ use lib.ListN.{length, set, replicate, length-append}
 use Rattle.table.specs.Stream.{inFormTwo, unitsOf, Accepted}
 use Rattle.table.specs.StreamLaws.{accepted-units}
 use Rattle.base.specs.Shape.{isValue}
+use Rattle.costs.specs.declared.ValueOrder.{ValueOrder}
 use Rattle.costs.specs.declared.Cost.{Cost}
 use Rattle.costs.specs.declared.Cost.the-variants.{Of}
-use Rattle.costs.specs.Instance.{viewOf, instanceOf, domOf}
-use Rattle.costs.specs.Laws.{laws-of, problemOf}
+use Rattle.costs.specs.Instance.{viewBy, instanceOf, domOf}
+use Rattle.costs.specs.Laws.Tried.{laws-by, problemBy}
 use Rattle.costs.specs.Laws.Stream.{sound-of}
 use Rattle.costs.specs.Gather.{sizesIn}
 use Rattle.costs.specs.Gather.Sizes.{length-sizes, sizes-at, accepted-sizes-good}
@@ -71,22 +72,22 @@ stream-free s = (λ j. no-value (inFormTwo s), λ i u j. never _ (ltb i j) (ltb 
     never x false b c = refl
 
 -- the units and counts follow: those of H, which are the machine's units us
-pub record CoreFollows {W : Type 0} (s : List ℕ) (core : Core) (H : HistoryOf W) (us : ℕ → Agent) : Type 0 where
-  pub matches : Matches (instanceOf s) (H .units) (H .written) us
-  pub units : AllInRange (instanceOf s) (sizesIn s) (H .units)
+pub record CoreFollows (order : ValueOrder) {W : Type 0} (s : List ℕ) (core : Core) (H : HistoryOf W) (us : ℕ → Agent) : Type 0 where
+  pub matches : Matches order (instanceOf s) (H .units) (H .written) us
+  pub units : AllInRange order (instanceOf s) (sizesIn s) (H .units)
   pub same : core .units ≡ H .units
   pub records : valueOf (core .records) ≡ length (H .written)
   pub deliveries : valueOf (core .deliveries) ≡ length (H .handed)
 
-module _ (s : List ℕ) (ok : Accepted s) where
-  pub laws : Laws (problemOf (instanceOf s))
-  laws = laws-of (instanceOf s) (sound-of s ok)
+module _ (order : ValueOrder) (s : List ℕ) (ok : Accepted s) where
+  pub laws : Laws (problemBy order (instanceOf s))
+  laws = laws-by order (instanceOf s) (sound-of s ok)
 
-  pub views : (k : ℕ) → k < instanceOf s .n → GoodView (instanceOf s .n) (sizesIn s) (viewOf (instanceOf s) k)
+  pub views : (k : ℕ) → k < instanceOf s .n → GoodView (instanceOf s .n) (sizesIn s) (viewBy order (instanceOf s) k)
   unfolding instanceOf
   views k lt =
       let n16 : unitsOf s ≤ 16 = accepted-units s ok .1 in
-      view-good (instanceOf s) (sizesIn s) k (sound-of s ok) (accepted-sizes-good s ok) (omega (arith, length-sizes s, n16)) lt (sym (sizes-at s k (omega (arith, lt, n16))))
+      view-good order (instanceOf s) (sizesIn s) k (sound-of s ok) (accepted-sizes-good s ok) (omega (arith, length-sizes s, n16)) lt (sym (sizes-at s k (omega (arith, lt, n16))))
 
   -- ---- a packet that can be written, and its bytes
 
@@ -97,22 +98,22 @@ module _ (s : List ℕ) (ok : Accepted s) where
         ap (λ r. cond (isUnit (unitsOf s) r) r 1) (receiver-of-encode (p .kind) (p .message) (w .arrays))
         ∙ ap (λ t. cond t (p .message .receiver) 1) (receiver-unit (unitsOf s) (sizesIn s) p w)
 
-    pub step-is : (us : List UnitState) → stepFrom8 s us (p .message .receiver) (packetBytes p) ≡ stepOn (instanceOf s) us p
+    pub step-is : (us : List UnitState) → stepFrom8 order s us (p .message .receiver) (packetBytes p) ≡ stepOn order (instanceOf s) us p
     unfolding stepFrom8 instanceOf
     step-is us =
-        ap (λ (q : Parsed). onRead (viewOf (instanceOf s) (placeOf p)) (unitAt us (placeOf p)) (q .answer) (q .message))
+        ap (λ (q : Parsed). onRead (viewBy order (instanceOf s) (placeOf p)) (unitAt us (placeOf p)) (q .answer) (q .message))
         (parse-encode (unitsOf s) (sizesIn s) (p .kind) (p .message) (accepted-sizes-good s ok) (w .address) (w .form) (w .arrays))
 
   -- ---- the records fit two words
 
-  records-below : (us : ℕ → Agent) → Safe (problemOf (instanceOf s)) us → (hs : List UnitState) (W : List Written) → Matches (instanceOf s) hs W us → length W < 2 ^ 64 * 2 ^ 64
-  records-below us safe hs W m = subst (λ x. x < 2 ^ 128) (sym (m .whole)) (records-fit (problemOf (instanceOf s)) laws us safe (sound-of s ok .n16))
+  records-below : (us : ℕ → Agent) → Safe (problemBy order (instanceOf s)) us → (hs : List UnitState) (W : List Written) → Matches order (instanceOf s) hs W us → length W < 2 ^ 64 * 2 ^ 64
+  records-below us safe hs W m = subst (λ x. x < 2 ^ 128) (sym (m .whole)) (records-fit (problemBy order (instanceOf s)) laws us safe (sound-of s ok .n16))
 
   -- ---- making: unit 1 gave u, o and ws
 
-  pub core-starts : {W : Type 0} (L : Pool W) (res : Result) (u : UnitState) (o : Sending) (ws : List Written) (x : StepsTo (instanceOf s) (replicate 16 fresh) [] (λ k. M.fresh) 0 res u o ws)
-      → Leaves (instanceOf s) (sizesIn s) (replicate 16 fresh) 0 u o ws → Safe (problemOf (instanceOf s)) (M.put (λ k. M.fresh) 0 (x .agent))
-      → CoreFollows s (record { units = set (replicate 16 fresh) 0 u; records = plus (length ws) zeroCount; deliveries = zeroCount }) (begunWith L (instanceOf s) (U.accepted u o ws)) (M.put (λ k. M.fresh) 0 (x .agent))
+  pub core-starts : {W : Type 0} (L : Pool W) (res : Result) (u : UnitState) (o : Sending) (ws : List Written) (x : StepsTo order (instanceOf s) (replicate 16 fresh) [] (λ k. M.fresh) 0 res u o ws)
+      → Leaves order (instanceOf s) (sizesIn s) (replicate 16 fresh) 0 u o ws → Safe (problemBy order (instanceOf s)) (M.put (λ k. M.fresh) 0 (x .agent))
+      → CoreFollows order s (record { units = set (replicate 16 fresh) 0 u; records = plus (length ws) zeroCount; deliveries = zeroCount }) (begunWith L (instanceOf s) (U.accepted u o ws)) (M.put (λ k. M.fresh) 0 (x .agent))
   core-starts L res u o ws x l safe =
       record {
         matches = x .matches;
@@ -124,10 +125,10 @@ module _ (s : List ℕ) (ok : Accepted s) where
 
   -- ---- a step: the packet p, which reads as m, was handed to its unit, which gave u, o and ws
 
-  pub core-steps : {W : Type 0} (core : Core) (H : HistoryOf W) (us : ℕ → Agent) → CoreFollows s core H us → (p : Packet) (m : Msg) → Reads (instanceOf s) p m → (res : Result) (u : UnitState) (o : Sending) (ws : List Written)
-      (x : StepsTo (instanceOf s) (H .units) (H .written) us (placeOf p) res u o ws) → Leaves (instanceOf s) (sizesIn s) (H .units) (placeOf p) u o ws
-      → Safe (problemOf (instanceOf s)) (M.put us (to m) (x .agent)) → length (H .handed ++ (p ∷ [])) < 2 ^ 64 * 2 ^ 64 → (w : W)
-      → CoreFollows s (record { units = set (core .units) (pred (p .message .receiver)) u; records = plus (length ws) (core .records); deliveries = plus 1 (core .deliveries) }) (historyAfter H p u (packets (instanceOf s .n) (placeOf p) o) ws w) (M.put us (to m) (x .agent))
+  pub core-steps : {W : Type 0} (core : Core) (H : HistoryOf W) (us : ℕ → Agent) → CoreFollows order s core H us → (p : Packet) (m : Msg) → Reads order (instanceOf s) p m → (res : Result) (u : UnitState) (o : Sending) (ws : List Written)
+      (x : StepsTo order (instanceOf s) (H .units) (H .written) us (placeOf p) res u o ws) → Leaves order (instanceOf s) (sizesIn s) (H .units) (placeOf p) u o ws
+      → Safe (problemBy order (instanceOf s)) (M.put us (to m) (x .agent)) → length (H .handed ++ (p ∷ [])) < 2 ^ 64 * 2 ^ 64 → (w : W)
+      → CoreFollows order s (record { units = set (core .units) (pred (p .message .receiver)) u; records = plus (length ws) (core .records); deliveries = plus 1 (core .deliveries) }) (historyAfter H p u (packets (instanceOf s .n) (placeOf p) o) ws w) (M.put us (to m) (x .agent))
   core-steps core H us f p m rd res u o ws x l safe below w =
       record {
         matches = matched;
@@ -139,8 +140,8 @@ module _ (s : List ℕ) (ok : Accepted s) where
         deliveries = plus-exact 1 (core .deliveries) (subst (λ y. y < 2 ^ 64 * 2 ^ 64) (sym count-deliveries) below) ∙ count-deliveries;
       }
     where
-      matched : Matches (instanceOf s) (set (H .units) (placeOf p) u) (H .written ++ ws) (M.put us (to m) (x .agent))
-      matched = subst (λ k. Matches (instanceOf s) (set (H .units) (placeOf p) u) (H .written ++ ws) (M.put us k (x .agent))) (read-to (instanceOf s) p m rd) (x .matches)
+      matched : Matches order (instanceOf s) (set (H .units) (placeOf p) u) (H .written ++ ws) (M.put us (to m) (x .agent))
+      matched = subst (λ k. Matches order (instanceOf s) (set (H .units) (placeOf p) u) (H .written ++ ws) (M.put us k (x .agent))) (read-to order (instanceOf s) p m rd) (x .matches)
 
       count-records : valueOf (core .records) + length ws ≡ length (H .written ++ ws)
       count-records = ap (λ y. y + length ws) (f .records) ∙ sym (length-append (H .written) ws)

@@ -14,8 +14,9 @@ use lib.ListN.{length, take, drop, length-append}
 use borrow.Author.Tests.{leb-true, ne-eqb}
 use Rattle.base.specs.Limits.{poolCells}
 use Rattle.table.specs.Stream.{unitsOf, Accepted}
+use Rattle.costs.specs.declared.ValueOrder.{ValueOrder}
 use Rattle.costs.specs.Instance.{instanceOf}
-use Rattle.costs.specs.Laws.{problemOf}
+use Rattle.costs.specs.Laws.Tried.{problemBy}
 use Rattle.costs.specs.Laws.Stream.{sound-of}
 use Rattle.costs.specs.Gather.{sizesIn}
 use Rattle.base.specs.Every.{every}
@@ -77,37 +78,37 @@ times-none : (t : Packet → Bool) → times t [] ≡ 0
 unfolding times
 times-none t = refl
 
-module _ (s : List ℕ) (ok : Accepted s) (S : Shed) (H : History) (A : Network) (i : Invariant s ok S H A) (c : ℕ) where
+module _ (order : ValueOrder) (s : List ℕ) (ok : Accepted s) (S : Shed) (H : History) (A : Network) (i : Invariant order s ok S H A) (c : ℕ) where
   -- what a delivery gives: over messages d, on bytes r
   pub record Delivers (d : DeliveryOf (List Packet)) (r : Result) : Type 0 where
     pub number : r .answer .refusal ≡ numberOf d
     pub honest : HonestDelivery H d
     pub bytes : map packetBytes (H .handed) ++ cond (eqb (r .answer .refusal) 0) (cellOf (S .pool) c ∷ []) [] ≡ map packetBytes (onward H d .handed)
-    pub next : Invariant s ok (shedOf r) (onward H d) (M.deliver (problemOf (instanceOf s)) poolCells A c)
+    pub next : Invariant order s ok (shedOf r) (onward H d) (M.deliver (problemBy order (instanceOf s)) poolCells A c)
 
   -- ---- a delivery refused
 
-  refuses : (x : ℕ) → Honest (stopped H) (suc x) → M.deliver (problemOf (instanceOf s)) poolCells A c ≡ A → deliverOf (S .network) s (S .pool) c ≡ refusedDelivery (S .network) (S .pool) (suc x)
-      → Delivers (R.refusedBy (suc x)) (deliverOf (S .network) s (S .pool) c)
+  refuses : (x : ℕ) → Honest (stopped H) (suc x) → M.deliver (problemBy order (instanceOf s)) poolCells A c ≡ A → deliverOf order (S .network) s (S .pool) c ≡ refusedDelivery (S .network) (S .pool) (suc x)
+      → Delivers (R.refusedBy (suc x)) (deliverOf order (S .network) s (S .pool) c)
   refuses x h stays e =
       subst (Delivers (R.refusedBy (suc x))) (sym e)
       (record {
         number = refl;
         honest = h;
         bytes = ap (λ t. map packetBytes (H .handed) ++ cond t (cellOf (S .pool) c ∷ []) []) (ne-eqb (suc x) 0 (λ q. omega (arith, q))) ∙ append-nil (map packetBytes (H .handed));
-        next = subst (Invariant s ok S H) (sym stays) i;
+        next = subst (Invariant order s ok S H) (sym stays) i;
       })
 
   -- by a check
-  checked : (x : ℕ) → suc x ≡ deliverRefusal (S .network) s (S .pool) c → deliverOf (S .network) s (S .pool) c ≡ refusedDelivery (S .network) (S .pool) (suc x)
+  checked : (x : ℕ) → suc x ≡ deliverRefusal order (S .network) s (S .pool) c → deliverOf order (S .network) s (S .pool) c ≡ refusedDelivery (S .network) (S .pool) (suc x)
   unfolding deliverOf
-  checked x e = ap (λ y. deliverBy y (S .network) s (S .pool) c) (sym e)
+  checked x e = ap (λ y. deliverBy order y (S .network) s (S .pool) c) (sym e)
 
   -- ---- the checks before 12 pass
 
-  pub units-pass : every (unitInRange s (S .network .core .units)) (unitsOf s) ≡ true
+  pub units-pass : every (unitInRange order s (S .network .core .units)) (unitsOf s) ≡ true
   unfolding instanceOf
-  units-pass = every-by (unitInRange s (S .network .core .units)) (unitsOf s) (λ k l. subst (λ us. unitInRange s us k ≡ true) (sym (i .core .same)) (i .core .units .states k l))
+  units-pass = every-by (unitInRange order s (S .network .core .units)) (unitsOf s) (λ k l. subst (λ us. unitInRange order s us k ≡ true) (sym (i .core .same)) (i .core .units .states k l))
 
   in-use : S .network .used ≤ poolCells
   in-use = omega (arith, i .stored .count, i .few)
@@ -116,12 +117,12 @@ module _ (s : List ℕ) (ok : Accepted s) (S : Shed) (H : History) (A : Network)
   stop-is = ap (λ us. unitAt us 0 .stopped) (i .core .same)
 
   machine-stop : A .units 0 .stopped ≡ stopped H
-  machine-stop = sym (same-stop s ok S H A i)
+  machine-stop = sym (same-stop order s ok S H A i)
 
   -- once unit 1 has stopped it is 12
-  pub after-stop : stopped H ≡ true → deliverOf (S .network) s (S .pool) c ≡ refusedDelivery (S .network) (S .pool) 12
+  pub after-stop : stopped H ≡ true → deliverOf order (S .network) s (S .pool) c ≡ refusedDelivery (S .network) (S .pool) 12
   unfolding Accepted
-  after-stop st = checked 11 (check-stopped (S .network) s (S .pool) c (i .stored .room) ok units-pass in-use (stop-is ∙ st))
+  after-stop st = checked 11 (check-stopped order (S .network) s (S .pool) c (i .stored .room) ok units-pass in-use (stop-is ∙ st))
 
   -- ---- the packet p at the cell, and its step
 
@@ -142,48 +143,48 @@ module _ (s : List ℕ) (ok : Accepted s) (S : Shed) (H : History) (A : Network)
     w = i .sendable p waits
 
     z : AllSized (H .waiting)
-    z = sized s ok (H .waiting) (i .sendable)
+    z = sized order s ok (H .waiting) (i .sendable)
 
-    pub goes-on : deliverOf (S .network) s (S .pool) c ≡ C.onOut (S .network) (S .pool) c (unitsOf s) (p .message .receiver) (stepOn (instanceOf s) (H .units) p)
+    pub goes-on : deliverOf order (S .network) s (S .pool) c ≡ C.onOut (S .network) (S .pool) c (unitsOf s) (p .message .receiver) (stepOn order (instanceOf s) (H .units) p)
     unfolding Accepted
     goes-on =
-        sym (deliver-goes (S .network) s (S .pool) c (sym (check-none (S .network) s (S .pool) c (i .stored .room) ok units-pass in-use (stop-is ∙ st) (cell-in-use (H .waiting) (S .network .used) (S .pool) (i .stored) z c p e))))
-        ∙ ap (λ (x : List ℕ). C.onOut (S .network) (S .pool) c (unitsOf s) (receiverOf (unitsOf s) x) (stepFrom8 s (S .network .core .units) (receiverOf (unitsOf s) x) x))
+        sym (deliver-goes order (S .network) s (S .pool) c (sym (check-none order (S .network) s (S .pool) c (i .stored .room) ok units-pass in-use (stop-is ∙ st) (cell-in-use (H .waiting) (S .network .used) (S .pool) (i .stored) z c p e))))
+        ∙ ap (λ (x : List ℕ). C.onOut (S .network) (S .pool) c (unitsOf s) (receiverOf (unitsOf s) x) (stepFrom8 order s (S .network .core .units) (receiverOf (unitsOf s) x) x))
         (cell-bytes (H .waiting) (S .network .used) (S .pool) (i .stored) z c p e)
-        ∙ ap (λ (y : ℕ). C.onOut (S .network) (S .pool) c (unitsOf s) y (stepFrom8 s (S .network .core .units) y (encode (p .kind) (p .message)))) (receiver-is s ok p w)
-        ∙ ap (λ (o : Decision). C.onOut (S .network) (S .pool) c (unitsOf s) (p .message .receiver) o) (step-is s ok p w (S .network .core .units) ∙ ap (λ us. stepOn (instanceOf s) us p) (i .core .same))
+        ∙ ap (λ (y : ℕ). C.onOut (S .network) (S .pool) c (unitsOf s) y (stepFrom8 order s (S .network .core .units) y (encode (p .kind) (p .message)))) (receiver-is order s ok p w)
+        ∙ ap (λ (o : Decision). C.onOut (S .network) (S .pool) c (unitsOf s) (p .message .receiver) o) (step-is order s ok p w (S .network .core .units) ∙ ap (λ us. stepOn order (instanceOf s) us p) (i .core .same))
 
     -- the machine's pool, cut at the same cell
-    at : X.CutAt (instanceOf s) b p a (A .pool)
-    at = cut s ok S H A i st b p a (here-is .whole)
+    at : X.CutAt order (instanceOf s) b p a (A .pool)
+    at = cut order s ok S H A i st b p a (here-is .whole)
 
-    stepped : Simulated (instanceOf s) (H .units) (H .written) (A .units) (placeOf p) (M.step (problemOf (instanceOf s)) (A .units (to (at .message))) (at .message)) (stepOn (instanceOf s) (H .units) p)
+    stepped : Simulated order (instanceOf s) (H .units) (H .written) (A .units) (placeOf p) (M.step (problemBy order (instanceOf s)) (A .units (to (at .message))) (at .message)) (stepOn order (instanceOf s) (H .units) p)
     unfolding at
-    stepped = step-accepted s ok S H A i st b p a (here-is .whole)
+    stepped = step-accepted order s ok S H A i st b p a (here-is .whole)
 
     -- ---- it is accepted, with u, o and ws
 
-    module _ (u : UnitState) (o : Sending) (ws : List Written) (gives : stepOn (instanceOf s) (H .units) p ≡ U.accepted u o ws) where
+    module _ (u : UnitState) (o : Sending) (ws : List Written) (gives : stepOn order (instanceOf s) (H .units) p ≡ U.accepted u o ws) where
       abbrev ps : List Packet
       ps = packets (instanceOf s .n) (placeOf p) o
 
-      x : StepsTo (instanceOf s) (H .units) (H .written) (A .units) (placeOf p) (M.step (problemOf (instanceOf s)) (A .units (to (at .message))) (at .message)) u o ws
-      x = subst (Simulated (instanceOf s) (H .units) (H .written) (A .units) (placeOf p) (M.step (problemOf (instanceOf s)) (A .units (to (at .message))) (at .message))) gives stepped
+      x : StepsTo order (instanceOf s) (H .units) (H .written) (A .units) (placeOf p) (M.step (problemBy order (instanceOf s)) (A .units (to (at .message))) (at .message)) u o ws
+      x = subst (Simulated order (instanceOf s) (H .units) (H .written) (A .units) (placeOf p) (M.step (problemBy order (instanceOf s)) (A .units (to (at .message))) (at .message))) gives stepped
 
-      l : Leaves (instanceOf s) (sizesIn s) (H .units) (placeOf p) u o ws
-      l = subst (Whenever (Leaves (instanceOf s) (sizesIn s) (H .units) (placeOf p))) gives (step-in-range (instanceOf s) (sizesIn s) (sound-of s ok .n16) (views s ok) (H .units) (i .core .units) p w)
+      l : Leaves order (instanceOf s) (sizesIn s) (H .units) (placeOf p) u o ws
+      l = subst (Whenever (Leaves order (instanceOf s) (sizesIn s) (H .units) (placeOf p))) gives (step-in-range order (instanceOf s) (sizesIn s) (sound-of s ok .n16) (views order s ok) (H .units) (i .core .units) p w)
 
       abbrev next-machine : Network
       next-machine = record { units = M.put (A .units) (to (at .message)) (x .agent); pool = (at .before ++ at .behind) ++ x .sent; accepted = suc (A .accepted) }
 
-      read-on : ReadAll (instanceOf s) ((b ++ a) ++ ps) ((at .before ++ at .behind) ++ x .sent)
-      read-on = read-append (instanceOf s) (b ++ a) ps (at .before ++ at .behind) (x .sent) (read-append (instanceOf s) b a (at .before) (at .behind) (at .reads-before) (at .reads-behind)) (x .reads)
+      read-on : ReadAll order (instanceOf s) ((b ++ a) ++ ps) ((at .before ++ at .behind) ++ x .sent)
+      read-on = read-append order (instanceOf s) (b ++ a) ps (at .before ++ at .behind) (x .sent) (read-append order (instanceOf s) b a (at .before) (at .behind) (at .reads-before) (at .reads-behind)) (x .reads)
 
       -- the machine asks the same of its room
-      machine-is : (t : Bool) → leb (length ((b ++ a) ++ ps)) poolCells ≡ t → M.deliver (problemOf (instanceOf s)) poolCells A c ≡ M.fits t next-machine A
+      machine-is : (t : Bool) → leb (length ((b ++ a) ++ ps)) poolCells ≡ t → M.deliver (problemBy order (instanceOf s)) poolCells A c ≡ M.fits t next-machine A
       machine-is t q =
-          deliver-at (problemOf (instanceOf s)) poolCells A c (machine-stop ∙ st) (at .before) (at .message) (at .behind) (at .whole) (at .many ∙ here-is .many) (x .agent) (x .sent) (x .steps)
-          ∙ ap (λ y. M.fits y next-machine A) (ap (λ n. leb n poolCells) (sym (read-length (instanceOf s) ((b ++ a) ++ ps) ((at .before ++ at .behind) ++ x .sent) read-on)) ∙ q)
+          deliver-at (problemBy order (instanceOf s)) poolCells A c (machine-stop ∙ st) (at .before) (at .message) (at .behind) (at .whole) (at .many ∙ here-is .many) (x .agent) (x .sent) (x .steps)
+          ∙ ap (λ y. M.fits y next-machine A) (ap (λ n. leb n poolCells) (sym (read-length order (instanceOf s) ((b ++ a) ++ ps) ((at .before ++ at .behind) ++ x .sent) read-on)) ∙ q)
 
       abbrev stored-after : Result
       stored-after = record {
@@ -191,36 +192,36 @@ module _ (s : List ℕ) (ok : Accepted s) (S : Shed) (H : History) (A : Network)
         pool = poolAfter (S .network .used) c (packets (instanceOf s .n) (placeOf p) o) (S .pool);
       }
 
-      bytes-are : (t : Bool) → leb (length ((b ++ a) ++ ps)) poolCells ≡ t → deliverOf (S .network) s (S .pool) c ≡ cond t stored-after (C.refusedDelivery (S .network) (S .pool) 14)
+      bytes-are : (t : Bool) → leb (length ((b ++ a) ++ ps)) poolCells ≡ t → deliverOf order (S .network) s (S .pool) c ≡ cond t stored-after (C.refusedDelivery (S .network) (S .pool) 14)
       unfolding instanceOf
       bytes-are t q =
           goes-on ∙ ap (C.onOut (S .network) (S .pool) c (unitsOf s) (p .message .receiver)) gives
           ∙ ap (λ y. cond y stored-after (C.refusedDelivery (S .network) (S .pool) 14)) (ap (λ n. leb n poolCells) (used-after (H .waiting) (S .network .used) (S .pool) (i .stored) z c p e (packets (unitsOf s) (placeOf p) o)) ∙ q)
 
       -- what it sends doesn't fit
-      too-many : leb (length ((b ++ a) ++ ps)) poolCells ≡ false → Delivers (R.refusedBy 14) (deliverOf (S .network) s (S .pool) c)
+      too-many : leb (length ((b ++ a) ++ ps)) poolCells ≡ false → Delivers (R.refusedBy 14) (deliverOf order (S .network) s (S .pool) c)
       too-many q = refuses 13 (inr (inl refl)) (machine-is false q) (bytes-are false q)
 
       -- or all goes on
       module _ (q : leb (length ((b ++ a) ++ ps)) poolCells ≡ true) where
-        kept : Kept (problemOf (instanceOf s)) next-machine
-        kept = subst (Kept (problemOf (instanceOf s))) (machine-is true q) (deliver-kept (problemOf (instanceOf s)) (laws s ok) (sound-of s ok .n1) poolCells A c (i .kept))
+        kept : Kept (problemBy order (instanceOf s)) next-machine
+        kept = subst (Kept (problemBy order (instanceOf s))) (machine-is true q) (deliver-kept (problemBy order (instanceOf s)) (laws order s ok) (sound-of s ok .n1) poolCells A c (i .kept))
 
         count-accepted : length (H .handed ++ (p ∷ [])) ≡ suc (A .accepted)
         count-accepted = omega (arith, length-append (H .handed) (p ∷ []), i .accepted)
 
-        invariant : Invariant s ok (shedOf stored-after) (R.historyAfter H p u ps ws ((b ++ a) ++ ps)) next-machine
+        invariant : Invariant order s ok (shedOf stored-after) (R.historyAfter H p u ps ws ((b ++ a) ++ ps)) next-machine
         invariant =
             record {
               core =
-                  core-steps s ok (S .network .core) H (A .units) (i .core) p (at .message) (at .reads) (M.step (problemOf (instanceOf s)) (A .units (to (at .message))) (at .message)) u o ws x l (kept .network .safe)
-                  (subst (λ y. y < 2 ^ 64 * 2 ^ 64) (sym count-accepted) (accepted-below s ok next-machine kept)) ((b ++ a) ++ ps);
+                  core-steps order s ok (S .network .core) H (A .units) (i .core) p (at .message) (at .reads) (M.step (problemBy order (instanceOf s)) (A .units (to (at .message))) (at .message)) u o ws x l (kept .network .safe)
+                  (subst (λ y. y < 2 ^ 64 * 2 ^ 64) (sym count-accepted) (accepted-below order s ok next-machine kept)) ((b ++ a) ++ ps);
               kept = kept;
               reads = read-on;
               accepted = count-accepted;
               sendable = every-append _ (b ++ a) ps (λ y j. i .sendable y (subst (In y) (sym (here-is .whole)) (in-more b p a j))) (l .sent);
               few = leb-true _ poolCells q;
-              stored = put-stored (H .waiting) (S .network .used) (S .pool) (i .stored) z c p e ps (sized s ok ps (l .sent)) (leb-true _ poolCells q);
+              stored = put-stored (H .waiting) (S .network .used) (S .pool) (i .stored) z c p e ps (sized order s ok ps (l .sent)) (leb-true _ poolCells q);
               balanced = λ t.
                   omega (
                     arith,
@@ -237,33 +238,33 @@ module _ (s : List ℕ) (ok : Accepted s) (S : Shed) (H : History) (A : Network)
                   );
             }
 
-        goes : Delivers (R.delivered (R.historyAfter H p u ps ws ((b ++ a) ++ ps))) (deliverOf (S .network) s (S .pool) c)
+        goes : Delivers (R.delivered (R.historyAfter H p u ps ws ((b ++ a) ++ ps))) (deliverOf order (S .network) s (S .pool) c)
         goes =
             subst (Delivers (R.delivered (R.historyAfter H p u ps ws ((b ++ a) ++ ps)))) (sym (bytes-are true q))
             (record {
               number = refl;
               honest = tt;
               bytes = ap (λ y. map packetBytes (H .handed) ++ (y ∷ [])) (cell-bytes (H .waiting) (S .network .used) (S .pool) (i .stored) z c p e) ∙ sym (map-append packetBytes (H .handed) (p ∷ []));
-              next = subst (Invariant s ok (shedOf stored-after) (R.historyAfter H p u ps ws ((b ++ a) ++ ps))) (sym (machine-is true q)) invariant;
+              next = subst (Invariant order s ok (shedOf stored-after) (R.historyAfter H p u ps ws ((b ++ a) ++ ps))) (sym (machine-is true q)) invariant;
             })
 
   -- ---- any cell
 
-  pub delivers : Delivers (handOver (instanceOf s) H c) (deliverOf (S .network) s (S .pool) c)
+  pub delivers : Delivers (handOver order (instanceOf s) H c) (deliverOf order (S .network) s (S .pool) c)
   unfolding R.handOver Accepted
   delivers =
-      deliver-cases (instanceOf s) H (λ d. Delivers d (deliverOf (S .network) s (S .pool) c)) cells c
-      (λ st. refuses 11 (inl (refl, st)) (deliver-stopped (problemOf (instanceOf s)) poolCells A c (machine-stop ∙ st)) (after-stop st))
+      deliver-cases order (instanceOf s) H (λ d. Delivers d (deliverOf order (S .network) s (S .pool) c)) cells c
+      (λ st. refuses 11 (inl (refl, st)) (deliver-stopped (problemBy order (instanceOf s)) poolCells A c (machine-stop ∙ st)) (after-stop st))
       (λ st e.
       let le = none-at (H .waiting) c e in
-      refuses 14 (inr (inr refl)) (deliver-none (problemOf (instanceOf s)) poolCells A c (machine-stop ∙ st) (omega (arith, le, read-length (instanceOf s) (H .waiting) (A .pool) (i .reads))))
-      (checked 14 (check-cell (S .network) s (S .pool) c (i .stored .room) ok units-pass in-use (stop-is ∙ st) (omega (arith, le, i .stored .count)))))
+      refuses 14 (inr (inr refl)) (deliver-none (problemBy order (instanceOf s)) poolCells A c (machine-stop ∙ st) (omega (arith, le, read-length order (instanceOf s) (H .waiting) (A .pool) (i .reads))))
+      (checked 14 (check-cell order (S .network) s (S .pool) c (i .stored .room) ok units-pass in-use (stop-is ∙ st) (omega (arith, le, i .stored .count)))))
       (λ st p e.
-      hand-cases (instanceOf s) H (λ d. Delivers d (deliverOf (S .network) s (S .pool) c)) p (cells .put (cells .without (H .waiting) c))
-      (λ r gives. absurd (subst (Simulated (instanceOf s) (H .units) (H .written) (A .units) (placeOf p) (M.step (problemOf (instanceOf s)) (A .units (to (at st p e .message))) (at st p e .message))) gives (stepped st p e)))
+      hand-cases order (instanceOf s) H (λ d. Delivers d (deliverOf order (S .network) s (S .pool) c)) p (cells .put (cells .without (H .waiting) c))
+      (λ r gives. absurd (subst (Simulated order (instanceOf s) (H .units) (H .written) (A .units) (placeOf p) (M.step (problemBy order (instanceOf s)) (A .units (to (at st p e .message))) (at st p e .message))) gives (stepped st p e)))
       (λ u o ws gives. (
         (λ f. too-many st p e u o ws gives (no-room _ _ f)),
         (λ ms f.
             let q = some-room _ _ ms f in
-            subst (λ v. Delivers (R.delivered (R.historyAfter H p u (packets (instanceOf s .n) (placeOf p) o) ws v)) (deliverOf (S .network) s (S .pool) c)) (q .1) (goes st p e u o ws gives (q .0))),
+            subst (λ v. Delivers (R.delivered (R.historyAfter H p u (packets (instanceOf s .n) (placeOf p) o) ws v)) (deliverOf order (S .network) s (S .pool) c)) (q .1) (goes st p e u o ws gives (q .0))),
       )))

@@ -13,8 +13,9 @@ use Rattle.base.specs.Limits.{poolCells}
 use Rattle.base.specs.Members.{In, here, Every}
 use Rattle.base.specs.Members.Laws.{in-right}
 use Rattle.table.specs.Stream.{Accepted}
+use Rattle.costs.specs.declared.ValueOrder.{ValueOrder}
 use Rattle.costs.specs.Instance.{instanceOf}
-use Rattle.costs.specs.Laws.{problemOf}
+use Rattle.costs.specs.Laws.Tried.{problemBy}
 use Rattle.costs.specs.Laws.Stream.{sound-of}
 use Rattle.costs.specs.Gather.{sizesIn}
 use Rattle.message.specs.Message.{Packet}
@@ -34,15 +35,15 @@ use Rattle.runs.specs.Demand3.{Shed, times}
 use Rattle.runs.specs.Pool.Stored.{AllSized, Stored}
 use Rattle.runs.specs.Proof.Core.{stream-free, CoreFollows, laws}
 
-module _ (s : List ℕ) (ok : Accepted s) where
+module _ (order : ValueOrder) (s : List ℕ) (ok : Accepted s) where
   -- ---- what holds at each point of a run
 
   pub record Invariant (S : Shed) (H : History) (A : Network) : Type 0 where
     -- the units and counts: the same on bytes and over messages, in range, and the machine's
-    pub core : CoreFollows s (S .network .core) H (A .units)
+    pub core : CoreFollows order s (S .network .core) H (A .units)
     -- the machine: its network is one that a run leads to, and the packets that wait read as its messages
-    pub kept : Kept (problemOf (instanceOf s)) A
-    pub reads : ReadAll (instanceOf s) (H .waiting) (A .pool)
+    pub kept : Kept (problemBy order (instanceOf s)) A
+    pub reads : ReadAll order (instanceOf s) (H .waiting) (A .pool)
     pub accepted : length (H .handed) ≡ A .accepted
     -- the pool: what waits can be written, and stands in its cells; what was handed over and what waits is what was sent
     pub sendable : Every (Sendable (instanceOf s .n) (sizesIn s)) (H .waiting)
@@ -54,9 +55,9 @@ module _ (s : List ℕ) (ok : Accepted s) where
   sized ps w p i = w p i .arrays
 
   -- no more are accepted than fit two words
-  pub accepted-below : (A : Network) → Kept (problemOf (instanceOf s)) A → A .accepted < 2 ^ 64 * 2 ^ 64
+  pub accepted-below : (A : Network) → Kept (problemBy order (instanceOf s)) A → A .accepted < 2 ^ 64 * 2 ^ 64
   accepted-below A k =
-      le-trans (suc-le-suc (kept-demand3 (problemOf (instanceOf s)) (laws s ok) (sound-of s ok .n1) A k .bounded)) (most-fits (problemOf (instanceOf s)) (laws s ok) (sound-of s ok .n16))
+      le-trans (suc-le-suc (kept-demand3 (problemBy order (instanceOf s)) (laws order s ok) (sound-of s ok .n1) A k .bounded)) (most-fits (problemBy order (instanceOf s)) (laws order s ok) (sound-of s ok .n16))
 
   module _ (S : Shed) (H : History) (A : Network) (i : Invariant S H A) where
     -- ---- unit 1 has stopped or none has
@@ -67,17 +68,17 @@ module _ (s : List ℕ) (ok : Accepted s) where
     running : stopped H ≡ false → (k : ℕ) → A .units k .stopped ≡ false
     running st = go (i .kept .tally .stops)
       where
-        go : Stops (problemOf (instanceOf s)) A → (k : ℕ) → A .units k .stopped ≡ false
+        go : Stops (problemBy order (instanceOf s)) A → (k : ℕ) → A .units k .stopped ≡ false
         go (inl h) = absurd (true-not-false h (sym same-stop ∙ st))
         go (inr h) = h .1
 
     -- ---- a packet that waits, and its step
 
     module _ (st : stopped H ≡ false) (b : List Packet) (p : Packet) (a : List Packet) (e : H .waiting ≡ b ++ (p ∷ a)) where
-      pub cut : X.CutAt (instanceOf s) b p a (A .pool)
-      cut = read-cut (instanceOf s) b p a (A .pool) (subst (λ l. ReadAll (instanceOf s) l (A .pool)) e (i .reads))
+      pub cut : X.CutAt order (instanceOf s) b p a (A .pool)
+      cut = read-cut order (instanceOf s) b p a (A .pool) (subst (λ l. ReadAll order (instanceOf s) l (A .pool)) e (i .reads))
 
-      pub step-accepted : Simulated (instanceOf s) (H .units) (H .written) (A .units) (placeOf p) (M.step (problemOf (instanceOf s)) (A .units (to (cut .message))) (cut .message)) (stepOn (instanceOf s) (H .units) p)
+      pub step-accepted : Simulated order (instanceOf s) (H .units) (H .written) (A .units) (placeOf p) (M.step (problemBy order (instanceOf s)) (A .units (to (cut .message))) (cut .message)) (stepOn order (instanceOf s) (H .units) p)
       step-accepted =
-          step-simulated (instanceOf s) (sound-of s ok) (stream-free s) (H .units) (H .written) (A .units) (i .core .matches) (i .kept .network .safe) p (cut .message) (cut .reads)
+          step-simulated order (instanceOf s) (sound-of s ok) (stream-free s) (H .units) (H .written) (A .units) (i .core .matches) (i .kept .network .safe) p (cut .message) (cut .reads)
           (i .kept .network .msgs (cut .message) (subst (In (cut .message)) (sym (cut .whole)) (in-right (cut .before) (here refl)))) (running st (to (cut .message)))

@@ -8,6 +8,7 @@ use mathlib.Core.List.{List, []}
 use native.Mathlib.Omega.{arith}
 use native.Mathlib.Nat.{add-zero, add-suc}
 use Rattle.table.specs.Stream.{Accepted}
+use Rattle.costs.specs.declared.ValueOrder.{ValueOrder}
 use Rattle.costs.specs.Instance.{instanceOf}
 use Rattle.runs.specs.declared.Network.{Network}
 use Rattle.runs.specs.declared.Answer.{Answer}
@@ -23,128 +24,128 @@ use Rattle.runs.specs.Settle.{cellZero, settled, unlessUnmade, settleOf}
 abbrev countOf : Shed → ℕ
 countOf S = valueOf (S .network .core .deliveries)
 
-abbrev pub After : List ℕ → Shed → Shed → Type 0
-After s S₀ S = S ≡ deliverAll s S₀ (cellZero (valueOf (S .network .core .deliveries)))
+abbrev pub After : ValueOrder → List ℕ → Shed → Shed → Type 0
+After order s S₀ S = S ≡ deliverAll order s S₀ (cellZero (valueOf (S .network .core .deliveries)))
 
 -- one more
-one-more : (s : List ℕ) (S : Shed) (k : ℕ) → deliverAll s S (cellZero (suc k)) ≡ shedAfter s (deliverAll s S (cellZero k)) 0
+one-more : (order : ValueOrder) (s : List ℕ) (S : Shed) (k : ℕ) → deliverAll order s S (cellZero (suc k)) ≡ shedAfter order s (deliverAll order s S (cellZero k)) 0
 unfolding deliverAll
-one-more s S zero = refl
-one-more s S (suc k) = one-more s (shedAfter s S 0) k
+one-more order s S zero = refl
+one-more order s S (suc k) = one-more order s (shedAfter order s S 0) k
 
-module _ (s pool : List ℕ) (made : Made s pool) where
-  after-making : After s (shedMade s pool) (shedMade s pool)
+module _ (order : ValueOrder) (s pool : List ℕ) (made : Made order s pool) where
+  after-making : After order s (shedMade order s pool) (shedMade order s pool)
   unfolding runBytes deliverAll acceptedIn
-  after-making = ap (λ k. deliverAll s (shedMade s pool) (cellZero k)) (sym (served s pool made [] .deliveries))
+  after-making = ap (λ k. deliverAll order s (shedMade order s pool) (cellZero k)) (sym (served order s pool made [] .deliveries))
 
-  module _ (S : Shed) (a : After s (shedMade s pool) S) where
+  module _ (S : Shed) (a : After order s (shedMade order s pool) S) where
     -- no run accepts more than (3n - 1) × N
     after-bounded : countOf S ≤ most (instanceOf s)
     unfolding runBytes
     after-bounded =
-        let v = served s pool made (cellZero (countOf S)) in
+        let v = served order s pool made (cellZero (countOf S)) in
         subst (λ x. x ≤ most (instanceOf s)) (sym (ap countOf a ∙ v .deliveries)) (v .bounded)
 
     -- until unit 1 stops one more is accepted
-    after-accepted : over S ≡ false → refusalAt s S 0 ≡ 0
+    after-accepted : over S ≡ false → refusalAt order s S 0 ≡ 0
     unfolding runBytes
-    after-accepted st = subst (λ (T : Shed). over T ≡ false → refusalAt s T 0 ≡ 0) (sym a) (oldest-accepted s pool made (countOf S)) st
+    after-accepted st = subst (λ (T : Shed). over T ≡ false → refusalAt order s T 0 ≡ 0) (sym a) (oldest-accepted order s pool made (countOf S)) st
 
-    after-next : over S ≡ false → (countOf (shedAfter s S 0) ≡ suc (countOf S)) × After s (shedMade s pool) (shedAfter s S 0)
+    after-next : over S ≡ false → (countOf (shedAfter order s S 0) ≡ suc (countOf S)) × After order s (shedMade order s pool) (shedAfter order s S 0)
     unfolding runBytes
     after-next st =
-        let c : countOf (shedAfter s S 0) ≡ suc (countOf S) =
-        subst (λ (T : Shed). over T ≡ false → countOf (shedAfter s T 0) ≡ suc (countOf T)) (sym a) (λ e. one-counted s pool made (cellZero (countOf S)) 0 (oldest-accepted s pool made (countOf S) e)) st in (
+        let c : countOf (shedAfter order s S 0) ≡ suc (countOf S) =
+        subst (λ (T : Shed). over T ≡ false → countOf (shedAfter order s T 0) ≡ suc (countOf T)) (sym a) (λ e. one-counted order s pool made (cellZero (countOf S)) 0 (oldest-accepted order s pool made (countOf S) e)) st in (
           c,
-          ap (λ T. shedAfter s T 0) a ∙ sym (one-more s (shedMade s pool) (countOf S)) ∙ ap (λ k. deliverAll s (shedMade s pool) (cellZero k)) (sym c),
+          ap (λ T. shedAfter order s T 0) a ∙ sym (one-more order s (shedMade order s pool) (countOf S)) ∙ ap (λ k. deliverAll order s (shedMade order s pool) (cellZero k)) (sym c),
         )
 
     -- once it has stopped, longer runs are where it stands
-    after-stopped : over S ≡ true → (j : ℕ) → runBytes s pool (cellZero (countOf S + j)) ≡ S
+    after-stopped : over S ≡ true → (j : ℕ) → runBytes order s pool (cellZero (countOf S + j)) ≡ S
     unfolding runBytes
-    after-stopped st zero = ap (λ k. deliverAll s (shedMade s pool) (cellZero k)) (add-zero (countOf S)) ∙ sym a
+    after-stopped st zero = ap (λ k. deliverAll order s (shedMade order s pool) (cellZero k)) (add-zero (countOf S)) ∙ sym a
     after-stopped st (suc j) =
-        ap (λ k. deliverAll s (shedMade s pool) (cellZero k)) (add-suc (countOf S) j) ∙ one-more s (shedMade s pool) (countOf S + j) ∙ ap (λ T. shedAfter s T 0) (after-stopped st j)
-        ∙ subst (λ (T : Shed). over T ≡ true → shedAfter s T 0 ≡ T) (sym a) (stopped-stays s pool made (cellZero (countOf S)) 0) st
+        ap (λ k. deliverAll order s (shedMade order s pool) (cellZero k)) (add-suc (countOf S) j) ∙ one-more order s (shedMade order s pool) (countOf S + j) ∙ ap (λ T. shedAfter order s T 0) (after-stopped st j)
+        ∙ subst (λ (T : Shed). over T ≡ true → shedAfter order s T 0 ≡ T) (sym a) (stopped-stays order s pool made (cellZero (countOf S)) 0) st
 
-    pub settles-stopped : over S ≡ true → settleOf s pool ≡ settled S
+    pub settles-stopped : over S ≡ true → settleOf order s pool ≡ settled S
     unfolding settleOf
     settles-stopped st =
-        ap (λ r. unlessUnmade r s pool) made ∙ ap (λ k. settled (runBytes s pool (cellZero k))) (split (most (instanceOf s)) (countOf S) after-bounded)
+        ap (λ r. unlessUnmade order r s pool) made ∙ ap (λ k. settled (runBytes order s pool (cellZero k))) (split (most (instanceOf s)) (countOf S) after-bounded)
         ∙ ap settled (after-stopped st (most (instanceOf s) - countOf S))
       where
         split : (x k : ℕ) → k ≤ x → x ≡ k + (x - k)
         split x k l = omega arith
 
   -- the network that is handed back has come to its end
-  pub settle-ends : over (shedOf (settleOf s pool)) ≡ true
+  pub settle-ends : over (shedOf (settleOf order s pool)) ≡ true
   unfolding settleOf
-  settle-ends = ap (λ r. over (shedOf (unlessUnmade r s pool))) made ∙ oldest-ends s pool made
+  settle-ends = ap (λ r. over (shedOf (unlessUnmade order r s pool))) made ∙ oldest-ends order s pool made
 
 -- ---- the turns of the loop that does it
 
 -- making refused: nothing more is done
-pub settle-unmade : (s p : List ℕ) (a : Answer) (l : List ℕ) → (a ≡ makeOf s p .answer) × (l ≡ makeOf s p .pool) → (a .refusal ≡ 0 → ⊥) → (a ≡ settleOf s p .answer) × (l ≡ settleOf s p .pool)
+pub settle-unmade : (order : ValueOrder) (s p : List ℕ) (a : Answer) (l : List ℕ) → (a ≡ makeOf order s p .answer) × (l ≡ makeOf order s p .pool) → (a .refusal ≡ 0 → ⊥) → (a ≡ settleOf order s p .answer) × (l ≡ settleOf order s p .pool)
 unfolding settleOf
-settle-unmade s p a l e ne = go (makeOf s p .answer .refusal) (λ z. ne (ap (λ (x : Answer). x .refusal) (e .0) ∙ z))
+settle-unmade order s p a l e ne = go (makeOf order s p .answer .refusal) (λ z. ne (ap (λ (x : Answer). x .refusal) (e .0) ∙ z))
   where
-    go : (r : ℕ) → (r ≡ 0 → ⊥) → (a ≡ unlessUnmade r s p .answer) × (l ≡ unlessUnmade r s p .pool)
+    go : (r : ℕ) → (r ≡ 0 → ⊥) → (a ≡ unlessUnmade order r s p .answer) × (l ≡ unlessUnmade order r s p .pool)
     go zero h = absurd (h refl)
     go (suc r) h = e
 
 -- a network as making gave it
-pub record Begun (s : List ℕ) (net : Network) (m : List ℕ) : Type 0 where
+pub record Begun (order : ValueOrder) (s : List ℕ) (net : Network) (m : List ℕ) : Type 0 where
   pub pool : List ℕ
-  pub gave : (record { refusal = 0; network = net } ≡ makeOf s pool .answer) × (m ≡ makeOf s pool .pool)
+  pub gave : (record { refusal = 0; network = net } ≡ makeOf order s pool .answer) × (m ≡ makeOf order s pool .pool)
 
-pub begun-by : (s p : List ℕ) (a : Answer) (l : List ℕ) → (a ≡ makeOf s p .answer) × (l ≡ makeOf s p .pool) → a .refusal ≡ 0 → Begun s (a .network) l
-begun-by s p a l e z = record { pool = p; gave = (ap (λ (r : ℕ). record { refusal = r; network = a .network }) (sym z) ∙ e .0, e .1) }
+pub begun-by : (order : ValueOrder) (s p : List ℕ) (a : Answer) (l : List ℕ) → (a ≡ makeOf order s p .answer) × (l ≡ makeOf order s p .pool) → a .refusal ≡ 0 → Begun order s (a .network) l
+begun-by order s p a l e z = record { pool = p; gave = (ap (λ (r : ℕ). record { refusal = r; network = a .network }) (sym z) ∙ e .0, e .1) }
 
 -- and what some deliveries of cell 0 leave of it, once unit 1 has stopped
-pub record Ended (s : List ℕ) (net : Network) (m : List ℕ) (end : Network) (pool : List ℕ) : Type 0 where
+pub record Ended (order : ValueOrder) (s : List ℕ) (net : Network) (m : List ℕ) (end : Network) (pool : List ℕ) : Type 0 where
   pub stopped : over (record { network = end; pool = pool }) ≡ true
-  pub after : After s (record { network = net; pool = m }) (record { network = end; pool = pool })
+  pub after : After order s (record { network = net; pool = m }) (record { network = end; pool = pool })
 
 -- making gave a and the pool l; now the network is net and the pool is m
-module _ (s p : List ℕ) (a : Answer) (l : List ℕ) (e : (a ≡ makeOf s p .answer) × (l ≡ makeOf s p .pool)) (z : a .refusal ≡ 0) where
+module _ (order : ValueOrder) (s p : List ℕ) (a : Answer) (l : List ℕ) (e : (a ≡ makeOf order s p .answer) × (l ≡ makeOf order s p .pool)) (z : a .refusal ≡ 0) where
   abbrev pub Reached : Network → List ℕ → Type 0
-  Reached net m = After s (record { network = a .network; pool = l }) (record { network = net; pool = m })
+  Reached net m = After order s (record { network = a .network; pool = l }) (record { network = net; pool = m })
 
-  made : Made s p
+  made : Made order s p
   made = ap (λ (x : Answer). x .refusal) (sym (e .0)) ∙ z
 
   pub made-table : Accepted s
-  made-table = accepted-table s p made
+  made-table = accepted-table order s p made
 
-  start-is : _≡_ {A = Shed} (record { network = a .network; pool = l }) (shedMade s p)
+  start-is : _≡_ {A = Shed} (record { network = a .network; pool = l }) (shedMade order s p)
   start-is = λ i. record { network = e .0 i .network; pool = e .1 i }
 
   pub reached-start : Reached (a .network) l
-  reached-start = subst (λ (S₀ : Shed). After s S₀ S₀) (sym start-is) (after-making s p made)
+  reached-start = subst (λ (S₀ : Shed). After order s S₀ S₀) (sym start-is) (after-making order s p made)
 
   module _ (net : Network) (m : List ℕ) (r : Reached net m) where
-    from-making : After s (shedMade s p) (record { network = net; pool = m })
-    from-making = subst (λ (S₀ : Shed). After s S₀ (record { network = net; pool = m })) start-is r
+    from-making : After order s (shedMade order s p) (record { network = net; pool = m })
+    from-making = subst (λ (S₀ : Shed). After order s S₀ (record { network = net; pool = m })) start-is r
 
     -- unit 1 has stopped
-    pub settle-stopped : over (record { network = net; pool = m }) ≡ true → (record { refusal = 0; network = net } ≡ settleOf s p .answer) × (m ≡ settleOf s p .pool)
+    pub settle-stopped : over (record { network = net; pool = m }) ≡ true → (record { refusal = 0; network = net } ≡ settleOf order s p .answer) × (m ≡ settleOf order s p .pool)
     settle-stopped st =
-        let q = settles-stopped s p made (record { network = net; pool = m }) from-making st in
+        let q = settles-stopped order s p made (record { network = net; pool = m }) from-making st in
         (ap (λ (x : Result). x .answer) (sym q), ap (λ (x : Result). x .pool) (sym q))
 
     -- it has not, so the next delivery is accepted
-    pub reached-accepted : over (record { network = net; pool = m }) ≡ false → deliverOf net s m 0 .answer .refusal ≡ 0
-    reached-accepted st = after-accepted s p made (record { network = net; pool = m }) from-making st
+    pub reached-accepted : over (record { network = net; pool = m }) ≡ false → deliverOf order net s m 0 .answer .refusal ≡ 0
+    reached-accepted st = after-accepted order s p made (record { network = net; pool = m }) from-making st
 
     -- it has not, and the next delivery gave d and left the pool m′
-    module _ (d : Answer) (m′ : List ℕ) (f : (d ≡ deliverOf net s m 0 .answer) × (m′ ≡ deliverOf net s m 0 .pool)) (st : over (record { network = net; pool = m }) ≡ false) where
-      next : (countOf (record { network = d .network; pool = m′ }) ≡ suc (valueOf (net .core .deliveries))) × After s (shedMade s p) (record { network = d .network; pool = m′ })
+    module _ (d : Answer) (m′ : List ℕ) (f : (d ≡ deliverOf order net s m 0 .answer) × (m′ ≡ deliverOf order net s m 0 .pool)) (st : over (record { network = net; pool = m }) ≡ false) where
+      next : (countOf (record { network = d .network; pool = m′ }) ≡ suc (valueOf (net .core .deliveries))) × After order s (shedMade order s p) (record { network = d .network; pool = m′ })
       next =
-          subst (λ (S : Shed). (countOf S ≡ suc (valueOf (net .core .deliveries))) × After s (shedMade s p) S) (λ i. record { network = sym (f .0) i .network; pool = sym (f .1) i })
-          (after-next s p made (record { network = net; pool = m }) from-making st)
+          subst (λ (S : Shed). (countOf S ≡ suc (valueOf (net .core .deliveries))) × After order s (shedMade order s p) S) (λ i. record { network = sym (f .0) i .network; pool = sym (f .1) i })
+          (after-next order s p made (record { network = net; pool = m }) from-making st)
 
       pub reached-next : Reached (d .network) m′
-      reached-next = subst (λ (S₀ : Shed). After s S₀ (record { network = d .network; pool = m′ })) (sym start-is) (next .1)
+      reached-next = subst (λ (S₀ : Shed). After order s S₀ (record { network = d .network; pool = m′ })) (sym start-is) (next .1)
 
       pub measure-falls : most (instanceOf s) - valueOf (d .network .core .deliveries) < most (instanceOf s) - valueOf (net .core .deliveries)
-      measure-falls = omega (arith, next .0, after-bounded s p made (record { network = d .network; pool = m′ }) (next .1))
+      measure-falls = omega (arith, next .0, after-bounded order s p made (record { network = d .network; pool = m′ }) (next .1))

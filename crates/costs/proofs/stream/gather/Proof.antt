@@ -3,6 +3,7 @@
 use mathlib.Core.Path.{sym, _∙_}
 use native.Mathlib.Omega.{arith}
 use borrow.Author.Needs.{needs}
+use Rattle.costs.specs.declared.ValueOrder.the-variants.{Ascending}
 use Rattle.costs.specs.Gather.Checks.{gatherable, gather-refused, gather-done, seated}
 use Rattle.costs.proofs.stream.gather.Statement.{statement}
 use Rattle.costs.proofs.stream.gather.Tie as tie
@@ -20,7 +21,7 @@ gather-all-requires c κs =
     let sizes = c .before .before .before .sizes-of in
     let a = c .before .before .before .before .before .before .before .args in
     let g = gatherable (a .stream .now) (a .own) _ (sym (r .ensures) ∙ c .before .if1 .left) in
-    (seated (a .stream .now) (record { own = a .own; n = n .result; sizes = sizes .result }) (n .ensures) (sizes .ensures) (g .accepted), omega (arith, n .ensures, g .unit), g .fits)
+    (seated (a .stream .now) (record { own = a .own; n = n .result; sizes = sizes .result; order = Ascending }) (n .ensures) (sizes .ensures) (g .accepted), omega (arith, n .ensures, g .unit), g .fits)
 
 returns-2 : tie.Need-returns-2
 returns-2 c =

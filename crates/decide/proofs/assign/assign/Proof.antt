@@ -1,7 +1,6 @@
 -- `assign` meets its contract: the values after the own one are tried, from where `begin` leaves the state.
 -- Assumes nothing.
 use mathlib.Core.Path.{ap, _∙_}
-use Rattle.costs.specs.Instance.{viewFrom}
 use Rattle.rules.specs.Step.{Decision}
 use Rattle.rules.specs.Ready.{decidedOf}
 use Rattle.decide.proofs.Rules.{begun-low, begun-few, assign-lent}
@@ -13,14 +12,13 @@ try-after-requires : tie.Need-try-after-requires
 try-after-requires c κs =
     let s = c .before .before .before .before in
     let a = s .args in
-    let w = viewFrom (a .seat) (a .costs .now) in
-    (s .pre .0, begun-low w (a .t3) (c .begin .result) (c .begin .ensures) (a .seat .own) (s .pre .1), begun-few (a .seat) (a .costs .now) (a .t3) (c .begin .result) (c .begin .ensures) (s .pre .1))
+    let begun = c .begin in
+    (s .pre .0, s .pre .1 .value, begun-low (a .seat) (a .costs .now) (a .t3) (begun .result) (begun .ensures) (s .pre .1), begun-few (a .seat) (a .costs .now) (a .t3) (begun .result) (begun .ensures) (s .pre .1))
 
 returns : tie.Need-returns
 returns c =
-    λ was. let s = c .before .before .before .before .before in
-    let a = s .args in
-    c .try-after .ensures was ∙ ap (λ (o : Decision). decidedOf was o) (assign-lent (a .seat) (a .costs .now) (s .pre .0 .number .first) (s .pre .0 .within) (a .t3) (c .before .begin .result) (c .before .begin .ensures))
+    λ was. let a = c .before .before .before .before .before .args in
+    c .try-after .ensures was ∙ ap (λ (o : Decision). decidedOf was o) (assign-lent (a .seat) (a .costs .now) (a .t3) (c .before .begin .result) (c .before .begin .ensures))
 
 pub assign-spec : {M : Type 1} → statement M
 assign-spec =

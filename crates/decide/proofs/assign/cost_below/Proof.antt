@@ -29,12 +29,12 @@ returns-2 : tie.Need-returns-2
 returns-2 c =
     let p = c .before .before .before .before in
     let a = p .before .before .before .before .before .before .args in
-    no-h (viewFrom (a .seat) (a .costs .now)) (a .v) (a .u) (p .paid .given .0 .0) (paid-is p) (sym (c .before .before .h .ensures) ∙ c .enum-told2 .given .1)
+    no-h (viewFrom (a .seat) (a .costs .now)) (a .v) (a .u) (p .paid .given .0 .0) (paid-is p) (sym (c .before .before .h .ensures .0) ∙ c .enum-told2 .given .1)
 
 ahead-is : (c : tie.After-ahead)
     → let a = c .before .before .before .before .before .before .before .before .before .before .args in
     h (viewFrom (a .seat) (a .costs .now)) (a .v) ≡ Of (c .ahead .given .0 .0)
-ahead-is c = sym (c .before .before .h .ensures) ∙ c .ahead .given .1
+ahead-is c = sym (c .before .before .h .ensures .0) ∙ c .ahead .given .1
 
 returns-3 : tie.Need-returns-3
 returns-3 c =

@@ -29,7 +29,7 @@ sum-later-requires c κs =
 assign-requires : tie.Need-assign-requires
 assign-requires c κs =
     let a = c .before .before .before .before .before .before .before .before .before .args in
-    (c .before .before .before .before .before .before .before .before .before .pre .0, ready-stored (a .seat .own) (a .m) (a .u) (c .before .before .before .before .before .store .result) (c .before .before .before .before .before .store .ensures) (c .before .before .before .before .before .before .before .before .before .pre .1))
+    (c .before .before .before .before .before .before .before .before .before .pre .0, ready-stored (a .seat) (a .m) (a .u) (c .before .before .before .before .before .store .result) (c .before .before .before .before .before .store .ensures) (c .before .before .before .before .before .before .before .before .before .pre .1))
 
 returns-2 : tie.Need-returns-2
 returns-2 c =

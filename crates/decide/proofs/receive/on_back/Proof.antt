@@ -33,7 +33,7 @@ returns-2 c =
 resume-requires : tie.Need-resume-requires
 resume-requires c κs =
     let a = c .before .before .before .before .before .before .args in
-    (c .before .before .before .before .before .before .pre .0, ready-bound (a .seat .own) (a .m) (a .u) (c .take-bound .result) (c .take-bound .ensures) (c .before .before .before .before .before .before .pre .1))
+    (c .before .before .before .before .before .before .pre .0, ready-bound (a .seat) (a .m) (a .u) (c .take-bound .result) (c .take-bound .ensures) (c .before .before .before .before .before .before .pre .1))
 
 returns-3 : tie.Need-returns-3
 returns-3 c =

@@ -17,8 +17,8 @@ resume-requires c κs =
     let s = c .before .before .before .before in
     let a = s .args in (
       s .pre .0,
-      ready-bound (a .seat .own) (a .m) (withCpa (a .m .stamp) (a .m .values) (a .m .cost) (a .u)) (c .receive .result) (c .receive .ensures)
-          (ready-down (a .seat .own) (a .m) (a .u) (s .pre .2) (s .pre .3) (s .pre .1)),
+      ready-bound (a .seat) (a .m) (withCpa (a .m .stamp) (a .m .values) (a .m .cost) (a .u)) (c .receive .result) (c .receive .ensures)
+          (ready-down (a .seat) (a .m) (a .u) (s .pre .2) (s .pre .3) (s .pre .1)),
     )
 
 resume-requires-2 : tie.Need-resume-requires-2
@@ -27,8 +27,8 @@ resume-requires-2 c κs =
     let a = s .args in
     let t = c .before .follow .result in (
       s .pre .0,
-      ready-bound (a .seat .own) (a .m) (withCpa (a .m .stamp) (a .m .values) (a .m .cost) t) (c .receive2 .result) (c .receive2 .ensures)
-          (ready-down (a .seat .own) (a .m) t (s .pre .2) (s .pre .3) (ready-follow (a .seat .own) (a .m) (a .u) t (c .before .follow .ensures) (s .pre .2) (s .pre .1))),
+      ready-bound (a .seat) (a .m) (withCpa (a .m .stamp) (a .m .values) (a .m .cost) t) (c .receive2 .result) (c .receive2 .ensures)
+          (ready-down (a .seat) (a .m) t (s .pre .2) (s .pre .3) (ready-follow (a .seat) (a .m) (a .u) t (c .before .follow .ensures) (s .pre .2) (s .pre .1))),
     )
 
 returns : tie.Need-returns

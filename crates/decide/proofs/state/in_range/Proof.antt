@@ -1,4 +1,4 @@
--- `in_range` meets its contract: a number of no unit is refused; what the own value costs is what the unit's view says.
+-- `in_range` meets its contract: a number of no unit is refused; what the own value costs and when it is tried is what the unit's view says.
 -- Assumes nothing.
 use mathlib.Core.Path.{_≡_, sym, _∙_}
 use mathlib.Core.Bool.{true}
@@ -25,8 +25,9 @@ returns c = rw (sym (c .before .is-unit .ensures) ∙ not-true _ (c .if1 .taken)
 returns-2 : tie.Need-returns-2
 unfolding inRangeAt
 returns-2 c =
-    let a = c .before .before .before .before .before .args in
-    rw (unit (c .before .before)) (c .paid-in-range .ensures ∙ range-lent (a .seat) (a .costs .now) (a .u) _ (own (c .before .before) .first) (c .before .own-cost .ensures))
+    let e = c .before .before .before .before in
+    let a = e .before .before .before .args in
+    rw (unit e) (c .paid-in-range .ensures ∙ range-lent (a .seat) (a .costs .now) (a .u) _ _ (own e .first) (c .before .before .before .own-cost .ensures) (c .before .before .own-place .ensures))
 
 pub in-range-spec : {M : Type 1} → statement M
-in-range-spec = tie.close (tie.spec (λ c κs. search needs) returns (λ c κs. own c) (λ c κs. own (c .before)) returns-2)
+in-range-spec = tie.close (tie.spec (λ c κs. search needs) returns (λ c κs. own c) (λ c κs. own (c .before)) (λ c κs. own (c .before .before .before)) returns-2)

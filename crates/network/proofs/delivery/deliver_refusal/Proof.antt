@@ -9,29 +9,29 @@ use Rattle.network.proofs.delivery.deliver_refusal.Statement.{statement
 use Rattle.network.proofs.delivery.deliver_refusal.Tie as tie
 
 returns : tie.Need-returns
-returns c = λ pool e. let a = c .before .before .args in check-room (a .net) (a .stream .now) pool (a .cell) (omega arith)
+returns c = λ pool e. let a = c .before .before .args in check-room (a .order) (a .net) (a .stream .now) pool (a .cell) (omega arith)
 
 returns-2 : tie.Need-returns-2
-returns-2 c = λ pool e. let a = c .before .before .before .before .args in check-table (a .net) (a .stream .now) pool (a .cell) (omega arith) (c .before .stream-refusal .result) (c .before .stream-refusal .ensures) (c .if2 .taken)
+returns-2 c = λ pool e. let a = c .before .before .before .before .args in check-table (a .order) (a .net) (a .stream .now) pool (a .cell) (omega arith) (c .before .stream-refusal .result) (c .before .stream-refusal .ensures) (c .if2 .taken)
 
 units-in-range-requires : tie.Need-units-in-range-requires
 unfolding Accepted
 units-in-range-requires c κs = sym (c .before .before .before .stream-refusal .ensures) ∙ c .before .before .if2 .left
 
 returns-3 : tie.Need-returns-3
-returns-3 c = λ pool e. let a = c .before .before .before .before .before .before .before .before .args in check-states (a .net) (a .stream .now) pool (a .cell) (omega arith) (sym (c .before .before .before .before .before .stream-refusal .ensures) ∙ c .before .before .before .before .if2 .left) (sym (c .before .units-in-range .ensures) ∙ not-true _ (c .if3 .taken))
+returns-3 c = λ pool e. let a = c .before .before .before .before .before .before .before .before .args in check-states (a .order) (a .net) (a .stream .now) pool (a .cell) (omega arith) (sym (c .before .before .before .before .before .stream-refusal .ensures) ∙ c .before .before .before .before .if2 .left) (sym (c .before .units-in-range .ensures) ∙ not-true _ (c .if3 .taken))
 
 returns-4 : tie.Need-returns-4
-returns-4 c = λ pool e. let a = c .before .before .before .before .before .before .before .before .before .before .args in check-count (a .net) (a .stream .now) pool (a .cell) (omega arith) (sym (c .before .before .before .before .before .before .before .stream-refusal .ensures) ∙ c .before .before .before .before .before .before .if2 .left) (sym (c .before .before .before .units-in-range .ensures) ∙ not-false _ (c .before .before .if3 .left)) (omega arith)
+returns-4 c = λ pool e. let a = c .before .before .before .before .before .before .before .before .before .before .args in check-count (a .order) (a .net) (a .stream .now) pool (a .cell) (omega arith) (sym (c .before .before .before .before .before .before .before .stream-refusal .ensures) ∙ c .before .before .before .before .before .before .if2 .left) (sym (c .before .before .before .units-in-range .ensures) ∙ not-false _ (c .before .before .if3 .left)) (omega arith)
 
 returns-5 : tie.Need-returns-5
-returns-5 c = λ pool e. let a = c .before .before .before .before .before .before .before .before .before .before .before .before .args in check-stopped (a .net) (a .stream .now) pool (a .cell) (omega arith) (sym (c .before .before .before .before .before .before .before .before .before .stream-refusal .ensures) ∙ c .before .before .before .before .before .before .before .before .if2 .left) (sym (c .before .before .before .before .before .units-in-range .ensures) ∙ not-false _ (c .before .before .before .before .if3 .left)) (omega arith) (c .if5 .taken)
+returns-5 c = λ pool e. let a = c .before .before .before .before .before .before .before .before .before .before .before .before .args in check-stopped (a .order) (a .net) (a .stream .now) pool (a .cell) (omega arith) (sym (c .before .before .before .before .before .before .before .before .before .stream-refusal .ensures) ∙ c .before .before .before .before .before .before .before .before .if2 .left) (sym (c .before .before .before .before .before .units-in-range .ensures) ∙ not-false _ (c .before .before .before .before .if3 .left)) (omega arith) (c .if5 .taken)
 
 returns-6 : tie.Need-returns-6
-returns-6 c = λ pool e. let a = c .before .before .before .before .before .before .before .before .before .before .before .before .before .before .args in check-cell (a .net) (a .stream .now) pool (a .cell) (omega arith) (sym (c .before .before .before .before .before .before .before .before .before .before .before .stream-refusal .ensures) ∙ c .before .before .before .before .before .before .before .before .before .before .if2 .left) (sym (c .before .before .before .before .before .before .before .units-in-range .ensures) ∙ not-false _ (c .before .before .before .before .before .before .if3 .left)) (omega arith) (c .before .before .if5 .left) (c .if6 .taken)
+returns-6 c = λ pool e. let a = c .before .before .before .before .before .before .before .before .before .before .before .before .before .before .args in check-cell (a .order) (a .net) (a .stream .now) pool (a .cell) (omega arith) (sym (c .before .before .before .before .before .before .before .before .before .before .before .stream-refusal .ensures) ∙ c .before .before .before .before .before .before .before .before .before .before .if2 .left) (sym (c .before .before .before .before .before .before .before .units-in-range .ensures) ∙ not-false _ (c .before .before .before .before .before .before .if3 .left)) (omega arith) (c .before .before .if5 .left) (c .if6 .taken)
 
 returns-7 : tie.Need-returns-7
-returns-7 c = λ pool e. let a = c .before .before .before .before .before .before .before .before .before .before .before .before .before .before .args in check-none (a .net) (a .stream .now) pool (a .cell) (omega arith) (sym (c .before .before .before .before .before .before .before .before .before .before .before .stream-refusal .ensures) ∙ c .before .before .before .before .before .before .before .before .before .before .if2 .left) (sym (c .before .before .before .before .before .before .before .units-in-range .ensures) ∙ not-false _ (c .before .before .before .before .before .before .if3 .left)) (omega arith) (c .before .before .if5 .left) (c .if6 .left)
+returns-7 c = λ pool e. let a = c .before .before .before .before .before .before .before .before .before .before .before .before .before .before .args in check-none (a .order) (a .net) (a .stream .now) pool (a .cell) (omega arith) (sym (c .before .before .before .before .before .before .before .before .before .before .before .stream-refusal .ensures) ∙ c .before .before .before .before .before .before .before .before .before .before .if2 .left) (sym (c .before .before .before .before .before .before .before .units-in-range .ensures) ∙ not-false _ (c .before .before .before .before .before .before .if3 .left)) (omega arith) (c .before .before .if5 .left) (c .if6 .left)
 
 pub deliver-refusal-spec : {M : Type 1} → statement M
 deliver-refusal-spec =

@@ -15,7 +15,7 @@ sub-u c =
     let a = z .args in
     let w = c .before .before .receiver in
     let m : 64 * a .cell + 64 - 64 * a .cell ≡ 64 = omega arith in
-    own-first (a .net) (a .stream .now) (a .pool .now) (a .cell) (z .pre) (c .before .before .before .before .before .units-of .result) (w .result) (64 * a .cell + 64 - 64 * a .cell) (c .before .before .before .before .before .units-of .ensures) m (w .ensures .0)
+    own-first (a .order) (a .net) (a .stream .now) (a .pool .now) (a .cell) (z .pre) (c .before .before .before .before .before .units-of .result) (w .result) (64 * a .cell + 64 - 64 * a .cell) (c .before .before .before .before .before .units-of .ensures) m (w .ensures .0)
 
 array-copy-out-u : tie.Need-array-copy-out-u
 array-copy-out-u c =
@@ -23,7 +23,7 @@ array-copy-out-u c =
     let a = z .args in
     let w = c .before .before .receiver in
     let m : 64 * a .cell + 64 - 64 * a .cell ≡ 64 = omega arith in
-    let l = own-most (a .net) (a .stream .now) (a .pool .now) (a .cell) (z .pre) (c .before .before .before .before .before .units-of .result) (w .result) (64 * a .cell + 64 - 64 * a .cell) (c .before .before .before .before .before .units-of .ensures) m (w .ensures .0) in
+    let l = own-most (a .order) (a .net) (a .stream .now) (a .pool .now) (a .cell) (z .pre) (c .before .before .before .before .before .units-of .result) (w .result) (64 * a .cell + 64 - 64 * a .cell) (c .before .before .before .before .before .units-of .ensures) m (w .ensures .0) in
     omega arith
 
 step-requires : tie.Need-step-requires
@@ -32,7 +32,7 @@ step-requires c κs =
     let a = z .args in
     let w = c .before .before .before .before .before .before .receiver in
     let m : 64 * a .cell + 64 - 64 * a .cell ≡ 64 = omega arith in
-    (stepping (a .net) (a .stream .now) (a .pool .now) (a .cell) (z .pre) (c .before .before .before .before .before .before .before .before .before .units-of .result) (w .result) (64 * a .cell + 64 - 64 * a .cell) (c .before .before .before .before .before .before .before .before .before .units-of .ensures) m (w .ensures .0) (getD (a .net .core .units) (w .result - 1) emptyUnit) refl, search needs)
+    (stepping (a .order) (a .net) (a .stream .now) (a .pool .now) (a .cell) (z .pre) (c .before .before .before .before .before .before .before .before .before .units-of .result) (w .result) (64 * a .cell + 64 - 64 * a .cell) (c .before .before .before .before .before .before .before .before .before .units-of .ensures) m (w .ensures .0) (getD (a .net .core .units) (w .result - 1) emptyUnit) refl, search needs)
 
 returns : tie.Need-returns
 returns c =
@@ -40,7 +40,7 @@ returns c =
     let a = z .args in
     let w = c .before .before .before .before .before .before .before .before .before .receiver in
     let m : 64 * a .cell + 64 - 64 * a .cell ≡ 64 = omega arith in
-    hand-refuses (a .net) (a .stream .now) (a .pool .now) (a .cell) (z .pre) (c .before .before .before .before .before .before .before .before .before .before .before .before .units-of .result) (w .result) (64 * a .cell + 64 - 64 * a .cell) (c .before .before .before .before .before .before .before .before .before .before .before .before .units-of .ensures) m (w .ensures .0) (getD (a .net .core .units) (w .result - 1) emptyUnit) refl (replicate 1024 0) (c .before .before .step .last .1 .1 .1 .1 .0) (c .before .before .step .result) (c .before .before .step .ensures .0) (c .before .before .step .ensures .1) (w .ensures .1) (c .if1 .taken)
+    hand-refuses (a .order) (a .net) (a .stream .now) (a .pool .now) (a .cell) (z .pre) (c .before .before .before .before .before .before .before .before .before .before .before .before .units-of .result) (w .result) (64 * a .cell + 64 - 64 * a .cell) (c .before .before .before .before .before .before .before .before .before .before .before .before .units-of .ensures) m (w .ensures .0) (getD (a .net .core .units) (w .result - 1) emptyUnit) refl (replicate 1024 0) (c .before .before .step .last .1 .1 .1 .1 .1 .0) (c .before .before .step .result) (c .before .before .step .ensures .0) (c .before .before .step .ensures .1) (w .ensures .1) (c .if1 .taken)
 
 store-requires : tie.Need-store-requires
 store-requires c κs =
@@ -52,9 +52,9 @@ store-requires c κs =
       here = z .pre .here;
       few = z .pre .few;
       room = z .pre .room;
-      first = own-first (a .net) (a .stream .now) (a .pool .now) (a .cell) (z .pre) (c .before .before .before .before .before .before .before .before .before .before .before .before .before .before .units-of .result) (w .result) (64 * a .cell + 64 - 64 * a .cell) (c .before .before .before .before .before .before .before .before .before .before .before .before .before .before .units-of .ensures) m (w .ensures .0);
-      last = own-most (a .net) (a .stream .now) (a .pool .now) (a .cell) (z .pre) (c .before .before .before .before .before .before .before .before .before .before .before .before .before .before .units-of .result) (w .result) (64 * a .cell + 64 - 64 * a .cell) (c .before .before .before .before .before .before .before .before .before .before .before .before .before .before .units-of .ensures) m (w .ensures .0);
-      sent = hand-sent (a .net) (a .stream .now) (a .pool .now) (a .cell) (z .pre) (c .before .before .before .before .before .before .before .before .before .before .before .before .before .before .units-of .result) (w .result) (64 * a .cell + 64 - 64 * a .cell) (c .before .before .before .before .before .before .before .before .before .before .before .before .before .before .units-of .ensures) m (w .ensures .0) (getD (a .net .core .units) (w .result - 1) emptyUnit) refl (replicate 1024 0) (c .before .before .before .before .step .last .1 .1 .1 .1 .0) (c .before .before .before .before .step .result) (c .before .before .before .before .step .ensures .0) (c .before .before .before .before .step .ensures .1) (w .ensures .1);
+      first = own-first (a .order) (a .net) (a .stream .now) (a .pool .now) (a .cell) (z .pre) (c .before .before .before .before .before .before .before .before .before .before .before .before .before .before .units-of .result) (w .result) (64 * a .cell + 64 - 64 * a .cell) (c .before .before .before .before .before .before .before .before .before .before .before .before .before .before .units-of .ensures) m (w .ensures .0);
+      last = own-most (a .order) (a .net) (a .stream .now) (a .pool .now) (a .cell) (z .pre) (c .before .before .before .before .before .before .before .before .before .before .before .before .before .before .units-of .result) (w .result) (64 * a .cell + 64 - 64 * a .cell) (c .before .before .before .before .before .before .before .before .before .before .before .before .before .before .units-of .ensures) m (w .ensures .0);
+      sent = hand-sent (a .order) (a .net) (a .stream .now) (a .pool .now) (a .cell) (z .pre) (c .before .before .before .before .before .before .before .before .before .before .before .before .before .before .units-of .result) (w .result) (64 * a .cell + 64 - 64 * a .cell) (c .before .before .before .before .before .before .before .before .before .before .before .before .before .before .units-of .ensures) m (w .ensures .0) (getD (a .net .core .units) (w .result - 1) emptyUnit) refl (replicate 1024 0) (c .before .before .before .before .step .last .1 .1 .1 .1 .1 .0) (c .before .before .before .before .step .result) (c .before .before .before .before .step .ensures .0) (c .before .before .before .before .step .ensures .1) (w .ensures .1);
       buffer = search needs;
     }
 
@@ -64,7 +64,7 @@ returns-2 c =
     let a = z .args in
     let w = c .before .before .before .before .before .before .before .before .before .before .before .before .before .before .receiver in
     let m : 64 * a .cell + 64 - 64 * a .cell ≡ 64 = omega arith in
-    let e = hand-stores (a .net) (a .stream .now) (a .pool .now) (a .cell) (z .pre) (c .before .before .before .before .before .before .before .before .before .before .before .before .before .before .before .before .before .units-of .result) (w .result) (64 * a .cell + 64 - 64 * a .cell) (c .before .before .before .before .before .before .before .before .before .before .before .before .before .before .before .before .before .units-of .ensures) m (w .ensures .0) (getD (a .net .core .units) (w .result - 1) emptyUnit) refl (replicate 1024 0) (c .before .before .before .before .before .before .before .step .last .1 .1 .1 .1 .0) (c .before .before .before .before .before .before .before .step .result) (c .before .before .before .before .before .before .before .step .ensures .0) (c .before .before .before .before .before .before .before .step .ensures .1) (w .ensures .1) (c .before .before .before .before .before .if1 .left) in
+    let e = hand-stores (a .order) (a .net) (a .stream .now) (a .pool .now) (a .cell) (z .pre) (c .before .before .before .before .before .before .before .before .before .before .before .before .before .before .before .before .before .units-of .result) (w .result) (64 * a .cell + 64 - 64 * a .cell) (c .before .before .before .before .before .before .before .before .before .before .before .before .before .before .before .before .before .units-of .ensures) m (w .ensures .0) (getD (a .net .core .units) (w .result - 1) emptyUnit) refl (replicate 1024 0) (c .before .before .before .before .before .before .before .step .last .1 .1 .1 .1 .1 .0) (c .before .before .before .before .before .before .before .step .result) (c .before .before .before .before .before .before .before .step .ensures .0) (c .before .before .before .before .before .before .before .step .ensures .1) (w .ensures .1) (c .before .before .before .before .before .if1 .left) in
     (c .before .before .store .ensures .0 ∙ e .0, c .before .before .store .ensures .1 ∙ e .1)
 
 pub hand-over-spec : {M : Type 1} → statement M

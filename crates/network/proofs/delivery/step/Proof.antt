@@ -11,8 +11,8 @@ use Rattle.runs.specs.Code.{lent-count, lent-front, step-told}
 use Rattle.network.proofs.delivery.step.Statement.{statement}
 use Rattle.network.proofs.delivery.step.Tie as tie
 
-part-step-end : tie.Need-part-step-end
-part-step-end c =
+part-step-by-end : tie.Need-part-step-by-end
+part-step-by-end c =
     let z = c .before .before .before .before .before .before .before .before .before in
     let s = z .args .stream .now in
     let g = c .before .before .gather in
@@ -31,8 +31,8 @@ returns c =
     let g = c .before .before .before .before .before .before .before .gather in
     let front : take (g .result .length - 0) (drop 0 (g .last .1 .1 .0)) ≡ gathered (a .stream .now) (a .own) =
     lent-front (a .stream .now) (p .table) (a .own) (p .first) (p .last) (replicate 7712 0) (g .last .1 .1 .0) (g .result) (omega (arith, length-replicate {A = ℕ} 7712 0)) (g .ensures .0) (g .ensures .1) in
-    let r = c .before .before .step in (
-      step-told (a .stream .now) (a .own) (a .u) p (c .before .before .before .before .before .before .before .before .before .before .units-of .result) (c .before .before .before .before .before .before .before .before .before .sizes-of .result) (take (g .result .length - 0) (drop 0 (g .last .1 .1 .0))) (a .packet .now) (a .out .now) (r .last .1 .1 .1 .1 .1 .1 .0) (r .result)
+    let r = c .before .before .step-by in (
+      step-told (a .order) (a .stream .now) (a .own) (a .u) p (c .before .before .before .before .before .before .before .before .before .before .units-of .result) (c .before .before .before .before .before .before .before .before .before .sizes-of .result) (take (g .result .length - 0) (drop 0 (g .last .1 .1 .0))) (a .packet .now) (a .out .now) (r .last .1 .1 .1 .1 .1 .1 .1 .0) (r .result)
           (c .before .before .before .before .before .before .before .before .before .before .units-of .ensures) (c .before .before .before .before .before .before .before .before .before .sizes-of .ensures) front (z .pre .1) (r .ensures .0) (r .ensures .1),
       arrays z,
     )
@@ -47,7 +47,7 @@ step-spec =
     (λ c κs. search needs)
     (λ c. search needs)
     (λ c. search needs)
-    part-step-end
+    part-step-by-end
     (λ c κs. search needs)
     (λ c. search needs)
     returns)

@@ -26,16 +26,16 @@ use Rattle.network.proofs.settling.run.Statement.{statement}
 use Rattle.network.proofs.settling.run.Tie as tie
 
 abbrev Inv-loop : tie.InvT-loop
-Inv-loop stream pool₀ n sizes lent starts out₀ core₀ used₀ over₀ pool out core used over =
+Inv-loop order stream pool₀ n sizes lent starts out₀ core₀ used₀ over₀ pool out core used over =
     (length pool ≡ length pool₀) × (length out ≡ 1024) × (over ≡ unitAt (core .units) 0 .stopped)
-    × After stream (record { network = record { core = core₀; used = used₀ }; pool = pool₀ }) (record { network = record { core = core; used = used }; pool = pool })
+    × After order stream (record { network = record { core = core₀; used = used₀ }; pool = pool₀ }) (record { network = record { core = core; used = used }; pool = pool })
 
 abbrev μ-loop : tie.MeasureT-loop
-μ-loop stream pool₀ n sizes lent starts out₀ core₀ used₀ over₀ pool out core used over = most (instanceOf stream) - valueOf (core .deliveries)
+μ-loop order stream pool₀ n sizes lent starts out₀ core₀ used₀ over₀ pool out core used over = most (instanceOf stream) - valueOf (core .deliveries)
 
 -- the stream is an accepted one
 table : (c : tie.Start Inv-loop μ-loop) → Accepted (c .args .stream .now)
-table c = made-table (c .args .stream .now) (c .pre .pool) (record { refusal = 0; network = c .args .net }) (c .args .pool .now) (c .pre .gave) refl
+table c = made-table (c .args .order) (c .args .stream .now) (c .pre .pool) (record { refusal = 0; network = c .args .net }) (c .args .pool .now) (c .pre .gave) refl
 
 lend-requires : tie.Need-lend-requires Inv-loop μ-loop
 lend-requires c κs = let l = length-replicate {A = ℕ} 123392 0 in (table (c .before .before .before .before .before), omega (arith, l))
@@ -43,20 +43,20 @@ lend-requires c κs = let l = length-replicate {A = ℕ} 123392 0 in (table (c .
 loop-holds : tie.Need-loop-holds Inv-loop μ-loop
 loop-holds c =
     let a = c .before .before .before .before .before .before .before .before .before .args in
-    (refl, refl, refl, reached-start (a .stream .now) (c .before .before .before .before .before .before .before .before .before .pre .pool) (record { refusal = 0; network = a .net }) (a .pool .now) (c .before .before .before .before .before .before .before .before .before .pre .gave) refl)
+    (refl, refl, refl, reached-start (a .order) (a .stream .now) (c .before .before .before .before .before .before .before .before .before .pre .pool) (record { refusal = 0; network = a .net }) (a .pool .now) (c .before .before .before .before .before .before .before .before .before .pre .gave) refl)
 
 -- unit 1 has not stopped, so the next delivery is accepted
 module _ (c : tie.In-loop Inv-loop μ-loop) where
   goes-on : over (record { network = record { core = c .before .loop .core; used = c .before .loop .used }; pool = c .before .loop .pool }) ≡ false
   goes-on = sym (c .before .loop .inv .2) ∙ not-true (c .before .loop .over) (c .loop-test .taken)
 
-  accepted : deliverOf (record { core = c .before .loop .core; used = c .before .loop .used }) (c .before .before .before .before .before .before .before .before .before .before .before .args .stream .now) (c .before .loop .pool) 0 .answer .refusal ≡ 0
+  accepted : deliverOf (c .before .before .before .before .before .before .before .before .before .before .before .args .order) (record { core = c .before .loop .core; used = c .before .loop .used }) (c .before .before .before .before .before .before .before .before .before .before .before .args .stream .now) (c .before .loop .pool) 0 .answer .refusal ≡ 0
   accepted =
       let a = c .before .before .before .before .before .before .before .before .before .before .before .args in
-      reached-accepted (a .stream .now) (c .before .before .before .before .before .before .before .before .before .before .before .pre .pool) (record { refusal = 0; network = a .net }) (a .pool .now) (c .before .before .before .before .before .before .before .before .before .before .before .pre .gave) refl (record { core = c .before .loop .core; used = c .before .loop .used }) (c .before .loop .pool) (c .before .loop .inv .3) goes-on
+      reached-accepted (a .order) (a .stream .now) (c .before .before .before .before .before .before .before .before .before .before .before .pre .pool) (record { refusal = 0; network = a .net }) (a .pool .now) (c .before .before .before .before .before .before .before .before .before .before .before .pre .gave) refl (record { core = c .before .loop .core; used = c .before .loop .used }) (c .before .loop .pool) (c .before .loop .inv .3) goes-on
 
-  passed : Open (record { core = c .before .loop .core; used = c .before .loop .used }) (c .before .before .before .before .before .before .before .before .before .before .before .args .stream .now) (c .before .loop .pool) 0
-  passed = checks (record { core = c .before .loop .core; used = c .before .loop .used }) (c .before .before .before .before .before .before .before .before .before .before .before .args .stream .now) (c .before .loop .pool) 0 accepted
+  passed : Open (c .before .before .before .before .before .before .before .before .before .before .before .args .order) (record { core = c .before .loop .core; used = c .before .loop .used }) (c .before .before .before .before .before .before .before .before .before .before .before .args .stream .now) (c .before .loop .pool) 0
+  passed = checks (c .before .before .before .before .before .before .before .before .before .before .before .args .order) (record { core = c .before .loop .core; used = c .before .loop .used }) (c .before .before .before .before .before .before .before .before .before .before .before .args .stream .now) (c .before .loop .pool) 0 accepted
 
 part-receiver-end : tie.Need-part-receiver-end Inv-loop μ-loop
 part-receiver-end c = let l = passed (c .before) .room in search needs
@@ -65,11 +65,11 @@ part-receiver-end c = let l = passed (c .before) .room in search needs
 module _ (c : tie.After-receiver Inv-loop μ-loop) where
   first : 1 ≤ c .receiver .result
   first =
-      own-first (record { core = c .before .before .before .before .loop .core; used = c .before .before .before .before .loop .used }) (c .before .before .before .before .before .before .before .before .before .before .before .before .before .before .args .stream .now) (c .before .before .before .before .loop .pool) 0 (passed (c .before .before .before)) (c .before .before .before .before .before .before .before .before .before .before .before .units-of .result) (c .receiver .result) 64 (c .before .before .before .before .before .before .before .before .before .before .before .units-of .ensures) refl (c .receiver .ensures .0)
+      own-first (c .before .before .before .before .before .before .before .before .before .before .before .before .before .before .args .order) (record { core = c .before .before .before .before .loop .core; used = c .before .before .before .before .loop .used }) (c .before .before .before .before .before .before .before .before .before .before .before .before .before .before .args .stream .now) (c .before .before .before .before .loop .pool) 0 (passed (c .before .before .before)) (c .before .before .before .before .before .before .before .before .before .before .before .units-of .result) (c .receiver .result) 64 (c .before .before .before .before .before .before .before .before .before .before .before .units-of .ensures) refl (c .receiver .ensures .0)
 
   last : c .receiver .result ≤ unitsOf (c .before .before .before .before .before .before .before .before .before .before .before .before .before .before .args .stream .now)
   last =
-      own-last (record { core = c .before .before .before .before .loop .core; used = c .before .before .before .before .loop .used }) (c .before .before .before .before .before .before .before .before .before .before .before .before .before .before .args .stream .now) (c .before .before .before .before .loop .pool) 0 (passed (c .before .before .before)) (c .before .before .before .before .before .before .before .before .before .before .before .units-of .result) (c .receiver .result) 64 (c .before .before .before .before .before .before .before .before .before .before .before .units-of .ensures) refl (c .receiver .ensures .0)
+      own-last (c .before .before .before .before .before .before .before .before .before .before .before .before .before .before .args .order) (record { core = c .before .before .before .before .loop .core; used = c .before .before .before .before .loop .used }) (c .before .before .before .before .before .before .before .before .before .before .before .before .before .before .args .stream .now) (c .before .before .before .before .loop .pool) 0 (passed (c .before .before .before)) (c .before .before .before .before .before .before .before .before .before .before .before .units-of .result) (c .receiver .result) 64 (c .before .before .before .before .before .before .before .before .before .before .before .units-of .ensures) refl (c .receiver .ensures .0)
 
   place : c .receiver .result - 1 < 16
   place = omega (arith, first, last, accepted-units (c .before .before .before .before .before .before .before .before .before .before .before .before .before .before .args .stream .now) (table (c .before .before .before .before .before .before .before .before .before .before .before .before .before .before)) .1)
@@ -77,8 +77,8 @@ module _ (c : tie.After-receiver Inv-loop μ-loop) where
   below : c .receiver .result - 1 < unitsOf (c .before .before .before .before .before .before .before .before .before .before .before .before .before .before .args .stream .now)
   below = omega (arith, first, last)
 
-  order : getD (c .before .before .before .before .before .before .before .before .lend .result) (c .receiver .result - 1) 0 ≤ getD (c .before .before .before .before .before .before .before .before .lend .result) (c .receiver .result - 1 + 1) 0
-  order = part-order (c .before .before .before .before .before .before .before .before .before .before .before .before .before .before .args .stream .now) (c .before .before .before .before .before .before .before .before .lend .result) (c .before .before .before .before .before .before .before .before .lend .last .1 .0) (c .before .before .before .before .before .before .before .before .lend .ensures) (c .receiver .result - 1) below
+  ordered : getD (c .before .before .before .before .before .before .before .before .lend .result) (c .receiver .result - 1) 0 ≤ getD (c .before .before .before .before .before .before .before .before .lend .result) (c .receiver .result - 1 + 1) 0
+  ordered = part-order (c .before .before .before .before .before .before .before .before .before .before .before .before .before .before .args .stream .now) (c .before .before .before .before .before .before .before .before .lend .result) (c .before .before .before .before .before .before .before .before .lend .last .1 .0) (c .before .before .before .before .before .before .before .before .lend .ensures) (c .receiver .result - 1) below
 
   ends : getD (c .before .before .before .before .before .before .before .before .lend .result) (c .receiver .result - 1 + 1) 0 ≤ length (c .before .before .before .before .before .before .before .before .lend .last .1 .0)
   ends = part-end (c .before .before .before .before .before .before .before .before .before .before .before .before .before .before .args .stream .now) (c .before .before .before .before .before .before .before .before .lend .result) (c .before .before .before .before .before .before .before .before .lend .last .1 .0) (c .before .before .before .before .before .before .before .before .lend .ensures) (c .receiver .result - 1) below
@@ -91,7 +91,7 @@ module _ (c : tie.After-receiver Inv-loop μ-loop) where
       let e : suc (c .receiver .result - 1) ≡ c .receiver .result = omega (arith, first) in
       part-costs (c .before .before .before .before .before .before .before .before .before .before .before .before .before .before .args .stream .now) (c .before .before .before .before .before .before .before .before .lend .result) (c .before .before .before .before .before .before .before .before .lend .last .1 .0) (c .before .before .before .before .before .before .before .before .lend .ensures) (c .receiver .result - 1) below ∙ ap (gathered (c .before .before .before .before .before .before .before .before .before .before .before .before .before .before .args .stream .now)) e
 
-  abbrev oldest : Oldest (unitAt (c .before .before .before .before .loop .core .units) (c .receiver .result - 1)) (c .receiver .result) (c .before .before .before .before .before .before .before .before .before .before .before .units-of .result) (c .before .before .before .before .before .before .before .before .before .before .sizes-of .result) lent (c .before .before .before .before .loop .pool) (c .before .before .before .before .loop .used)
+  abbrev oldest : Oldest (c .before .before .before .before .before .before .before .before .before .before .before .before .before .before .args .order) (unitAt (c .before .before .before .before .loop .core .units) (c .receiver .result - 1)) (c .receiver .result) (c .before .before .before .before .before .before .before .before .before .before .before .units-of .result) (c .before .before .before .before .before .before .before .before .before .before .sizes-of .result) lent (c .before .before .before .before .loop .pool) (c .before .before .before .before .loop .used)
   oldest = record {
     stream = c .before .before .before .before .before .before .before .before .before .before .before .before .before .before .args .stream .now;
     net = record { core = c .before .before .before .before .loop .core; used = c .before .before .before .before .loop .used };
@@ -106,10 +106,10 @@ module _ (c : tie.After-receiver Inv-loop μ-loop) where
   }
 
 sub-hand-oldest : tie.Need-sub-hand-oldest Inv-loop μ-loop
-sub-hand-oldest c = order (c .before)
+sub-hand-oldest c = ordered (c .before)
 
 part-hand-oldest-start : tie.Need-part-hand-oldest-start Inv-loop μ-loop
-part-hand-oldest-start c = let l = order (c .before .before) in search needs
+part-hand-oldest-start c = let l = ordered (c .before .before) in search needs
 
 part-hand-oldest-end : tie.Need-part-hand-oldest-end Inv-loop μ-loop
 part-hand-oldest-end c = let l = ends (c .before .before) in search needs
@@ -118,7 +118,7 @@ hand-oldest-requires : tie.Need-hand-oldest-requires Inv-loop μ-loop
 hand-oldest-requires c κs = (oldest (c .before .before .before .before .before), omega (arith, c .before .before .before .before .before .before .before .before .before .loop .inv .1))
 
 -- what handing it over gives is what the delivery gives
-handed : (c : tie.After-hand-oldest Inv-loop μ-loop) → Handed (oldest (c .before .before .before .before .before .before)) (c .hand-oldest .result) (c .hand-oldest .last .1 .1 .1 .1 .1 .0)
+handed : (c : tie.After-hand-oldest Inv-loop μ-loop) → Handed (oldest (c .before .before .before .before .before .before)) (c .hand-oldest .result) (c .hand-oldest .last .1 .1 .1 .1 .1 .1 .0)
 handed c = c .hand-oldest .ensures (oldest (c .before .before .before .before .before .before))
 
 sub-used : tie.Need-sub-used Inv-loop μ-loop
@@ -138,15 +138,15 @@ module _ (c : tie.After-first2 Inv-loop μ-loop) where
     used = c .before .before .before .before .before .before .before .before .before .before .before .before .before .before .before .before .before .before .before .before .before .loop .used - 1 + c .before .before .before .before .before .before .before .before .before .before .before .hand-oldest .result .sent;
   }
 
-  delivered : (record { refusal = 0; network = turned } ≡ deliverOf (record { core = c .before .before .before .before .before .before .before .before .before .before .before .before .before .before .before .before .before .before .before .before .before .loop .core; used = c .before .before .before .before .before .before .before .before .before .before .before .before .before .before .before .before .before .before .before .before .before .loop .used }) (c .before .before .before .before .before .before .before .before .before .before .before .before .before .before .before .before .before .before .before .before .before .before .before .before .before .before .before .before .before .before .before .args .stream .now) (c .before .before .before .before .before .before .before .before .before .before .before .before .before .before .before .before .before .before .before .before .before .loop .pool) 0 .answer)
-      × (c .before .before .before .before .before .before .before .before .before .before .before .hand-oldest .last .1 .1 .1 .1 .1 .0 ≡ deliverOf (record { core = c .before .before .before .before .before .before .before .before .before .before .before .before .before .before .before .before .before .before .before .before .before .loop .core; used = c .before .before .before .before .before .before .before .before .before .before .before .before .before .before .before .before .before .before .before .before .before .loop .used }) (c .before .before .before .before .before .before .before .before .before .before .before .before .before .before .before .before .before .before .before .before .before .before .before .before .before .before .before .before .before .before .before .args .stream .now) (c .before .before .before .before .before .before .before .before .before .before .before .before .before .before .before .before .before .before .before .before .before .loop .pool) 0 .pool)
+  delivered : (record { refusal = 0; network = turned } ≡ deliverOf (c .before .before .before .before .before .before .before .before .before .before .before .before .before .before .before .before .before .before .before .before .before .before .before .before .before .before .before .before .before .before .before .args .order) (record { core = c .before .before .before .before .before .before .before .before .before .before .before .before .before .before .before .before .before .before .before .before .before .loop .core; used = c .before .before .before .before .before .before .before .before .before .before .before .before .before .before .before .before .before .before .before .before .before .loop .used }) (c .before .before .before .before .before .before .before .before .before .before .before .before .before .before .before .before .before .before .before .before .before .before .before .before .before .before .before .before .before .before .before .args .stream .now) (c .before .before .before .before .before .before .before .before .before .before .before .before .before .before .before .before .before .before .before .before .before .loop .pool) 0 .answer)
+      × (c .before .before .before .before .before .before .before .before .before .before .before .hand-oldest .last .1 .1 .1 .1 .1 .1 .0 ≡ deliverOf (c .before .before .before .before .before .before .before .before .before .before .before .before .before .before .before .before .before .before .before .before .before .before .before .before .before .before .before .before .before .before .before .args .order) (record { core = c .before .before .before .before .before .before .before .before .before .before .before .before .before .before .before .before .before .before .before .before .before .loop .core; used = c .before .before .before .before .before .before .before .before .before .before .before .before .before .before .before .before .before .before .before .before .before .loop .used }) (c .before .before .before .before .before .before .before .before .before .before .before .before .before .before .before .before .before .before .before .before .before .before .before .before .before .before .before .before .before .before .before .args .stream .now) (c .before .before .before .before .before .before .before .before .before .before .before .before .before .before .before .before .before .before .before .before .before .loop .pool) 0 .pool)
   delivered = (rw (c .before .before .before .plus .ensures, c .before .plus2 .ensures, ← pred-sub (c .before .before .before .before .before .before .before .before .before .before .before .before .before .before .before .before .before .receiver .result)) (handed (c .before .before .before .before .before .before .before .before .before .before .before) .0), handed (c .before .before .before .before .before .before .before .before .before .before .before) .1)
 
 loop-less : tie.Need-loop-less Inv-loop μ-loop
 loop-less c =
     let a = c .before .before .before .before .before .before .before .before .before .before .before .before .before .before .before .before .before .before .before .before .before .before .before .before .before .before .before .before .before .before .before .args in
     let l = c .before .before .before .before .before .before .before .before .before .before .before .before .before .before .before .before .before .before .before .before .before .loop in
-    measure-falls (a .stream .now) (c .before .before .before .before .before .before .before .before .before .before .before .before .before .before .before .before .before .before .before .before .before .before .before .before .before .before .before .before .before .before .before .pre .pool) (record { refusal = 0; network = a .net }) (a .pool .now) (c .before .before .before .before .before .before .before .before .before .before .before .before .before .before .before .before .before .before .before .before .before .before .before .before .before .before .before .before .before .before .before .pre .gave) refl (record { core = l .core; used = l .used }) (l .pool) (l .inv .3) (record { refusal = 0; network = turned c }) (c .before .before .before .before .before .before .before .before .before .before .before .hand-oldest .last .1 .1 .1 .1 .1 .0) (delivered c) (goes-on (c .before .before .before .before .before .before .before .before .before .before .before .before .before .before .before .before .before .before .before .before))
+    measure-falls (a .order) (a .stream .now) (c .before .before .before .before .before .before .before .before .before .before .before .before .before .before .before .before .before .before .before .before .before .before .before .before .before .before .before .before .before .before .before .pre .pool) (record { refusal = 0; network = a .net }) (a .pool .now) (c .before .before .before .before .before .before .before .before .before .before .before .before .before .before .before .before .before .before .before .before .before .before .before .before .before .before .before .before .before .before .before .pre .gave) refl (record { core = l .core; used = l .used }) (l .pool) (l .inv .3) (record { refusal = 0; network = turned c }) (c .before .before .before .before .before .before .before .before .before .before .before .hand-oldest .last .1 .1 .1 .1 .1 .1 .0) (delivered c) (goes-on (c .before .before .before .before .before .before .before .before .before .before .before .before .before .before .before .before .before .before .before .before))
 
 loop-again : tie.Need-loop-again Inv-loop μ-loop
 loop-again c =
@@ -155,7 +155,7 @@ loop-again c =
       search needs,
       c .before .before .before .before .before .before .before .before .out2 .given,
       refl,
-      reached-next (a .stream .now) (c .before .before .before .before .before .before .before .before .before .before .before .before .before .before .before .before .before .before .before .before .before .before .before .before .before .before .before .before .before .before .before .pre .pool) (record { refusal = 0; network = a .net }) (a .pool .now) (c .before .before .before .before .before .before .before .before .before .before .before .before .before .before .before .before .before .before .before .before .before .before .before .before .before .before .before .before .before .before .before .pre .gave) refl (record { core = l .core; used = l .used }) (l .pool) (l .inv .3) (record { refusal = 0; network = turned c }) (c .before .before .before .before .before .before .before .before .before .before .before .hand-oldest .last .1 .1 .1 .1 .1 .0) (delivered c) (goes-on (c .before .before .before .before .before .before .before .before .before .before .before .before .before .before .before .before .before .before .before .before)),
+      reached-next (a .order) (a .stream .now) (c .before .before .before .before .before .before .before .before .before .before .before .before .before .before .before .before .before .before .before .before .before .before .before .before .before .before .before .before .before .before .before .pre .pool) (record { refusal = 0; network = a .net }) (a .pool .now) (c .before .before .before .before .before .before .before .before .before .before .before .before .before .before .before .before .before .before .before .before .before .before .before .before .before .before .before .before .before .before .before .pre .gave) refl (record { core = l .core; used = l .used }) (l .pool) (l .inv .3) (record { refusal = 0; network = turned c }) (c .before .before .before .before .before .before .before .before .before .before .before .hand-oldest .last .1 .1 .1 .1 .1 .1 .0) (delivered c) (goes-on (c .before .before .before .before .before .before .before .before .before .before .before .before .before .before .before .before .before .before .before .before)),
     )
 
 returns : tie.Need-returns Inv-loop μ-loop

@@ -1,0 +1,2 @@
+-- What the proofs of the steps in place share.
+mod Steps
