@@ -2,10 +2,12 @@
 
 use crate::reference::message::{self, Message};
 use crate::reference::network::{self, Network};
+use crate::reference::order::ValueOrder::{self, Ascending, CheapestFirst};
 use crate::reference::table::Form;
 use crate::reference::unit::{self, Unit};
 use crate::reference::{checksum, convert, costs, readings, search, table, Places};
 
+/// Those that try values do so in one order.
 #[derive(Clone, Copy, PartialEq, Eq, Debug)]
 pub enum Call {
     Sum,
@@ -18,17 +20,23 @@ pub enum Call {
     Lent,
     Parse,
     Encode,
-    Make,
-    InRange,
-    Step,
-    MakeNetwork,
-    Deliver,
-    Settle,
+    Make(ValueOrder),
+    InRange(ValueOrder),
+    Step(ValueOrder),
+    MakeNetwork(ValueOrder),
+    Deliver(ValueOrder),
+    Settle(ValueOrder),
     Search,
 }
 
-/// Each call, its name in the Rattle code, and the refusals it can give.
-pub const CALLS: [(Call, &str, &[u8]); 17] = [
+const MAKE: &[u8] = &[5, 10, 6, 7, 13];
+const IN_RANGE: &[u8] = &[5, 10, 6, 7];
+const STEP: &[u8] = &[13, 5, 10, 6, 7, 8, 9, 12, 11];
+const MAKE_NETWORK: &[u8] = &[5, 6, 7, 13];
+const DELIVER: &[u8] = &[13, 5, 6, 7, 12, 15, 8, 10, 9, 11, 14];
+
+/// Each call, its name in the Rattle code with the order in which it tries values, and the refusals it can give.
+pub const CALLS: [(Call, &str, &[u8]); 23] = [
     (Call::Sum, "checksum::sum", &[]),
     (Call::Block, "table::read_block", &[1, 4, 2, 3]),
     (Call::Read, "table::read", &[13, 1, 4, 2, 3, 5, 6, 7]),
@@ -39,14 +47,27 @@ pub const CALLS: [(Call, &str, &[u8]); 17] = [
     (Call::Lent, "table::units_of, costs::sizes_of and costs::gather", &[5, 10, 6, 7, 13]),
     (Call::Parse, "message::parse", &[5, 8, 10, 9]),
     (Call::Encode, "message::write", &[5, 10, 9, 13]),
-    (Call::Make, "unit::make", &[5, 10, 6, 7, 13]),
-    (Call::InRange, "unit::in_range", &[5, 10, 6, 7]),
-    (Call::Step, "unit::step", &[13, 5, 10, 6, 7, 8, 9, 12, 11]),
-    (Call::MakeNetwork, "network::make", &[5, 6, 7, 13]),
-    (Call::Deliver, "network::deliver", &[13, 5, 6, 7, 12, 15, 8, 10, 9, 11, 14]),
-    (Call::Settle, "network::settle", &[5, 6, 7, 13]),
+    (Call::Make(Ascending), "unit::make, ascending", MAKE),
+    (Call::Make(CheapestFirst), "unit::make, cheapest first", MAKE),
+    (Call::InRange(Ascending), "unit::in_range, ascending", IN_RANGE),
+    (Call::InRange(CheapestFirst), "unit::in_range, cheapest first", IN_RANGE),
+    (Call::Step(Ascending), "unit::step, ascending", STEP),
+    (Call::Step(CheapestFirst), "unit::step, cheapest first", STEP),
+    (Call::MakeNetwork(Ascending), "network::make, ascending", MAKE_NETWORK),
+    (Call::MakeNetwork(CheapestFirst), "network::make, cheapest first", MAKE_NETWORK),
+    (Call::Deliver(Ascending), "network::deliver, ascending", DELIVER),
+    (Call::Deliver(CheapestFirst), "network::deliver, cheapest first", DELIVER),
+    (Call::Settle(Ascending), "network::settle, ascending", MAKE_NETWORK),
+    (Call::Settle(CheapestFirst), "network::settle, cheapest first", MAKE_NETWORK),
     (Call::Search, "search::exhaustive", &[5, 6, 7, 16]),
 ];
+
+/// The order that a call names by its number, as C does; `None` is the call that names nothing.
+pub type Named = Option<u8>;
+
+pub fn order_of(named: Named) -> ValueOrder {
+    named.map_or_else(ValueOrder::default, ValueOrder::numbered)
+}
 
 /// What a call is lent. The last buffer of each is the one that it may write.
 #[derive(Clone, Debug)]
@@ -60,13 +81,28 @@ pub enum Input {
     Lent { stream: Vec<u8>, own: u8, out: Vec<u8> },
     Parse { n: u8, sizes: Places, packet: Vec<u8> },
     Encode { n: u8, sizes: Places, kind: u8, message: Message, out: Vec<u8> },
-    Make { own: u8, n: u8, sizes: Places, costs: Vec<u8>, out: Vec<u8> },
-    InRange { unit: Unit, own: u8, n: u8, sizes: Places, costs: Vec<u8> },
-    Step { unit: Unit, own: u8, n: u8, sizes: Places, costs: Vec<u8>, packet: Vec<u8>, out: Vec<u8> },
-    MakeNetwork { stream: Vec<u8>, pool: Vec<u8> },
-    Deliver { network: Box<Network>, stream: Vec<u8>, pool: Vec<u8>, cell: u64 },
-    Settle { stream: Vec<u8>, pool: Vec<u8> },
+    Make { order: Named, own: u8, n: u8, sizes: Places, costs: Vec<u8>, out: Vec<u8> },
+    InRange { order: Named, unit: Unit, own: u8, n: u8, sizes: Places, costs: Vec<u8> },
+    Step { order: Named, unit: Unit, own: u8, n: u8, sizes: Places, costs: Vec<u8>, packet: Vec<u8>, out: Vec<u8> },
+    MakeNetwork { order: Named, stream: Vec<u8>, pool: Vec<u8> },
+    Deliver { order: Named, network: Box<Network>, stream: Vec<u8>, pool: Vec<u8>, cell: u64 },
+    Settle { order: Named, stream: Vec<u8>, pool: Vec<u8> },
     Search { stream: Vec<u8> },
+}
+
+impl Input {
+    /// The order that a call which tries values names.
+    pub fn named(&mut self) -> Option<&mut Named> {
+        match self {
+            Input::Make { order, .. }
+            | Input::InRange { order, .. }
+            | Input::Step { order, .. }
+            | Input::MakeNetwork { order, .. }
+            | Input::Deliver { order, .. }
+            | Input::Settle { order, .. } => Some(order),
+            _ => None,
+        }
+    }
 }
 
 /// All that a caller sees afterwards; what a call does not give is left as it is here by default.
@@ -87,6 +123,14 @@ pub fn network_outcome(refusal: u8, network: &Network, lent: Vec<u8>) -> Outcome
     numbers.extend(words(network.records));
     numbers.extend(words(network.deliveries));
     Outcome { refusal, numbers, units: network.units.to_vec(), lent, ..Outcome::default() }
+}
+
+/// Of a network that was made or settled; refused it is all zero.
+pub fn made_outcome(made: Result<Network, u8>, lent: Vec<u8>) -> Outcome {
+    match made {
+        Ok(network) => network_outcome(0, &network, lent),
+        Err(refusal) => network_outcome(refusal, &Network::default(), lent),
+    }
 }
 
 pub fn unit_outcome(answer: &unit::Answer, lent: Vec<u8>) -> Outcome {
@@ -132,28 +176,26 @@ pub fn reference(input: Input) -> Outcome {
             let refusal = message::write(n, &sizes, kind, &message, &mut out).err().unwrap_or(0);
             Outcome { refusal, lent: out, ..Outcome::default() }
         }
-        Input::Make { own, n, sizes, costs, mut out } => {
-            unit_outcome(&unit::make(own, n, &sizes, &costs, &mut out), out)
+        Input::Make { order, own, n, sizes, costs, mut out } => {
+            unit_outcome(&unit::make_by(order_of(order), own, n, &sizes, &costs, &mut out), out)
         }
-        Input::InRange { unit, own, n, sizes, costs } => {
-            let refusal = unit::check_lent(&unit, own, n, &sizes, &costs).err().unwrap_or(0);
+        Input::InRange { order, unit, own, n, sizes, costs } => {
+            let refusal = unit::check_lent_by(order_of(order), &unit, own, n, &sizes, &costs).err().unwrap_or(0);
             Outcome { refusal, ..Outcome::default() }
         }
-        Input::Step { unit, own, n, sizes, costs, packet, mut out } => {
-            unit_outcome(&unit::step(&unit, own, n, &sizes, &costs, &packet, &mut out), out)
+        Input::Step { order, unit, own, n, sizes, costs, packet, mut out } => {
+            unit_outcome(&unit::step_by(order_of(order), &unit, own, n, &sizes, &costs, &packet, &mut out), out)
         }
-        Input::MakeNetwork { stream, mut pool } => match network::make(&stream, &mut pool) {
-            Ok(network) => network_outcome(0, &network, pool),
-            Err(refusal) => network_outcome(refusal, &Network::default(), pool),
-        },
-        Input::Deliver { mut network, stream, mut pool, cell } => {
-            let refusal = network::deliver(&mut network, &stream, &mut pool, cell).err().unwrap_or(0);
-            network_outcome(refusal, &network, pool)
+        Input::MakeNetwork { order, stream, mut pool } => {
+            made_outcome(network::make_by(order_of(order), &stream, &mut pool), pool)
         }
-        Input::Settle { stream, mut pool } => match network::settle(&stream, &mut pool) {
-            Ok(network) => network_outcome(0, &network, pool),
-            Err(refusal) => network_outcome(refusal, &Network::default(), pool),
-        },
+        Input::Deliver { order, mut network, stream, mut pool, cell } => {
+            let delivered = network::deliver_by(order_of(order), &mut network, &stream, &mut pool, cell);
+            network_outcome(delivered.err().unwrap_or(0), &network, pool)
+        }
+        Input::Settle { order, stream, mut pool } => {
+            made_outcome(network::settle_by(order_of(order), &stream, &mut pool), pool)
+        }
         Input::Search { stream } => match search::exhaustive(&stream) {
             Ok((total, values)) => Outcome { numbers: vec![total.into()], lent: values.to_vec(), ..Outcome::default() },
             Err(refusal) => Outcome { refusal, numbers: vec![0], lent: vec![0; 16], ..Outcome::default() },

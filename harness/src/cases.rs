@@ -1,19 +1,21 @@
-//! What an input comes to beside the refusals: the cases of forbidden pairs (02's job 3) and of unary costs (its job 7), each of which
-//! generated inputs must come to; then what both kinds look at: an input's costs, and a unit's step.
+//! What an input comes to beside the refusals: the cases of forbidden pairs (02's job 3), of unary costs (its job 7) and of the order of
+//! values (its job 9), each of which generated inputs must come to; then what they look at: an input's costs, and a unit's step.
 
-use crate::calls::{Call, Input, Outcome};
+use crate::calls::{order_of, Call, Input, Outcome};
 use crate::reference::costs::{self, View};
 use crate::reference::message::{self, Message};
+use crate::reference::order::ValueOrder;
 use crate::reference::table::{self, Form};
-use crate::reference::unit::Unit;
+use crate::reference::unit::{self, Unit};
 use crate::reference::Places;
-use crate::{forbidden, unary};
+use crate::{forbidden, order, unary};
 use std::fmt;
 
 #[derive(Clone, Copy, PartialEq, Eq)]
 pub enum Case {
     Forbidden(forbidden::Case),
     Unary(unary::Case),
+    Order(order::Case),
 }
 
 impl fmt::Display for Case {
@@ -21,6 +23,7 @@ impl fmt::Display for Case {
         match self {
             Case::Forbidden(case) => write!(out, "{case:?}"),
             Case::Unary(case) => write!(out, "{case:?}"),
+            Case::Order(case) => write!(out, "{case:?}"),
         }
     }
 }
@@ -28,7 +31,8 @@ impl fmt::Display for Case {
 /// The cases that a call can come to.
 pub fn cases(call: Call) -> Vec<Case> {
     let unary = unary::cases(call).into_iter().map(Case::Unary);
-    forbidden::cases(call).iter().map(|case| Case::Forbidden(*case)).chain(unary).collect()
+    let order = order::cases(call).into_iter().map(Case::Order);
+    forbidden::cases(call).iter().map(|case| Case::Forbidden(*case)).chain(unary).chain(order).collect()
 }
 
 /// The cases that an input came to; the outcome is the reference's.
@@ -37,6 +41,7 @@ pub fn reached(call: Call, input: &Input, outcome: &Outcome) -> Vec<Case> {
     cases.retain(|case| match case {
         Case::Forbidden(case) => forbidden::came_to(*case, input, outcome),
         Case::Unary(case) => unary::came_to(*case, input, outcome),
+        Case::Order(case) => order::came_to(*case, input, outcome),
     });
     cases
 }
@@ -117,8 +122,9 @@ pub fn pairs_lent(input: &mut Input) -> &mut [u8] {
 
 // Units
 
-/// A unit's place in a table, its costs its own.
+/// A unit's place in a table, its costs its own, and the order in which it tries its values.
 pub struct Seat {
+    pub order: ValueOrder,
     pub own: usize,
     pub n: usize,
     pub sizes: Places,
@@ -126,31 +132,52 @@ pub struct Seat {
 }
 
 impl Seat {
-    pub fn lent(own: u8, n: u8, sizes: &Places, costs: &[u8]) -> Seat {
-        Seat { own: own as usize, n: n as usize, sizes: *sizes, costs: costs.to_vec() }
+    pub fn lent(order: ValueOrder, own: u8, n: u8, sizes: &Places, costs: &[u8]) -> Seat {
+        Seat { order, own: own as usize, n: n as usize, sizes: *sizes, costs: costs.to_vec() }
     }
 
-    pub fn of_stream(stream: &[u8], own: usize) -> Seat {
+    pub fn of_stream(order: ValueOrder, stream: &[u8], own: usize) -> Seat {
         let (n, sizes) = table::head(stream);
-        Seat { own, n: n as usize, sizes, costs: costs::of_unit(stream, own) }
+        Seat { order, own, n: n as usize, sizes, costs: costs::of_unit(stream, own) }
     }
 
     pub fn view(&self) -> View<'_> {
-        View::new(self.own, self.n, &self.sizes, &self.costs)
+        View::new_by(self.order, self.own, self.n, &self.sizes, &self.costs)
+    }
+}
+
+/// Whether the sizes and costs that states are lent with are right.
+pub fn checked(input: &Input) -> bool {
+    match input {
+        Input::InRange { own, n, sizes, costs, .. } | Input::Step { own, n, sizes, costs, .. } => {
+            unit::check_lent(&unit::fresh(), *own, *n, sizes, costs).is_ok()
+        }
+        Input::Deliver { stream, .. } => table::check_stream(stream).is_ok(),
+        _ => false,
     }
 }
 
 /// The units that an input of checked sizes and costs comes with.
 pub fn units_in(input: &Input) -> Vec<(Seat, Unit)> {
     match input {
-        Input::InRange { unit, own, n, sizes, costs } | Input::Step { unit, own, n, sizes, costs, .. } => {
-            vec![(Seat::lent(*own, *n, sizes, costs), *unit)]
+        Input::InRange { order, unit, own, n, sizes, costs }
+        | Input::Step { order, unit, own, n, sizes, costs, .. } => {
+            vec![(Seat::lent(order_of(*order), *own, *n, sizes, costs), *unit)]
         }
-        Input::Deliver { network, stream, .. } => {
+        Input::Deliver { order, network, stream, .. } => {
             let n = table::head(stream).0 as usize;
-            (1..=n).map(|own| (Seat::of_stream(stream, own), network.units[own - 1])).collect()
+            (1..=n).map(|own| (Seat::of_stream(order_of(*order), stream, own), network.units[own - 1])).collect()
         }
         _ => Vec::new(),
+    }
+}
+
+/// Unit 1 that a call makes, alone or with its network. The call was accepted.
+pub fn first_made(input: &Input) -> Option<Seat> {
+    match input {
+        Input::Make { order, own: 1, n, sizes, costs, .. } => Some(Seat::lent(order_of(*order), 1, *n, sizes, costs)),
+        Input::MakeNetwork { order, stream, .. } => Some(Seat::of_stream(order_of(*order), stream, 1)),
+        _ => None,
     }
 }
 
@@ -171,17 +198,17 @@ impl Stepped {
         }
         let cells = |from: u64, to: u64| outcome.lent[64 * from as usize..64 * to.max(from) as usize].to_vec();
         match input {
-            Input::Step { unit, own, n, sizes, costs, packet, .. } => {
+            Input::Step { order, unit, own, n, sizes, costs, packet, .. } => {
                 let (kind, message) = message::parse(*n, sizes, packet).ok()?;
-                let seat = Seat::lent(*own, *n, sizes, costs);
+                let seat = Seat::lent(order_of(*order), *own, *n, sizes, costs);
                 let sent = cells(0, outcome.numbers[0]);
                 Some(Stepped { seat, before: *unit, after: outcome.units[0], kind, message, sent })
             }
-            Input::Deliver { network, stream, pool, cell } => {
+            Input::Deliver { order, network, stream, pool, cell } => {
                 let (n, sizes) = table::head(stream);
                 let at = 64 * *cell as usize;
                 let (kind, message) = message::parse(n, &sizes, &pool[at..at + 64]).ok()?;
-                let seat = Seat::of_stream(stream, message.receiver as usize);
+                let seat = Seat::of_stream(order_of(*order), stream, message.receiver as usize);
                 let (before, after) = (network.units[seat.own - 1], outcome.units[seat.own - 1]);
                 let sent = if outcome.refusal == 0 { cells(network.count - 1, outcome.numbers[0]) } else { Vec::new() };
                 Some(Stepped { seat, before, after, kind, message, sent })

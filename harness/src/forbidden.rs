@@ -1,7 +1,7 @@
 //! What forbidden pairs (02's job 3) bring about beside the refusals: the cases that generated inputs must come to, and whether one did.
 
 use crate::calls::{self, Call, Input, Outcome};
-use crate::cases::{costs_in, pairs_lent, units_in, Seat, Stepped};
+use crate::cases::{costs_in, first_made, pairs_lent, units_in, Seat, Stepped};
 use crate::reference::costs::Cost;
 use crate::reference::message;
 use crate::reference::{table, Places, FORBIDDEN_PAIR, MAX_COST, NONE};
@@ -45,10 +45,12 @@ pub fn cases(call: Call) -> &'static [Case] {
         Call::Sum | Call::Block | Call::Readings => &[],
         Call::Read | Call::Write | Call::ToFormTwo | Call::ToFormOne | Call::Lent => &[Pair, OneBelow],
         Call::Parse | Call::Encode => &[Estimate, OneBelow],
-        Call::Make | Call::MakeNetwork => &[Pair, OneBelow, NoH, Stops],
-        Call::InRange => &[Pair, OneBelow, OwnValue, OwnNoH],
-        Call::Step | Call::Deliver => &[Pair, OneBelow, OwnValue, OwnNoH, Assigns, Stale, NotOut, Reply, Filled, NoH],
-        Call::Settle => &[Pair, OneBelow, Stops, NoneLeft],
+        Call::Make(_) | Call::MakeNetwork(_) => &[Pair, OneBelow, NoH, Stops],
+        Call::InRange(_) => &[Pair, OneBelow, OwnValue, OwnNoH],
+        Call::Step(_) | Call::Deliver(_) => {
+            &[Pair, OneBelow, OwnValue, OwnNoH, Assigns, Stale, NotOut, Reply, Filled, NoH]
+        }
+        Call::Settle(_) => &[Pair, OneBelow, Stops, NoneLeft],
         Call::Search => &[Pair, OneBelow, NoneLeft, Counted],
     }
 }
@@ -115,13 +117,13 @@ impl Seat {
     /// Of the values after one of them, up to the one that was written (0: none was), whether one can't be for this reason.
     fn passed_over(&self, values: &Places, written: u8, case: Case) -> bool {
         let view = self.view();
-        let end = if written == 0 { view.size(self.own) + 1 } else { written as usize };
-        (values[self.own - 1] as usize + 1..end).any(|v| {
-            let filled = view.added(values, self.own - 1, v) == Cost::Forbidden;
+        let mut passed = view.after(values[self.own - 1].into()).iter().take_while(|v| **v != written as usize);
+        passed.any(|v| {
+            let filled = view.added(values, self.own - 1, *v) == Cost::Forbidden;
             if case == Case::Filled {
                 filled
             } else {
-                !filled && view.h(v) == Cost::Forbidden
+                !filled && view.h(*v) == Cost::Forbidden
             }
         })
     }
@@ -129,12 +131,7 @@ impl Seat {
 
 /// Unit 1 was made, and passed a value over.
 fn first_without_h(input: &Input, outcome: &Outcome) -> bool {
-    let seat = match input {
-        Input::Make { own: 1, n, sizes, costs, .. } => Seat::lent(1, *n, sizes, costs),
-        Input::MakeNetwork { stream, .. } => Seat::of_stream(stream, 1),
-        _ => return false,
-    };
-    seat.passed_over(&[0; 16], outcome.units[0].values[0], Case::NoH)
+    first_made(input).is_some_and(|seat| seat.passed_over(&[0; 16], outcome.units[0].values[0], Case::NoH))
 }
 
 fn stopped_when_made(input: &Input, outcome: &Outcome) -> bool {

@@ -4,12 +4,13 @@
 
 mod tables;
 
-use crate::calls::{Call, Input};
+use crate::calls::{Call, Input, Named};
 use crate::random::Random;
 use crate::reference::convert;
 use crate::reference::costs::{self, Cost, View};
 use crate::reference::message::{self, Message};
 use crate::reference::network::{self, Network};
+use crate::reference::order::ValueOrder;
 use crate::reference::table::Form;
 use crate::reference::unit::Unit;
 use crate::reference::{cost_limit, table, Places, MAX_ESTIMATE, MAX_TOTAL, NONE};
@@ -184,8 +185,22 @@ fn permitted_part(view: &View, values: &Places, v: u8) -> (u32, bool) {
     })
 }
 
+fn values_without_h(view: &View) -> Vec<usize> {
+    view.tried.iter().copied().filter(|v| view.h(*v) == Cost::Forbidden).collect()
+}
+
+/// Values of a CPA that a unit has out, its own at times one without an h, if it has such.
+fn values_out(random: &mut Random, view: &View) -> Places {
+    let mut values = filled(random, &view.sizes, view.own);
+    let without_h = values_without_h(view);
+    if !without_h.is_empty() && random.once_in(2) {
+        values[view.own - 1] = *random.pick(&without_h) as u8;
+    }
+    values
+}
+
 /// A unit in range, with or without a CPA out; at times out of range for one thing alone: its bound is too high, its own value is forbidden with
-/// an earlier one, or its CPA costs too little or too much.
+/// an earlier one, its counter may be above that value's place, or its CPA costs too little or too much.
 pub fn unit(random: &mut Random, view: &View) -> Unit {
     let mut unit = Unit::default();
     (unit.bound, unit.best) = bound(random, view.n as u8, &view.sizes);
@@ -205,17 +220,18 @@ pub fn unit(random: &mut Random, view: &View) -> Unit {
         return unit;
     }
     let own = view.own;
-    unit.values = filled(random, &view.sizes, own);
+    unit.values = values_out(random, view);
     let mut paid = permitted_part(view, &unit.values, unit.values[own - 1]);
     for _ in 0..random.below(20) {
         if paid.1 {
-            unit.values = filled(random, &view.sizes, own);
+            unit.values = values_out(random, view);
             paid = permitted_part(view, &unit.values, unit.values[own - 1]);
         }
     }
     unit.stamp = filled(random, &view.sizes, own);
     let value = unit.values[own - 1];
-    unit.stamp[own - 1] = random.between(1, u64::from(value)) as u8;
+    let most = if random.once_in(8) { view.size(own) } else { view.place(value.into()) };
+    unit.stamp[own - 1] = random.between(1, most as u64) as u8;
     unit.counter = unit.stamp[own - 1];
     unit.cost = match random.below(24) {
         0 => paid.0 - view.unary(value as usize),
@@ -253,9 +269,25 @@ pub fn damage_unit(random: &mut Random, unit: &mut Unit) {
     }
 }
 
+/// The CPA that a unit has out comes back with the bound that the unit knows: it tries its next values.
+fn given_back(view: &View, unit: &Unit) -> Message {
+    Message {
+        sender: view.own as u8 + 1,
+        receiver: view.own as u8,
+        stamp: unit.stamp,
+        values: unit.values,
+        cost: unit.cost,
+        bound: unit.bound,
+        best: unit.best,
+    }
+}
+
 /// A message to a unit that has to do with its state: of its CPA out or with a stamp near its threshold.
 fn message_for(random: &mut Random, view: &View, unit: &Unit) -> (u8, Message) {
     let (n, own) = (view.n as u8, view.own);
+    if unit.values[own - 1] != 0 && own < view.n && random.once_in(2) {
+        return (message::CPA, given_back(view, unit));
+    }
     let (mut kind, mut m) = message(random, n, &view.sizes);
     for _ in 0..40 {
         if m.receiver as usize == own {
@@ -292,10 +324,10 @@ fn message_for(random: &mut Random, view: &View, unit: &Unit) -> (u8, Message) {
 
 // Networks
 
-/// A network after some deliveries, and its pool.
-pub fn network(random: &mut Random, stream: &[u8]) -> (Network, Vec<u8>) {
+/// A network after some deliveries in this order, and its pool.
+pub fn network(random: &mut Random, order: ValueOrder, stream: &[u8]) -> (Network, Vec<u8>) {
     let mut pool = vec![random.byte(); network::POOL];
-    let mut network = network::make(stream, &mut pool).expect("an accepted table");
+    let mut network = network::make_by(order, stream, &mut pool).expect("an accepted table");
     let steps = random.below(40);
     for _ in 0..steps {
         if network.units[0].has_stopped() && !random.once_in(10) {
@@ -303,7 +335,7 @@ pub fn network(random: &mut Random, stream: &[u8]) -> (Network, Vec<u8>) {
         }
         let before = (network.clone(), pool.clone());
         let cell = random.below(network.count.max(1));
-        let _ = network::deliver(&mut network, stream, &mut pool, cell);
+        let _ = network::deliver_by(order, &mut network, stream, &mut pool, cell);
         if network.units[0].has_stopped() && random.once_in(2) {
             return before;
         }
@@ -321,59 +353,93 @@ fn crowd(random: &mut Random, network: &mut Network, pool: &mut [u8], count: u64
     }
 }
 
-/// One damage to a network or to its pool; `cell` is the one that will be delivered.
-fn damage_network(random: &mut Random, network: &mut Network, pool: &mut Vec<u8>, stream: &[u8], cell: u64) {
+/// A unit of a table, rather one that has a value without an h, and others with one.
+fn some_unit(random: &mut Random, stream: &[u8]) -> usize {
     let (n, sizes) = table::head(stream);
-    let n = n as usize;
+    let mixed = |own: usize| {
+        let costs = costs::of_unit(stream, own);
+        let without_h = values_without_h(&View::new(own, n.into(), &sizes, &costs)).len();
+        without_h > 0 && without_h < sizes[own - 1].into()
+    };
+    let own = random.between(1, n.into()) as usize;
+    if random.once_in(4) {
+        return own;
+    }
+    (1..=n.into()).find(|own| mixed(*own)).unwrap_or(own)
+}
+
+/// A packet into a cell, cut or filled up to its 64 bytes.
+fn put(pool: &mut [u8], cell: u64, mut packet: Vec<u8>) {
+    packet.resize(64, 1);
     let at = 64 * cell.min(1_023) as usize;
-    match random.below(16) {
+    pool[at..at + 64].copy_from_slice(&packet);
+}
+
+/// A state of another run, a message that has to do with a unit's state, or both.
+fn meet_another_run(
+    random: &mut Random,
+    order: ValueOrder,
+    network: &mut Network,
+    pool: &mut [u8],
+    stream: &[u8],
+    cell: u64,
+) {
+    let (n, sizes) = table::head(stream);
+    let own = some_unit(random, stream);
+    let costs = costs::of_unit(stream, own);
+    let view = View::new_by(order, own, n.into(), &sizes, &costs);
+    let style = random.below(7);
+    if style < 6 {
+        network.units[own - 1] = unit(random, &view);
+    }
+    if style > 1 {
+        let (kind, m) = message_for(random, &view, &network.units[own - 1]);
+        put(pool, cell, message::encode(kind, &m).to_vec());
+    }
+}
+
+/// One damage to a network or to its pool; `cell` is the one that will be delivered, in this order.
+fn damage_network(
+    random: &mut Random,
+    order: ValueOrder,
+    network: &mut Network,
+    pool: &mut Vec<u8>,
+    stream: &[u8],
+    cell: u64,
+) {
+    let (n, sizes) = table::head(stream);
+    match random.below(19) {
         0 | 1 => {
-            let own = random.below(n as u64) as usize;
+            let own = random.below(n.into()) as usize;
             damage_unit(random, &mut network.units[own]);
         }
         2 => network.count = *random.pick(&[0, 1_024, 1_025, 65_536, 4_294_967_295]),
-        3 => {
+        3 | 4 => {
             let count = random.between(1_020, 1_024);
             crowd(random, network, pool, count);
         }
-        4 => pool.truncate(*random.pick(&[0, 64, 65_535])),
-        5 => pool.extend([7; 100]),
-        6 => {
+        5 => pool.truncate(*random.pick(&[0, 64, 65_535])),
+        6 => pool.extend([7; 100]),
+        7 => {
             network.records = *random.pick(&[u64::MAX.into(), u128::MAX, u128::MAX - 1, 1 << 64]);
             network.deliveries = *random.pick(&[u64::MAX.into(), u128::MAX, u128::MAX - 1, 1 << 64]);
         }
-        7 => {
+        8 => {
             // units past n are not looked at
-            for k in n..16 {
-                network.units[k].threshold = [255; 16];
-                network.units[k].cost = u32::MAX;
-                network.units[k].stopped = random.byte();
+            for unit in network.units.iter_mut().skip(n.into()) {
+                unit.threshold = [255; 16];
+                unit.cost = u32::MAX;
+                unit.stopped = random.byte();
             }
         }
-        8 => {
+        9 => {
+            let at = 64 * cell.min(1_023) as usize;
             let mut packet = pool[at..at + 64].to_vec();
             damage_packet(random, &mut packet);
-            packet.resize(64, 1);
-            pool[at..at + 64].copy_from_slice(&packet);
+            put(pool, cell, packet);
         }
-        9..=11 => {
-            // a state of another run
-            let own = random.between(1, n as u64) as usize;
-            let costs = costs::of_unit(stream, own);
-            network.units[own - 1] = unit(random, &View::new(own, n, &sizes, &costs));
-        }
-        12 | 13 => {
-            // a message that has to do with a unit's state
-            let own = random.between(1, n as u64) as usize;
-            let costs = costs::of_unit(stream, own);
-            let (kind, m) = message_for(random, &View::new(own, n, &sizes, &costs), &network.units[own - 1]);
-            pool[at..at + 64].copy_from_slice(&message::encode(kind, &m));
-        }
-        _ => {
-            let mut packet = packet(random, n as u8, &sizes);
-            packet.resize(64, 1);
-            pool[at..at + 64].copy_from_slice(&packet);
-        }
+        10..=16 => meet_another_run(random, order, network, pool, stream, cell),
+        _ => put(pool, cell, packet(random, n, &sizes)),
     }
 }
 
@@ -437,6 +503,14 @@ fn own_number(random: &mut Random, n: u8) -> u8 {
     }
 }
 
+/// A name for an order. Cheapest first has several: none, and every number but 0.
+fn named(random: &mut Random, order: ValueOrder) -> Named {
+    match order {
+        ValueOrder::Ascending => Some(0),
+        ValueOrder::CheapestFirst => *random.pick(&[None, None, Some(1), Some(1), Some(2), Some(128), Some(255)]),
+    }
+}
+
 /// The bytes of a message, half of them damaged.
 pub fn packet(random: &mut Random, n: u8, sizes: &Places) -> Vec<u8> {
     let (mut kind, mut m) = message(random, n, sizes);
@@ -450,12 +524,23 @@ pub fn packet(random: &mut Random, n: u8, sizes: &Places) -> Vec<u8> {
     packet
 }
 
-fn step(random: &mut Random) -> Input {
+fn make(random: &mut Random, order: ValueOrder) -> Input {
+    let stream = stream(random);
+    let (mut n, mut sizes) = head(random, &stream);
+    let own = own_number(random, n);
+    let seated = if (1..=n).contains(&own) { own } else { 1 };
+    let mut costs = costs::of_unit(&stream, seated as usize);
+    damage_costs(random, &mut costs, sizes[seated as usize - 1]);
+    damage_head(random, &mut n, &mut sizes);
+    Input::Make { order: named(random, order), own, n, sizes, costs, out: buffer(random, 1_024) }
+}
+
+fn step(random: &mut Random, order: ValueOrder) -> Input {
     let stream = stream(random);
     let (mut n, mut sizes) = head(random, &stream);
     let own = random.between(1, u64::from(n)) as u8;
     let mut costs = costs::of_unit(&stream, own as usize);
-    let view = View::new(own as usize, n as usize, &sizes, &costs);
+    let view = View::new_by(order, own as usize, n as usize, &sizes, &costs);
     let mut unit = unit(random, &view);
     let (mut kind, mut m) = message_for(random, &view, &unit);
     if random.once_in(12) {
@@ -471,19 +556,21 @@ fn step(random: &mut Random) -> Input {
     damage_costs(random, &mut costs, sizes[own as usize - 1]);
     let own = if random.once_in(40) { own_number(random, n) } else { own };
     damage_head(random, &mut n, &mut sizes);
-    Input::Step { unit, own, n, sizes, costs, packet, out: buffer(random, 1_024) }
+    Input::Step { order: named(random, order), unit, own, n, sizes, costs, packet, out: buffer(random, 1_024) }
 }
 
-fn deliver(random: &mut Random) -> Input {
+/// Once in 8 to a network whose run was in the other order.
+fn deliver(random: &mut Random, order: ValueOrder) -> Input {
+    let run = if random.once_in(8) { order.other() } else { order };
     let mut stream = stream(random);
-    let (mut network, mut pool) = network(random, &stream);
+    let (mut network, mut pool) = network(random, run, &stream);
     while network.units[0].has_stopped() && network.deliveries == 0 && !random.once_in(4) {
         stream = self::stream(random);
-        (network, pool) = self::network(random, &stream);
+        (network, pool) = self::network(random, run, &stream);
     }
     let mut cell = random.below(network.count.max(1));
     for _ in 0..random.below(3) {
-        damage_network(random, &mut network, &mut pool, &stream, cell);
+        damage_network(random, order, &mut network, &mut pool, &stream, cell);
         if pool.len() < network::POOL {
             break;
         }
@@ -491,21 +578,21 @@ fn deliver(random: &mut Random) -> Input {
     if random.once_in(10) {
         cell = *random.pick(&[network.count, 1_023, 1_024, u64::MAX, 1 << 32, (1 << 32) + 1]);
     }
-    if random.once_in(8) {
+    if random.once_in(6) {
         damage_stream(random, &mut stream);
     }
-    Input::Deliver { network: Box::new(network), stream, pool, cell }
+    Input::Deliver { order: named(random, order), network: Box::new(network), stream, pool, cell }
 }
 
 /// A table of few enough deliveries to be settled often; damaged at times.
-fn settle(random: &mut Random) -> Input {
+fn settle(random: &mut Random, order: ValueOrder) -> Input {
     let n = random.between(1, 5);
     let sizes: Vec<u8> = (0..n).map(|_| random.between(1, 3) as u8).collect();
     let mut stream = if random.once_in(40) { dearest(random) } else { stream_of(random, &sizes) };
     if random.once_in(6) {
         damage_stream(random, &mut stream);
     }
-    Input::Settle { stream, pool: buffer(random, network::POOL) }
+    Input::Settle { order: named(random, order), stream, pool: buffer(random, network::POOL) }
 }
 
 fn exhaustive(random: &mut Random) -> Input {
@@ -616,27 +703,19 @@ pub fn input(random: &mut Random, call: Call) -> Input {
             damage_head(random, &mut n, &mut sizes);
             Input::Encode { n, sizes, kind, message, out: buffer(random, 64) }
         }
-        Call::Make => {
-            let stream = stream(random);
-            let (mut n, mut sizes) = head(random, &stream);
-            let own = own_number(random, n);
-            let seated = if (1..=n).contains(&own) { own } else { 1 };
-            let mut costs = costs::of_unit(&stream, seated as usize);
-            damage_costs(random, &mut costs, sizes[seated as usize - 1]);
-            damage_head(random, &mut n, &mut sizes);
-            Input::Make { own, n, sizes, costs, out: buffer(random, 1_024) }
+        Call::Make(order) => make(random, order),
+        Call::InRange(order) => {
+            let step = step(random, order);
+            let Input::Step { order, unit, own, n, sizes, costs, .. } = step else { unreachable!("a step") };
+            Input::InRange { order, unit, own, n, sizes, costs }
         }
-        Call::InRange => {
-            let Input::Step { unit, own, n, sizes, costs, .. } = step(random) else { unreachable!("a step") };
-            Input::InRange { unit, own, n, sizes, costs }
-        }
-        Call::Step => step(random),
-        Call::MakeNetwork => {
+        Call::Step(order) => step(random, order),
+        Call::MakeNetwork(order) => {
             let stream = some_stream(random, 3);
-            Input::MakeNetwork { stream, pool: buffer(random, network::POOL) }
+            Input::MakeNetwork { order: named(random, order), stream, pool: buffer(random, network::POOL) }
         }
-        Call::Deliver => deliver(random),
-        Call::Settle => settle(random),
+        Call::Deliver(order) => deliver(random, order),
+        Call::Settle(order) => settle(random, order),
         Call::Search => exhaustive(random),
     }
 }

@@ -1,4 +1,4 @@
-//! An independent implementation of documents 01 and 02 (jobs 1, 3 and 7) and the tools that compare the Rattle code with it.
+//! An independent implementation of documents 01 and 02 (jobs 1, 3, 7 and 9) and the tools that compare the Rattle code with it.
 //!
 //! `reference` is written from the documents alone. Nothing here is proved: it is the other opinion.
 
@@ -7,9 +7,11 @@ pub mod cases;
 pub mod differential;
 pub mod forbidden;
 pub mod generate;
+pub mod lent;
 #[cfg(feature = "linked")]
 pub mod linked;
 pub mod maxcsp;
+pub mod order;
 pub mod plot;
 pub mod random;
 pub mod reference;

@@ -1,9 +1,10 @@
 //! The Rattle library behind the same inputs and outcomes: include/riksamoe.h declared again, and one function that calls it.
 //!
 //! Nothing checks these declarations against the library: the sizes at the end are all that the compiler can hold, the differential test does the rest.
-//! A slice passes as a pointer and a length; structs pass by value and are `repr(C)`.
+//! A slice passes as a pointer and a length; structs pass by value and are `repr(C)`. A call that tries values is two, one that names no
+//! order and one that names it by its number: here one function for both.
 
-use crate::calls::{lent_outcome, Input, Outcome};
+use crate::calls::{lent_outcome, Input, Named, Outcome};
 use crate::reference;
 use crate::reference::network::Network as PlainNetwork;
 use crate::reference::table::Form;
@@ -140,8 +141,40 @@ extern "C" {
         out: *mut u8,
         room: usize,
     ) -> UnitOutcome;
+    fn riksamoe_unit_make_by(
+        order: u8,
+        own: u8,
+        n: u8,
+        sizes: Sizes,
+        costs: *const u8,
+        costs_length: usize,
+        out: *mut u8,
+        room: usize,
+    ) -> UnitOutcome;
     fn riksamoe_unit_in_range(unit: Unit, own: u8, n: u8, sizes: Sizes, costs: *const u8, costs_length: usize) -> u8;
+    fn riksamoe_unit_in_range_by(
+        order: u8,
+        unit: Unit,
+        own: u8,
+        n: u8,
+        sizes: Sizes,
+        costs: *const u8,
+        costs_length: usize,
+    ) -> u8;
     fn riksamoe_unit_step(
+        unit: Unit,
+        own: u8,
+        n: u8,
+        sizes: Sizes,
+        costs: *const u8,
+        costs_length: usize,
+        packet: *const u8,
+        packet_length: usize,
+        out: *mut u8,
+        room: usize,
+    ) -> UnitOutcome;
+    fn riksamoe_unit_step_by(
+        order: u8,
         unit: Unit,
         own: u8,
         n: u8,
@@ -165,7 +198,27 @@ extern "C" {
         out: *mut u8,
         room: usize,
     ) -> Report;
+    fn riksamoe_unit_step_in_place_by(
+        order: u8,
+        unit: &mut Unit,
+        own: u8,
+        n: u8,
+        sizes: Sizes,
+        costs: *const u8,
+        costs_length: usize,
+        packet: *const u8,
+        packet_length: usize,
+        out: *mut u8,
+        room: usize,
+    ) -> Report;
     fn riksamoe_network_make(stream: *const u8, length: usize, pool: *mut u8, room: usize) -> NetworkOutcome;
+    fn riksamoe_network_make_by(
+        order: u8,
+        stream: *const u8,
+        length: usize,
+        pool: *mut u8,
+        room: usize,
+    ) -> NetworkOutcome;
     fn riksamoe_network_deliver(
         network: Network,
         stream: *const u8,
@@ -174,7 +227,23 @@ extern "C" {
         room: usize,
         cell: u64,
     ) -> NetworkOutcome;
+    fn riksamoe_network_deliver_by(
+        order: u8,
+        network: Network,
+        stream: *const u8,
+        length: usize,
+        pool: *mut u8,
+        room: usize,
+        cell: u64,
+    ) -> NetworkOutcome;
     fn riksamoe_network_settle(stream: *const u8, length: usize, pool: *mut u8, room: usize) -> NetworkOutcome;
+    fn riksamoe_network_settle_by(
+        order: u8,
+        stream: *const u8,
+        length: usize,
+        pool: *mut u8,
+        room: usize,
+    ) -> NetworkOutcome;
     fn riksamoe_search(stream: *const u8, length: usize) -> Found;
 }
 
@@ -230,58 +299,92 @@ pub fn message_write(n: u8, sizes: &Places, kind: u8, message: Message, out: &mu
     unsafe { riksamoe_message_write(n, Sizes { places: *sizes }, kind, message, out.as_mut_ptr(), out.len()) }
 }
 
-pub fn unit_make(own: u8, n: u8, sizes: &Places, costs: &[u8], out: &mut [u8]) -> UnitOutcome {
+/// What a step is lent beside the state, as C passes it.
+#[derive(Clone, Copy)]
+pub struct Lent<'a> {
+    pub order: Named,
+    pub own: u8,
+    pub n: u8,
+    pub sizes: &'a Places,
+    pub costs: &'a [u8],
+}
+
+pub fn unit_make(lent: Lent, out: &mut [u8]) -> UnitOutcome {
+    let Lent { order, own, n, sizes, costs } = lent;
     let sizes = Sizes { places: *sizes };
-    unsafe { riksamoe_unit_make(own, n, sizes, costs.as_ptr(), costs.len(), out.as_mut_ptr(), out.len()) }
+    let (costs, length) = (costs.as_ptr(), costs.len());
+    let (out, room) = (out.as_mut_ptr(), out.len());
+    match order {
+        None => unsafe { riksamoe_unit_make(own, n, sizes, costs, length, out, room) },
+        Some(order) => unsafe { riksamoe_unit_make_by(order, own, n, sizes, costs, length, out, room) },
+    }
 }
 
-pub fn unit_in_range(unit: Unit, own: u8, n: u8, sizes: &Places, costs: &[u8]) -> u8 {
-    unsafe { riksamoe_unit_in_range(unit, own, n, Sizes { places: *sizes }, costs.as_ptr(), costs.len()) }
+pub fn unit_in_range(unit: Unit, lent: Lent) -> u8 {
+    let Lent { order, own, n, sizes, costs } = lent;
+    let sizes = Sizes { places: *sizes };
+    let (costs, length) = (costs.as_ptr(), costs.len());
+    match order {
+        None => unsafe { riksamoe_unit_in_range(unit, own, n, sizes, costs, length) },
+        Some(order) => unsafe { riksamoe_unit_in_range_by(order, unit, own, n, sizes, costs, length) },
+    }
 }
 
-pub fn unit_step(
-    unit: Unit,
-    own: u8,
-    n: u8,
-    sizes: &Places,
-    costs: &[u8],
-    packet: &[u8],
-    out: &mut [u8],
-) -> UnitOutcome {
+pub fn unit_step(unit: Unit, lent: Lent, packet: &[u8], out: &mut [u8]) -> UnitOutcome {
+    let Lent { order, own, n, sizes, costs } = lent;
     let sizes = Sizes { places: *sizes };
     let (costs, costs_length) = (costs.as_ptr(), costs.len());
-    let (packet, packet_length) = (packet.as_ptr(), packet.len());
+    let (packet, length) = (packet.as_ptr(), packet.len());
     let (out, room) = (out.as_mut_ptr(), out.len());
-    unsafe { riksamoe_unit_step(unit, own, n, sizes, costs, costs_length, packet, packet_length, out, room) }
+    match order {
+        None => unsafe { riksamoe_unit_step(unit, own, n, sizes, costs, costs_length, packet, length, out, room) },
+        Some(order) => unsafe {
+            riksamoe_unit_step_by(order, unit, own, n, sizes, costs, costs_length, packet, length, out, room)
+        },
+    }
 }
 
-pub fn unit_step_in_place(
-    unit: &mut Unit,
-    own: u8,
-    n: u8,
-    sizes: &Places,
-    costs: &[u8],
-    packet: &[u8],
-    out: &mut [u8],
-) -> Report {
+pub fn unit_step_in_place(unit: &mut Unit, lent: Lent, packet: &[u8], out: &mut [u8]) -> Report {
+    let Lent { order, own, n, sizes, costs } = lent;
     let sizes = Sizes { places: *sizes };
     let (costs, costs_length) = (costs.as_ptr(), costs.len());
-    let (packet, packet_length) = (packet.as_ptr(), packet.len());
+    let (packet, length) = (packet.as_ptr(), packet.len());
     let (out, room) = (out.as_mut_ptr(), out.len());
-    unsafe { riksamoe_unit_step_in_place(unit, own, n, sizes, costs, costs_length, packet, packet_length, out, room) }
+    match order {
+        None => unsafe {
+            riksamoe_unit_step_in_place(unit, own, n, sizes, costs, costs_length, packet, length, out, room)
+        },
+        Some(order) => unsafe {
+            riksamoe_unit_step_in_place_by(order, unit, own, n, sizes, costs, costs_length, packet, length, out, room)
+        },
+    }
 }
 
-pub fn network_make(stream: &[u8], pool: &mut [u8]) -> NetworkOutcome {
-    unsafe { riksamoe_network_make(stream.as_ptr(), stream.len(), pool.as_mut_ptr(), pool.len()) }
-}
-
-pub fn network_deliver(network: Network, stream: &[u8], pool: &mut [u8], cell: u64) -> NetworkOutcome {
+pub fn network_make(order: Named, stream: &[u8], pool: &mut [u8]) -> NetworkOutcome {
+    let (stream, length) = (stream.as_ptr(), stream.len());
     let (pool, room) = (pool.as_mut_ptr(), pool.len());
-    unsafe { riksamoe_network_deliver(network, stream.as_ptr(), stream.len(), pool, room, cell) }
+    match order {
+        None => unsafe { riksamoe_network_make(stream, length, pool, room) },
+        Some(order) => unsafe { riksamoe_network_make_by(order, stream, length, pool, room) },
+    }
 }
 
-pub fn network_settle(stream: &[u8], pool: &mut [u8]) -> NetworkOutcome {
-    unsafe { riksamoe_network_settle(stream.as_ptr(), stream.len(), pool.as_mut_ptr(), pool.len()) }
+pub fn network_deliver(order: Named, network: Network, stream: &[u8], pool: &mut [u8], cell: u64) -> NetworkOutcome {
+    let (stream, length) = (stream.as_ptr(), stream.len());
+    let (pool, room) = (pool.as_mut_ptr(), pool.len());
+    match order {
+        None => unsafe { riksamoe_network_deliver(network, stream, length, pool, room, cell) },
+        Some(order) => unsafe { riksamoe_network_deliver_by(order, network, stream, length, pool, room, cell) },
+    }
+}
+
+pub fn network_settle(order: Named, stream: &[u8], pool: &mut [u8]) -> NetworkOutcome {
+    let (stream, length) = (stream.as_ptr(), stream.len());
+    let (pool, room) = (pool.as_mut_ptr(), pool.len());
+    match order {
+        None => unsafe { riksamoe_network_settle(stream, length, pool, room) },
+        Some(order) => unsafe { riksamoe_network_settle_by(order, stream, length, pool, room) },
+    }
 }
 
 pub fn search(stream: &[u8]) -> Found {
@@ -421,21 +524,23 @@ pub fn linked(input: Input) -> Outcome {
             let refusal = message_write(n, &sizes, kind, (&message).into(), &mut out);
             Outcome { refusal, lent: out, ..Outcome::default() }
         }
-        Input::Make { own, n, sizes, costs, mut out } => {
-            unit_outcome(&unit_make(own, n, &sizes, &costs, &mut out), out)
+        Input::Make { order, own, n, sizes, costs, mut out } => {
+            unit_outcome(&unit_make(Lent { order, own, n, sizes: &sizes, costs: &costs }, &mut out), out)
         }
-        Input::InRange { unit, own, n, sizes, costs } => {
-            let refusal = unit_in_range((&unit).into(), own, n, &sizes, &costs);
+        Input::InRange { order, unit, own, n, sizes, costs } => {
+            let refusal = unit_in_range((&unit).into(), Lent { order, own, n, sizes: &sizes, costs: &costs });
             Outcome { refusal, ..Outcome::default() }
         }
-        Input::Step { unit, own, n, sizes, costs, packet, out } => {
-            step_both_ways((&unit).into(), own, n, &sizes, &costs, &packet, out)
+        Input::Step { order, unit, own, n, sizes, costs, packet, out } => {
+            step_both_ways((&unit).into(), Lent { order, own, n, sizes: &sizes, costs: &costs }, &packet, out)
         }
-        Input::MakeNetwork { stream, mut pool } => network_outcome(&network_make(&stream, &mut pool), pool),
-        Input::Deliver { network, stream, mut pool, cell } => {
-            network_outcome(&network_deliver((&*network).into(), &stream, &mut pool, cell), pool)
+        Input::MakeNetwork { order, stream, mut pool } => {
+            network_outcome(&network_make(order, &stream, &mut pool), pool)
         }
-        Input::Settle { stream, mut pool } => network_outcome(&network_settle(&stream, &mut pool), pool),
+        Input::Deliver { order, network, stream, mut pool, cell } => {
+            network_outcome(&network_deliver(order, (&*network).into(), &stream, &mut pool, cell), pool)
+        }
+        Input::Settle { order, stream, mut pool } => network_outcome(&network_settle(order, &stream, &mut pool), pool),
         Input::Search { stream } => {
             let answer = search(&stream);
             let numbers = vec![answer.total.into()];
@@ -445,20 +550,12 @@ pub fn linked(input: Input) -> Outcome {
 }
 
 /// The step by value, and in place: the two must agree.
-fn step_both_ways(
-    unit: Unit,
-    own: u8,
-    n: u8,
-    sizes: &Places,
-    costs: &[u8],
-    packet: &[u8],
-    mut out: Vec<u8>,
-) -> Outcome {
+fn step_both_ways(unit: Unit, lent: Lent, packet: &[u8], mut out: Vec<u8>) -> Outcome {
     let mut in_place = unit;
     let mut again = out.clone();
-    let sent = unit_step_in_place(&mut in_place, own, n, sizes, costs, packet, &mut again);
+    let sent = unit_step_in_place(&mut in_place, lent, packet, &mut again);
     let placed = UnitOutcome { refusal: sent.refusal, unit: in_place, sent: sent.sent, records: sent.records };
-    let answer = unit_step(unit, own, n, sizes, costs, packet, &mut out);
+    let answer = unit_step(unit, lent, packet, &mut out);
     let by_value = unit_outcome(&answer, out);
     assert_eq!(by_value, unit_outcome(&placed, again), "the step in place is the step by value");
     by_value

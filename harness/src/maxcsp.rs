@@ -4,6 +4,7 @@
 use crate::random::Random;
 use crate::reference::costs::{self, Cost, View};
 use crate::reference::message::Message;
+use crate::reference::order::ValueOrder;
 use crate::reference::unit::{self, Decision, Unit};
 use crate::reference::{table, NONE};
 use std::collections::VecDeque;
@@ -20,6 +21,10 @@ pub struct Effort {
     pub least: u32,
     /// All messages sent, those that still wait at the end included.
     pub messages: u64,
+    /// Messages that reached their unit; the shed's count.
+    pub deliveries: u64,
+    /// Values written; the shed's count.
+    pub records: u64,
     /// The paper's measure of time: the largest clock of any unit at the end.
     pub checks: u64,
     /// The most messages that waited at once; the shed's pool has 1,024 cells.
@@ -57,14 +62,17 @@ struct Clocked<'a> {
     clocks: Vec<u64>,
     waiting: VecDeque<Waiting>,
     sent: u64,
+    deliveries: u64,
+    records: u64,
     most_waiting: usize,
 }
 
 /// Messages and checks of the shed's rules. The unit's own step decides; only the pool is kept as a queue here.
-pub fn forward_bounding(problem: &Problem) -> Effort {
+pub fn forward_bounding(order: ValueOrder, problem: &Problem) -> Effort {
     let (n, sizes) = table::head(&problem.stream);
     let costs: Vec<Vec<u8>> = (1..=n as usize).map(|own| costs::of_unit(&problem.stream, own)).collect();
-    let views: Vec<View> = (1..=n as usize).map(|own| View::new(own, n as usize, &sizes, &costs[own - 1])).collect();
+    let view = |own: usize| View::new_by(order, own, n as usize, &sizes, &costs[own - 1]);
+    let views: Vec<View> = (1..=n as usize).map(view).collect();
     let mut shed = Clocked {
         views,
         problem,
@@ -72,6 +80,8 @@ pub fn forward_bounding(problem: &Problem) -> Effort {
         clocks: Vec::new(),
         waiting: VecDeque::new(),
         sent: 0,
+        deliveries: 0,
+        records: 0,
         most_waiting: 0,
     };
     for own in 1..=n as usize {
@@ -81,7 +91,14 @@ pub fn forward_bounding(problem: &Problem) -> Effort {
         shed.deliver_oldest();
     }
     let checks = shed.clocks.iter().copied().max().unwrap_or(0);
-    Effort { least: shed.units[0].bound, messages: shed.sent, checks, waiting: shed.most_waiting }
+    Effort {
+        least: shed.units[0].bound,
+        messages: shed.sent,
+        deliveries: shed.deliveries,
+        records: shed.records,
+        checks,
+        waiting: shed.most_waiting,
+    }
 }
 
 impl Clocked<'_> {
@@ -102,6 +119,7 @@ impl Clocked<'_> {
         let own = message.receiver as usize;
         self.clocks[own - 1] = self.clocks[own - 1].max(clock);
         let decision = unit::decide(&self.views[own - 1], &self.units[own - 1], kind, &message);
+        self.deliveries += 1;
         self.take(own, decision.expect("no unit refuses another's message"));
     }
 
@@ -115,6 +133,7 @@ impl Clocked<'_> {
             }
         }
         self.units[own - 1] = decision.unit;
+        self.records += decision.records;
         self.sent += decision.sent.len() as u64;
         let clock = self.clocks[own - 1];
         self.waiting.extend(decision.sent.into_iter().map(|(kind, message)| (kind, message, clock)));
@@ -132,11 +151,20 @@ pub fn branch_and_bound(problem: &Problem, most_checks: u64) -> (Effort, bool) {
     let views: Vec<View> = (1..=n).map(|own| View::new(own, n, &sizes, &costs[own - 1])).collect();
     let earlier: Vec<Vec<usize>> =
         (1..=n).map(|i| (1..i).filter(|j| problem.constrained[i - 1][j - 1]).collect()).collect();
-    let mut search =
-        Synchronous { views, earlier, values: vec![0; n], least: NONE, messages: 0, checks: 0, most_checks };
+    let mut search = Synchronous {
+        views,
+        earlier,
+        values: vec![0; n],
+        least: NONE,
+        messages: 0,
+        records: 0,
+        checks: 0,
+        most_checks,
+    };
     search.extend_at(1, 0);
-    let effort = Effort { least: search.least, messages: search.messages, checks: search.checks, waiting: 1 };
-    (effort, search.checks <= most_checks)
+    let Synchronous { least, messages, records, checks, .. } = search;
+    let effort = Effort { least, messages, deliveries: messages, records, checks, waiting: 1 };
+    (effort, checks <= most_checks)
 }
 
 struct Synchronous<'a> {
@@ -146,6 +174,7 @@ struct Synchronous<'a> {
     values: Vec<usize>,
     least: u32,
     messages: u64,
+    records: u64,
     checks: u64,
     most_checks: u64,
 }
@@ -160,6 +189,7 @@ impl Synchronous<'_> {
                 continue;
             }
             self.values[own - 1] = value;
+            self.records += 1;
             if own == n {
                 self.least = total;
             } else {

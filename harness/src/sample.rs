@@ -1,6 +1,8 @@
-//! Tables for tests and programs, and what the two programs print of them.
+//! Tables for tests and programs, those of vectors/ among them, and what the two programs print of them.
 
+use crate::reference::order::ValueOrder;
 use crate::reference::{network, search, table, NONE};
+use std::path::{Path, PathBuf};
 
 /// A stream in form one out of its sizes and its pair costs in the stream's order.
 pub fn stream(sizes: &[u8], costs: &[u16]) -> Vec<u8> {
@@ -24,6 +26,15 @@ pub fn t() -> Vec<u8> {
     stream(&[2, 2], &[5, 3, 2, 4])
 }
 
+/// The files of the sample tables, by name.
+pub fn tables() -> Vec<PathBuf> {
+    let folder = Path::new(env!("CARGO_MANIFEST_DIR")).join("vectors");
+    let mut files: Vec<_> = std::fs::read_dir(folder).expect("vectors").map(|entry| entry.unwrap().path()).collect();
+    files.retain(|path| path.extension().is_some_and(|end| end == "table"));
+    files.sort();
+    files
+}
+
 /// The stream of a table's file, or the refusal.
 pub fn read(file: &[u8]) -> Result<Vec<u8>, u8> {
     let mut buffer = vec![0; table::MAX_STREAM];
@@ -42,11 +53,17 @@ fn report(total: u32, values: &[u8]) -> String {
     text
 }
 
-/// What the shed program prints on a table's file.
+/// What the shed program prints on a table's file. 02's job 9: "The shed listing in document 01 .. name the plain ascending order".
 pub fn shed(file: &[u8]) -> String {
+    shed_by(ValueOrder::Ascending, file)
+}
+
+pub fn shed_by(order: ValueOrder, file: &[u8]) -> String {
     let mut pool = vec![0; network::POOL];
-    let settled =
-        read(file).and_then(|stream| Ok((table::head(&stream).0 as usize, network::settle(&stream, &mut pool)?)));
+    let settled = read(file).and_then(|stream| {
+        let network = network::settle_by(order, &stream, &mut pool)?;
+        Ok((table::head(&stream).0 as usize, network))
+    });
     match settled {
         Ok((n, network)) => {
             let unit = &network.units[0];

@@ -1,17 +1,19 @@
 //! Settle, deliver and step for the clock: the yardstick of scripts/speed, held equal to the reference by tests/tuned.rs.
 //!
-//! What it does that the reference doesn't: a run checks its table once, knows each unit's h, and trusts the packets that it wrote itself;
+//! What it does that the reference doesn't: a run checks its table once, knows each unit's h and the order of its values, and trusts the packets that it wrote itself;
 //! nothing allocates once the run has begun; costs are read where they stand, a row of own values at a time; packets are read and written in
 //! place, those of one step from one template with one remainder each; a unit changes where it is.
 //! A delivery or a step alone is lent everything, so it checks everything, as the calls for C do.
 
-use crate::calls::{self, Input, Outcome};
+use crate::calls::{self, order_of, Input, Outcome};
 use crate::reference::message::{CPA, ESTIMATE, REQUEST, SIZE, SOLUTION, STOP};
 use crate::reference::network::{Network, CELLS, POOL};
+use crate::reference::order::ValueOrder;
 use crate::reference::table::FORM_TWO;
 use crate::reference::unit::{self, Unit, OUT};
 use crate::reference::{check_sizes, cost_limit, Places, Refusal};
 use crate::reference::{FORBIDDEN_PAIR, MAX_COST, MAX_ESTIMATE, MAX_TOTAL, NONE};
+use std::cell::OnceCell;
 use std::cmp::Ordering;
 
 // Costs
@@ -61,8 +63,17 @@ impl Costs for &[u16] {
     }
 }
 
-/// Where a unit sits: its place (from 0), and where its unary costs and its costs with each other unit begin.
+/// h of each own value, and the values from the lowest h on, the lower number first on a tie.
+struct Known {
+    h: [u32; 16],
+    cheapest: [u8; 16],
+}
+
+const ASCENDING: [u8; 16] = [1, 2, 3, 4, 5, 6, 7, 8, 9, 10, 11, 12, 13, 14, 15, 16];
+
+/// Where a unit sits: its place (from 0), and where its unary costs and its costs with each other unit begin; and how it tries its values.
 struct Seat<C> {
+    order: ValueOrder,
     own: usize,
     n: usize,
     sizes: Places,
@@ -70,8 +81,8 @@ struct Seat<C> {
     /// None where all are zero, as in form one.
     unary: Option<u32>,
     starts: [u32; 16],
-    /// h of each own value, where it is known beforehand.
-    h: Option<[u32; 16]>,
+    /// A run knows it beforehand; a call alone works it out if it tries the cheapest value first, when it first needs it.
+    known: OnceCell<Known>,
 }
 
 impl<C: Costs> Seat<C> {
@@ -106,10 +117,44 @@ impl<C: Costs> Seat<C> {
     }
 
     fn h(&self, v: usize) -> u32 {
-        match &self.h {
-            Some(h) => h[v - 1],
+        match self.known.get() {
+            Some(known) => known.h[v - 1],
             None => self.h_now(v),
         }
+    }
+
+    /// The values in the order in which they are tried.
+    fn tried(&self) -> &[u8] {
+        let all = match self.order {
+            ValueOrder::Ascending => &ASCENDING,
+            ValueOrder::CheapestFirst => &self.known().cheapest,
+        };
+        &all[..self.size(self.own)]
+    }
+
+    /// A value's place in that order, from 1; 0 for none.
+    fn place(&self, v: u8) -> usize {
+        match self.order {
+            ValueOrder::CheapestFirst if v > 0 => 1 + self.tried().iter().take_while(|tried| **tried != v).count(),
+            _ => v as usize,
+        }
+    }
+
+    fn known(&self) -> &Known {
+        self.known.get_or_init(|| {
+            let size = self.size(self.own);
+            let (mut h, mut keys, mut cheapest) = ([0; 16], [0; 16], [0; 16]);
+            for v in 0..size {
+                h[v] = self.h_now(v + 1);
+                // without an h all are alike
+                keys[v] = h[v].min(FORBIDDEN) << 4 | v as u32;
+            }
+            keys[..size].sort_unstable();
+            for (value, key) in cheapest.iter_mut().zip(&keys[..size]) {
+                *value = (key & 15) as u8 + 1;
+            }
+            Known { h, cheapest }
+        })
     }
 
     /// The forbidden cost is the top of 16 bits: it is the least of a row only where all are forbidden.
@@ -142,9 +187,9 @@ struct Layout<'a> {
 }
 
 impl Layout<'_> {
-    fn seat<C>(&self, own: usize, costs: C) -> Seat<C> {
-        let unary = self.unary.map(|starts| starts[own]);
-        Seat { own, n: self.n, sizes: self.sizes, costs, unary, starts: self.starts[own], h: None }
+    fn seat<C>(&self, order: ValueOrder, own: usize, costs: C) -> Seat<C> {
+        let (unary, known) = (self.unary.map(|starts| starts[own]), OnceCell::new());
+        Seat { order, own, n: self.n, sizes: self.sizes, costs, unary, starts: self.starts[own], known }
     }
 }
 
@@ -174,8 +219,9 @@ fn unary_starts(n: usize, sizes: &Places) -> ([u32; 16], u32) {
 }
 
 /// A unit's seat over the costs that it alone is lent, and how many they are.
-fn lent_seat<'a>(own: usize, n: usize, sizes: &Places, costs: &'a [u8]) -> (Seat<&'a [u8]>, usize) {
-    let mut seat = Seat { own, n, sizes: *sizes, costs, unary: Some(0), starts: [0; 16], h: None };
+fn lent_seat<'a>(order: ValueOrder, own: usize, n: usize, sizes: &Places, costs: &'a [u8]) -> (Seat<&'a [u8]>, usize) {
+    let known = OnceCell::new();
+    let mut seat = Seat { order, own, n, sizes: *sizes, costs, unary: Some(0), starts: [0; 16], known };
     let mut at = u32::from(sizes[own]);
     for j in (0..n).filter(|j| *j != own) {
         seat.starts[j] = at;
@@ -265,7 +311,8 @@ fn in_range<C: Costs>(seat: &Seat<C>, unit: &Unit) -> bool {
         && filled(&unit.values, own + 1, &seat.sizes)
         && unit.cost <= cost_limit(own + 1)
         && unit.counter == unit.stamp[own]
-        && unit.counter <= value
+        // no place is below 1
+        && (unit.counter <= 1 || unit.counter as usize <= seat.place(value))
         && unit.threshold[..=own] >= unit.stamp[..=own];
     // a forbidden own value costs more than any CPA
     let before = if out { unit.cost.checked_sub(seat.paid(&unit.values, value)) } else { None };
@@ -441,15 +488,13 @@ fn assign<C: Costs>(seat: &Seat<C>, unit: &mut Unit, bare: u32) -> Done {
     if unit.values[own] == 0 {
         unit.counter = 0;
     }
-    let size = seat.size(own);
-    let mut v = unit.values[own] as usize;
+    let after = &seat.tried()[seat.place(unit.values[own])..];
     let (mut improved, mut records) = (false, 0);
-    if v == size {
+    if after.is_empty() {
         return back_up(seat, unit, bare, false, 0);
     }
     let sums = seat.sums(&unit.values, own);
-    while v < size {
-        v += 1;
+    for v in after.iter().map(|v| *v as usize) {
         let cost = bare + sums[v - 1];
         let limit = unit.bound.min(FORBIDDEN);
         if cost >= limit || cost + seat.h(v) >= limit {
@@ -580,8 +625,9 @@ fn send<C>(seat: &Seat<C>, unit: &Unit, done: &Done, out: &mut [u8]) {
 // The calls
 
 /// The step on a lent state: how many packets it sends and values it writes down. Refusals as the reference's.
-#[allow(clippy::too_many_arguments)]
-pub fn step(
+#[allow(clippy::too_many_arguments)] // as C lends them
+pub fn step_by(
+    order: ValueOrder,
     unit: &mut Unit,
     own: u8,
     n: u8,
@@ -597,7 +643,7 @@ pub fn step(
     if own.wrapping_sub(1) >= n {
         return Err(10);
     }
-    let (seat, count) = lent_seat(own as usize - 1, n as usize, sizes, costs);
+    let (seat, count) = lent_seat(order, own as usize - 1, n as usize, sizes, costs);
     if costs.len() != 2 * count {
         return Err(6);
     }
@@ -628,13 +674,19 @@ fn carry<C: Costs>(seat: &Seat<C>, done: &Done, network: &mut Network, pool: &mu
 }
 
 /// One delivery, all that is lent checked. Refusals as the reference's.
-pub fn deliver(network: &mut Network, stream: &[u8], pool: &mut [u8], cell: u64) -> Result<(), Refusal> {
+pub fn deliver_by(
+    order: ValueOrder,
+    network: &mut Network,
+    stream: &[u8],
+    pool: &mut [u8],
+    cell: u64,
+) -> Result<(), Refusal> {
     if pool.len() < POOL {
         return Err(13);
     }
     let layout = open(stream)?;
     let (n, sizes) = (layout.n, layout.sizes);
-    let seat = |own: usize| layout.seat(own, layout.costs);
+    let seat = |own: usize| layout.seat(order, own, layout.costs);
     if (0..n).any(|own| !in_range(&seat(own), &network.units[own])) || network.count > CELLS as u64 {
         return Err(5);
     }
@@ -663,15 +715,15 @@ pub fn deliver(network: &mut Network, stream: &[u8], pool: &mut [u8], cell: u64)
 }
 
 /// Making, then cell 0 until unit 1 has stopped, at most `most` times. Refusals 5, 6, 7, 13.
-pub fn settle(stream: &[u8], pool: &mut [u8], most: u128) -> Result<Network, Refusal> {
+pub fn settle_by(order: ValueOrder, stream: &[u8], pool: &mut [u8], most: u128) -> Result<Network, Refusal> {
     let layout = open(stream)?;
     if pool.len() < POOL {
         return Err(13);
     }
     let costs: Vec<u16> = layout.costs.chunks_exact(2).map(|c| u16::from_le_bytes([c[0], c[1]])).collect();
     let seats: [Seat<&[u16]>; 16] = std::array::from_fn(|own| {
-        let mut seat = layout.seat(own, costs.as_slice());
-        seat.h = Some(std::array::from_fn(|v| if v < seat.size(own) { seat.h_now(v + 1) } else { 0 }));
+        let seat = layout.seat(order, own, costs.as_slice());
+        seat.known();
         seat
     });
     let mut network = Network { units: [unit::fresh(); 16], ..Network::default() };
@@ -694,20 +746,19 @@ pub fn settle(stream: &[u8], pool: &mut [u8], most: u128) -> Result<Network, Ref
 /// The outcome of settle, deliver and step here, of the other calls the reference's.
 pub fn tuned(input: Input) -> Outcome {
     match input {
-        Input::Step { mut unit, own, n, sizes, costs, packet, mut out } => {
-            let answer = step(&mut unit, own, n, &sizes, &costs, &packet, &mut out);
+        Input::Step { order, mut unit, own, n, sizes, costs, packet, mut out } => {
+            let answer = step_by(order_of(order), &mut unit, own, n, &sizes, &costs, &packet, &mut out);
             let refusal = answer.err().unwrap_or(0);
             let (sent, records) = answer.unwrap_or((0, 0));
             calls::unit_outcome(&unit::Answer { refusal, unit, sent, records }, out)
         }
-        Input::Deliver { mut network, stream, mut pool, cell } => {
-            let refusal = deliver(&mut network, &stream, &mut pool, cell).err().unwrap_or(0);
-            calls::network_outcome(refusal, &network, pool)
+        Input::Deliver { order, mut network, stream, mut pool, cell } => {
+            let delivered = deliver_by(order_of(order), &mut network, &stream, &mut pool, cell);
+            calls::network_outcome(delivered.err().unwrap_or(0), &network, pool)
         }
-        Input::Settle { stream, mut pool } => match settle(&stream, &mut pool, u128::MAX) {
-            Ok(network) => calls::network_outcome(0, &network, pool),
-            Err(refusal) => calls::network_outcome(refusal, &Network::default(), pool),
-        },
+        Input::Settle { order, stream, mut pool } => {
+            calls::made_outcome(settle_by(order_of(order), &stream, &mut pool, u128::MAX), pool)
+        }
         other => calls::reference(other),
     }
 }

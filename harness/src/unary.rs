@@ -2,7 +2,7 @@
 //! to, and whether one did. In order: tables, the converter, limits, units, reports.
 
 use crate::calls::{self, Call, Input, Outcome};
-use crate::cases::{costs_in, stream_in, units_in, Stepped};
+use crate::cases::{checked, costs_in, stream_in, units_in, Stepped};
 use crate::reference::convert::{self, in_form};
 use crate::reference::costs::{self, Cost, View};
 use crate::reference::message::{self, Message};
@@ -103,12 +103,12 @@ pub fn cases(call: Call) -> Vec<Case> {
         Call::Readings => vec![RoomForFormOne],
         Call::Lent => [&table[..], &[FormOne, Largest]].concat(),
         Call::Parse | Call::Encode => [&limits[..], &[PrefixAbove]].concat(),
-        Call::Make => [&costs[..], &[UnaryMissing, Largest, FirstPays, LeastOfOne]].concat(),
-        Call::InRange => [&costs[..], &state, &[UnaryMissing]].concat(),
-        Call::Step => [&costs[..], &state, &[UnaryMissing, Decides, DearReply]].concat(),
-        Call::MakeNetwork => [&table[..], &[Largest, FirstPays, LeastOfOne]].concat(),
-        Call::Deliver => [&table[..], &state, &[Decides, DearReply]].concat(),
-        Call::Settle | Call::Search => [&table[..], &[Decides, LeastOfOne, LargestTotal]].concat(),
+        Call::Make(_) => [&costs[..], &[UnaryMissing, Largest, FirstPays, LeastOfOne]].concat(),
+        Call::InRange(_) => [&costs[..], &state, &[UnaryMissing]].concat(),
+        Call::Step(_) => [&costs[..], &state, &[UnaryMissing, Decides, DearReply]].concat(),
+        Call::MakeNetwork(_) => [&table[..], &[Largest, FirstPays, LeastOfOne]].concat(),
+        Call::Deliver(_) => [&table[..], &state, &[Decides, DearReply]].concat(),
+        Call::Settle(_) | Call::Search => [&table[..], &[Decides, LeastOfOne, LargestTotal]].concat(),
     }
 }
 
@@ -282,17 +282,6 @@ fn refused_for_one(
     })
 }
 
-/// Whether the sizes and costs that states are lent with are right.
-fn checked(input: &Input) -> bool {
-    match input {
-        Input::InRange { own, n, sizes, costs, .. } | Input::Step { own, n, sizes, costs, .. } => {
-            unit::check_lent(&unit::fresh(), *own, *n, sizes, costs).is_ok()
-        }
-        Input::Deliver { stream, .. } => table::check_stream(stream).is_ok(),
-        _ => false,
-    }
-}
-
 fn lower_bound(_: u8, message: &mut Message) -> bool {
     let above = message.bound == MAX_TOTAL + 1;
     message.bound = message.bound.wrapping_sub(1);
@@ -403,7 +392,8 @@ impl Stepped {
         }
         let mut costs = seat.costs.clone();
         costs[..2 * seat.view().size(seat.own)].fill(0);
-        unit::decide(&View::new(seat.own, seat.n, &seat.sizes, &costs), &before, self.kind, &message).ok()
+        let view = View::new_by(seat.order, seat.own, seat.n, &seat.sizes, &costs);
+        unit::decide(&view, &before, self.kind, &message).ok()
     }
 
     fn unary_decides(&self) -> bool {

@@ -1,7 +1,9 @@
-//! Document 01's cases 1 to 10 and the listing of T, on the reference implementation.
+//! Document 01's cases 1 to 10 and the listing of T, on the reference implementation. 02's job 9: the listing and cases 6 and 9 "name the
+//! plain ascending order and get it"; the others hold in either order.
 
 use harness::reference::costs::{self, Cost, View};
 use harness::reference::message::{self, Message};
+use harness::reference::order::ValueOrder::{self, Ascending};
 use harness::reference::{checksum, network, search, table, unit};
 use harness::sample;
 
@@ -43,12 +45,13 @@ fn case_3_least_total_of_t() {
 #[test]
 fn case_4_one_unit() {
     let stream = sample::stream(&[3], &[]);
-    let mut pool = pool();
-    let shed = network::make(&stream, &mut pool).unwrap();
-    let first = &shed.units[0];
-    assert!(first.has_stopped());
-    assert_eq!((first.bound, first.best[0]), (0, 1));
-    assert_eq!((shed.records, shed.deliveries, shed.count), (1, 0, 0));
+    for order in ValueOrder::BOTH {
+        let shed = network::make_by(order, &stream, &mut pool()).unwrap();
+        let first = &shed.units[0];
+        assert!(first.has_stopped());
+        assert_eq!((first.bound, first.best[0]), (0, 1));
+        assert_eq!((shed.records, shed.deliveries, shed.count), (1, 0, 0));
+    }
 }
 
 #[test]
@@ -71,16 +74,16 @@ fn cell_of(shed: &network::Network, pool: &[u8], kind: u8, receiver: u8) -> u64 
 fn case_6_estimate_before_the_paper_comes_back() {
     let stream = sample::t();
     let mut pool = pool();
-    let mut shed = network::make(&stream, &mut pool).unwrap();
-    let order = [(message::CPA, 2), (message::SOLUTION, 1), (message::REQUEST, 2), (message::ESTIMATE, 1)];
-    for (kind, receiver) in order {
+    let mut shed = network::make_by(Ascending, &stream, &mut pool).unwrap();
+    let delivered = [(message::CPA, 2), (message::SOLUTION, 1), (message::REQUEST, 2), (message::ESTIMATE, 1)];
+    for (kind, receiver) in delivered {
         let cell = cell_of(&shed, &pool, kind, receiver);
-        network::deliver(&mut shed, &stream, &mut pool, cell).unwrap();
+        network::deliver_by(Ascending, &mut shed, &stream, &mut pool, cell).unwrap();
     }
     assert_eq!((shed.units[0].values[0], shed.units[0].stamp[0]), (2, 2));
     let before = shed.clone();
     let cell = cell_of(&shed, &pool, message::CPA, 1);
-    network::deliver(&mut shed, &stream, &mut pool, cell).unwrap();
+    network::deliver_by(Ascending, &mut shed, &stream, &mut pool, cell).unwrap();
     assert_eq!(shed.units, before.units);
     assert_eq!((shed.count, shed.records), (before.count - 1, before.records));
     assert_eq!(shed.deliveries, 5);
@@ -104,10 +107,10 @@ fn case_8_number_of_units() {
 fn case_9_newest_first() {
     let stream = sample::t();
     let mut pool = pool();
-    let mut shed = network::make(&stream, &mut pool).unwrap();
+    let mut shed = network::make_by(Ascending, &stream, &mut pool).unwrap();
     while !shed.units[0].has_stopped() {
         let newest = shed.count - 1;
-        network::deliver(&mut shed, &stream, &mut pool, newest).unwrap();
+        network::deliver_by(Ascending, &mut shed, &stream, &mut pool, newest).unwrap();
     }
     assert_eq!((shed.records, shed.deliveries), (5, 10));
     assert_eq!((shed.units[0].bound, &shed.units[0].best[..2]), (2, &[2, 1][..]));

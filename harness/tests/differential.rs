@@ -1,9 +1,13 @@
 //! The comparison finds a fault where there is one, and none where there is none.
 
-use harness::calls::{self, Call, Input, Outcome, CALLS};
+use harness::calls::{self, order_of, Call, Input, Outcome, CALLS};
 use harness::cases;
-use harness::differential::{compare, describe};
+use harness::differential::{compare, describe, Difference};
+use harness::order::Change;
+use harness::reference::costs::View;
+use harness::reference::order::ValueOrder::{Ascending, CheapestFirst};
 use harness::reference::table::{self, Form};
+use harness::reference::unit::{self, Unit};
 use harness::reference::{convert, message, NONE};
 
 #[test]
@@ -33,7 +37,7 @@ fn backs_up_without_raising(input: Input) -> Outcome {
 
 #[test]
 fn a_threshold_left_as_it_was_is_found() {
-    let found = compare(Call::Step, 20_000, 1, backs_up_without_raising).difference.expect("a difference");
+    let found = compare(Call::Step(Ascending), 20_000, 1, backs_up_without_raising).difference.expect("a difference");
     assert!(describe(&found).contains("unit 1"));
 }
 
@@ -112,11 +116,11 @@ fn a_forbidden_pair_taken_as_a_dear_one_is_found() {
     let found = compare(Call::Search, 4_000, 1, in_search).difference.expect("a difference");
     assert!(describe(&found).contains("numbers"));
     let in_make = |input: Input| {
-        let Input::Make { own, n, sizes, mut costs, out } = input else { unreachable!("a making") };
+        let Input::Make { order, own, n, sizes, mut costs, out } = input else { unreachable!("a making") };
         dear(&mut costs);
-        calls::reference(Input::Make { own, n, sizes, costs, out })
+        calls::reference(Input::Make { order, own, n, sizes, costs, out })
     };
-    let found = compare(Call::Make, 20_000, 1, in_make).difference.expect("a difference");
+    let found = compare(Call::Make(Ascending), 20_000, 1, in_make).difference.expect("a difference");
     assert!(describe(&found).contains("unit 1"));
 }
 
@@ -127,13 +131,13 @@ fn an_estimate_of_none_that_is_kept_is_found() {
         let Input::Step { unit, packet, out, .. } = &input else { unreachable!("a step") };
         let (unit, packet, out) = (*unit, packet.clone(), out.clone());
         let mut outcome = calls::reference(input);
-        let none = packet.first() == Some(&message::ESTIMATE) && packet[36..40] == NONE.to_le_bytes();
+        let none = packet.first() == Some(&message::ESTIMATE) && packet.get(36..40) == Some(&NONE.to_le_bytes());
         if outcome.refusal == 0 && none && outcome.units[0] != unit {
             outcome = Outcome { numbers: vec![0, 0], units: vec![unit], lent: out, ..Outcome::default() };
         }
         outcome
     };
-    let found = compare(Call::Step, 20_000, 1, keeps).difference.expect("a difference");
+    let found = compare(Call::Step(Ascending), 20_000, 1, keeps).difference.expect("a difference");
     assert!(describe(&found).contains("unit 1"));
 }
 
@@ -141,14 +145,14 @@ fn an_estimate_of_none_that_is_kept_is_found() {
 #[test]
 fn unary_costs_left_out_are_found() {
     let in_step = |input: Input| {
-        let Input::Step { unit, own, n, sizes, mut costs, packet, out } = input else { unreachable!("a step") };
+        let Input::Step { order, unit, own, n, sizes, mut costs, packet, out } = input else { unreachable!("a step") };
         let size = sizes.get((own as usize).wrapping_sub(1)).map_or(0, |d| 2 * *d as usize).min(costs.len());
         if costs[..size].chunks_exact(2).all(|cost| u16::from_le_bytes([cost[0], cost[1]]) <= 60_000) {
             costs[..size].fill(0);
         }
-        calls::reference(Input::Step { unit, own, n, sizes, costs, packet, out })
+        calls::reference(Input::Step { order, unit, own, n, sizes, costs, packet, out })
     };
-    assert!(compare(Call::Step, 20_000, 1, in_step).difference.is_some());
+    assert!(compare(Call::Step(Ascending), 20_000, 1, in_step).difference.is_some());
     let in_search = |input: Input| {
         let Input::Search { stream } = input else { unreachable!("a search") };
         let form_one = table::check_stream(&stream).map(|()| convert::in_form(&stream, Form::One));
@@ -211,5 +215,90 @@ fn a_converter_that_writes_past_its_file_is_found() {
     };
     for call in [Call::ToFormOne, Call::ToFormTwo] {
         assert!(compare(call, 20_000, 1, clears_the_rest).difference.is_some());
+    }
+}
+
+/// The reference's step with the order of its values changed: where its range is checked, and where values are tried after the current one.
+fn step_over(input: Input, ranged: impl Fn(&mut View), tried: impl Fn(&mut View, usize)) -> Outcome {
+    let Input::Step { order, unit, own, n, sizes, costs, packet, mut out } = input else { unreachable!("a step") };
+    let decided = unit::check_out(&out).and_then(|()| {
+        let view = || unit::check_seat(order_of(order), own, n, &sizes, &costs);
+        let (mut in_range, mut in_step) = (view()?, view()?);
+        ranged(&mut in_range);
+        unit::check_state(&in_range, &unit)?;
+        tried(&mut in_step, unit.values[own as usize - 1].into());
+        unit::step_packet(&in_step, &unit, &packet)
+    });
+    calls::unit_outcome(&unit::answer(decided, &unit, &mut out), out)
+}
+
+/// A fault in what is tried alone, in the range alone.
+fn faults_in_order(change: impl Fn(&mut View) + Copy) -> [Option<Difference>; 2] {
+    let tried = |input: Input| step_over(input, |_| {}, |view, _| change(view));
+    let ranged = |input: Input| step_over(input, change, |_, _| {});
+    [compare(Call::Step(CheapestFirst), 20_000, 1, tried), compare(Call::Step(CheapestFirst), 20_000, 1, ranged)]
+        .map(|report| report.difference)
+}
+
+#[test]
+fn a_tie_that_goes_to_the_higher_number_is_found() {
+    let [tried, ranged] = faults_in_order(|view| Change::HigherOnTie.apply(view)).map(Option::unwrap);
+    assert!(describe(&tried).contains("unit 1"));
+    assert!(describe(&ranged).contains("refusal"));
+    let in_make = |input: Input| {
+        let Input::Make { order, own, n, sizes, costs, mut out } = input else { unreachable!("a making") };
+        let made = unit::check_seat(order_of(order), own, n, &sizes, &costs).and_then(|mut view| {
+            unit::check_out(&out)?;
+            Change::HigherOnTie.apply(&mut view);
+            Ok(unit::start(&view))
+        });
+        calls::unit_outcome(&unit::answer(made, &Unit::default(), &mut out), out)
+    };
+    assert!(compare(Call::Make(CheapestFirst), 20_000, 1, in_make).difference.is_some());
+}
+
+#[test]
+fn values_without_an_h_first_are_found() {
+    let [tried, ranged] = faults_in_order(|view| Change::NoHFirst.apply(view)).map(Option::unwrap);
+    assert!(describe(&tried).contains("unit 1"));
+    assert!(describe(&ranged).contains("refusal"));
+}
+
+#[test]
+fn an_order_by_number_is_found() {
+    let [tried, ranged] = faults_in_order(|view| view.tried.sort()).map(Option::unwrap);
+    assert!(describe(&tried).contains("unit 1"));
+    assert!(describe(&ranged).contains("refusal"));
+    let in_range = |mut input: Input| {
+        input.named().unwrap().replace(0);
+        calls::reference(input)
+    };
+    assert!(compare(Call::InRange(CheapestFirst), 20_000, 1, in_range).difference.is_some());
+}
+
+/// The right order, but of the values alone whose number is above the current one's.
+#[test]
+fn values_after_the_current_number_are_found() {
+    let after = |view: &mut View, current: usize| view.tried.sort_by_key(|v| (*v > current, *v == current));
+    let fault = |input: Input| step_over(input, |_| {}, after);
+    let found = compare(Call::Step(CheapestFirst), 20_000, 1, fault).difference.expect("a difference");
+    assert!(describe(&found).contains("unit 1"));
+}
+
+/// Whoever names nothing, or a number that is not one of the two, gets the ascending order.
+#[test]
+fn another_default_is_found() {
+    for number in [None, Some(2), Some(128), Some(255)] {
+        let fault = |mut input: Input| {
+            let named = input.named().unwrap();
+            if *named == number {
+                *named = Some(0);
+            }
+            calls::reference(input)
+        };
+        let calls = [Call::Make, Call::InRange, Call::Step, Call::MakeNetwork, Call::Deliver, Call::Settle];
+        for call in calls.map(|call| call(CheapestFirst)) {
+            assert!(compare(call, 4_000, 1, fault).difference.is_some(), "{call:?}, {number:?}");
+        }
     }
 }

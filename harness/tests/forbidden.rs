@@ -1,19 +1,15 @@
 //! 02's job 3 on the reference implementation: forbidden pairs in checks 7 and 9, in h and estimates, in a unit's range and step, and in
 //! the reports.
 
-use harness::reference::costs::{self, Cost, View};
+use harness::lent::{places, Lent};
+use harness::reference::costs::{self, Cost};
 use harness::reference::message::{self, Message};
-use harness::reference::unit::{self, Answer, Unit};
-use harness::reference::{network, search, table, Places, FORBIDDEN_PAIR, MAX_ESTIMATE, NONE};
+use harness::reference::order::ValueOrder::Ascending;
+use harness::reference::unit::{self, Unit};
+use harness::reference::{network, search, table, FORBIDDEN_PAIR, MAX_ESTIMATE, NONE};
 use harness::sample;
 
 const F: u16 = FORBIDDEN_PAIR;
-
-fn places(bytes: &[u8]) -> Places {
-    let mut places = [0; 16];
-    places[..bytes.len()].copy_from_slice(bytes);
-    places
-}
 
 /// The two programs' output on a stream's table.
 fn printed(stream: &[u8]) -> [String; 2] {
@@ -21,43 +17,9 @@ fn printed(stream: &[u8]) -> [String; 2] {
     [sample::shed(&file), sample::bench(&file)]
 }
 
-/// A unit of a table, with what it is lent.
-struct Lent {
-    own: u8,
-    n: u8,
-    sizes: Places,
-    costs: Vec<u8>,
-    out: Vec<u8>,
-}
-
-impl Lent {
-    fn new(own: u8, sizes: &[u8], costs: &[u16]) -> Lent {
-        let costs = costs::of_unit(&sample::stream(sizes, costs), own as usize);
-        Lent { own, n: sizes.len() as u8, sizes: places(sizes), costs, out: vec![0xaa; unit::OUT] }
-    }
-
-    fn view(&self) -> View<'_> {
-        View::new(self.own as usize, self.n as usize, &self.sizes, &self.costs)
-    }
-
-    fn make(&mut self) -> Answer {
-        unit::make(self.own, self.n, &self.sizes, &self.costs, &mut self.out)
-    }
-
-    fn step(&mut self, unit: &Unit, kind: u8, message: &Message) -> Answer {
-        let packet = message::encode(kind, message);
-        unit::step(unit, self.own, self.n, &self.sizes, &self.costs, &packet, &mut self.out)
-    }
-
-    /// 0 or the refusal.
-    fn range(&self, unit: &Unit) -> u8 {
-        unit::check_lent(unit, self.own, self.n, &self.sizes, &self.costs).err().unwrap_or(0)
-    }
-
-    /// The k-th packet sent.
-    fn sent(&self, k: usize) -> (u8, Message) {
-        message::parse(self.n, &self.sizes, &self.out[64 * k..64 * (k + 1)]).unwrap()
-    }
+/// A unit of a table of these sizes and pair costs. It tries its values in ascending order.
+fn lent(own: u8, sizes: &[u8], pairs: &[u16]) -> Lent {
+    Lent::new(Ascending, own, &sample::stream(sizes, pairs))
 }
 
 // Check 7
@@ -72,7 +34,7 @@ fn only_one_number_above_the_limit_passes() {
         assert_eq!(table::write(&stream, &mut [0; 512]).err().unwrap_or(0), refusal, "{cost}");
         assert_eq!(costs::gather(&stream, 2, &mut [0; 8]).err().unwrap_or(0), refusal, "{cost}");
         for own in 1..=2 {
-            assert_eq!(Lent::new(own, &[1, 2], &[1, cost]).make().refusal, refusal, "{cost}");
+            assert_eq!(lent(own, &[1, 2], &[1, cost]).make().refusal, refusal, "{cost}");
         }
     }
 }
@@ -104,15 +66,15 @@ const SOME: [u16; 16] = [5, 3, 1, 2, F, 9, 4, 6, F, F, 7, F, 2, F, F, 8];
 
 #[test]
 fn h_over_what_is_permitted() {
-    let view = Lent::new(1, &[3, 2, 2], &SOME);
+    let view = lent(1, &[3, 2, 2], &SOME);
     let view = view.view();
     assert_eq!([view.h(1), view.h(2), view.h(3)], [Cost::Of(7), Cost::Forbidden, Cost::Of(16)]);
-    let view = Lent::new(2, &[3, 2, 2], &SOME);
+    let view = lent(2, &[3, 2, 2], &SOME);
     let view = view.view();
     assert_eq!([view.h(1), view.h(2)], [Cost::Of(2), Cost::Of(8)]);
     // value 1 of unit 2 is forbidden with value 3 of unit 1
     assert_eq!([1, 2, 3].map(|v| view.estimate(&places(&[v]), 1)), [Cost::Of(7), Cost::Of(3), Cost::Of(17)]);
-    let view = Lent::new(3, &[3, 2, 2], &SOME);
+    let view = lent(3, &[3, 2, 2], &SOME);
     let view = view.view();
     assert_eq!([view.h(1), view.h(2)], [Cost::Of(0); 2]);
     assert_eq!([1, 2, 3].map(|v| view.estimate(&places(&[v]), 1)), [Cost::Of(4), Cost::Forbidden, Cost::Of(7)]);
@@ -182,7 +144,7 @@ const ONE_LEFT: [u16; 12] = [1, 1, 1, 1, F, 1, 1, 1, 1, 1, 1, 1];
 
 #[test]
 fn an_estimate_of_none_makes_the_unit_assign() {
-    let mut first = Lent::new(1, &[2; 3], &ONE_LEFT);
+    let mut first = lent(1, &[2; 3], &ONE_LEFT);
     let made = first.make();
     assert_eq!((made.refusal, made.records, made.sent, made.unit.values[0], made.unit.bound), (0, 1, 3, 1, NONE));
     let estimate =
@@ -216,7 +178,7 @@ fn an_estimate_of_none_makes_the_unit_assign() {
 
 #[test]
 fn a_request_with_no_value_left_is_answered_by_none() {
-    let mut third = Lent::new(3, &[3, 2, 2], &SOME);
+    let mut third = lent(3, &[3, 2, 2], &SOME);
     let made = third.make().unit;
     let request = |values: &[u8]| Message {
         sender: values.len() as u8,
@@ -232,7 +194,7 @@ fn a_request_with_no_value_left_is_answered_by_none() {
         assert_eq!((kind, reply.cost, reply.receiver), (message::ESTIMATE, cost, values.len() as u8), "{values:?}");
     }
     // without an h: unit 2 of a table whose units 2 and 3 can't meet
-    let mut second = Lent::new(2, &[1; 3], &[1, 1, F]);
+    let mut second = lent(2, &[1; 3], &[1, 1, F]);
     let made = second.make().unit;
     let request = Message { receiver: 2, ..request(&[1]) };
     second.step(&made, message::REQUEST, &request);
@@ -243,7 +205,7 @@ fn a_request_with_no_value_left_is_answered_by_none() {
 fn a_forbidden_value_is_not_written_even_with_no_bound() {
     // unit 2: values 1 and 3 forbidden with unit 1's value 2, value 2 without an h, value 4 free
     let (with_first, with_third) = ([0, 0, 0, 0, F, 0, F, 9], [0, 0, F, F, 0, 0, 5, F]);
-    let mut second = Lent::new(2, &[2, 4, 2], &[&with_first[..], &[0; 4], &with_third].concat());
+    let mut second = lent(2, &[2, 4, 2], &[&with_first[..], &[0; 4], &with_third].concat());
     let made = second.make().unit;
     let cpa = Message {
         sender: 1,
@@ -274,7 +236,7 @@ fn a_forbidden_value_is_not_written_even_with_no_bound() {
 #[test]
 fn a_cpa_with_all_values_forbidden_goes_back() {
     for (own, sizes, costs) in [(2, vec![1, 2], vec![F, F]), (2, vec![1, 2, 1], vec![0, 0, 0, F, F])] {
-        let mut unit = Lent::new(own, &sizes, &costs);
+        let mut unit = lent(own, &sizes, &costs);
         let made = unit.make().unit;
         let cpa = Message {
             sender: 1,
@@ -295,7 +257,7 @@ fn a_cpa_with_all_values_forbidden_goes_back() {
 
 #[test]
 fn an_own_value_forbidden_with_a_filled_one_is_out_of_range() {
-    let second = Lent::new(2, &[2, 3, 1], &[0, F, 4, 0, 0, 0, 0, 0, F, 0, F]);
+    let second = lent(2, &[2, 3, 1], &[0, F, 4, 0, 0, 0, 0, 0, F, 0, F]);
     let out = |first: u8, value: u8, cost: u32| Unit {
         values: places(&[first, value]),
         stamp: places(&[1, 1]),
@@ -318,7 +280,7 @@ fn an_own_value_forbidden_with_a_filled_one_is_out_of_range() {
 
 #[test]
 fn a_kept_estimate_is_not_none() {
-    let first = Lent::new(1, &[2; 3], &ONE_LEFT);
+    let first = lent(1, &[2; 3], &ONE_LEFT);
     for (estimate, refusal) in [(MAX_ESTIMATE, 0), (MAX_ESTIMATE + 1, 5), (NONE - 1, 5), (NONE, 5)] {
         for place in 0..16 {
             let mut unit = unit::fresh();
@@ -332,7 +294,7 @@ fn a_kept_estimate_is_not_none() {
 fn a_delivery_to_a_network_with_such_a_state_is_refused() {
     let stream = sample::stream(&[2, 2], &[5, F, 2, 4]);
     let mut pool = vec![0; network::POOL];
-    let mut shed = network::make(&stream, &mut pool).unwrap();
+    let mut shed = network::make_by(Ascending, &stream, &mut pool).unwrap();
     let mut forged = shed.clone();
     let out = Unit {
         values: places(&[1, 2]),
@@ -343,9 +305,9 @@ fn a_delivery_to_a_network_with_such_a_state_is_refused() {
     };
     forged.units[1] = out;
     let before = forged.clone();
-    assert_eq!(network::deliver(&mut forged, &stream, &mut pool, 0), Err(5));
+    assert_eq!(network::deliver_by(Ascending, &mut forged, &stream, &mut pool, 0), Err(5));
     assert_eq!(forged, before);
-    assert_eq!(network::deliver(&mut shed, &stream, &mut pool, 0), Ok(()));
+    assert_eq!(network::deliver_by(Ascending, &mut shed, &stream, &mut pool, 0), Ok(()));
 }
 
 // Nothing permitted
@@ -355,13 +317,13 @@ fn unit_1_stops_on_making() {
     // two units that can't meet; three, of which 1 and 3 can't
     for (sizes, costs) in [(vec![2, 2], vec![F; 4]), (vec![2, 1, 2], vec![0, 0, F, F, F, F, 0, 0])] {
         let n = sizes.len() as u8;
-        let mut first = Lent::new(1, &sizes, &costs);
+        let mut first = lent(1, &sizes, &costs);
         let made = first.make();
         assert_eq!((made.refusal, made.records, made.sent), (0, 0, n - 1));
         assert_eq!(made.unit, Unit { stopped: 1, threshold: places(&[1]), ..unit::fresh() });
         let stream = sample::stream(&sizes, &costs);
         let mut pool = vec![0xaa; network::POOL];
-        let mut shed = network::make(&stream, &mut pool).unwrap();
+        let mut shed = network::make_by(Ascending, &stream, &mut pool).unwrap();
         assert_eq!((shed.units[0], shed.records, shed.deliveries), (made.unit, 0, 0));
         assert_eq!(shed.count, u64::from(n) - 1);
         for receiver in 2..=n {
@@ -371,10 +333,10 @@ fn unit_1_stops_on_making() {
             assert_eq!(pool[cell..cell + 64], message::encode(message::STOP, &stop));
         }
         assert!(pool[64 * shed.count as usize..].iter().all(|byte| *byte == 0xaa));
-        assert_eq!(network::deliver(&mut shed, &stream, &mut pool, 0), Err(12));
-        assert_eq!(network::settle(&stream, &mut pool), Ok(shed));
+        assert_eq!(network::deliver_by(Ascending, &mut shed, &stream, &mut pool, 0), Err(12));
+        assert_eq!(network::settle_by(Ascending, &stream, &mut pool), Ok(shed));
         // a box that the stop reaches has stopped too
-        let mut second = Lent::new(2, &sizes, &costs);
+        let mut second = lent(2, &sizes, &costs);
         let other = second.make().unit;
         let (kind, stop) = first.sent(0);
         assert_eq!(second.step(&other, kind, &stop).unit, Unit { stopped: 1, ..other });
@@ -384,7 +346,7 @@ fn unit_1_stops_on_making() {
 /// Only one of unit 1's values has no h.
 #[test]
 fn unit_1_passes_a_value_over_on_making() {
-    let made = Lent::new(1, &[2, 2], &[F, F, 1, F]).make();
+    let made = lent(1, &[2, 2], &[F, F, 1, F]).make();
     assert_eq!((made.refusal, made.records, made.sent), (0, 1, 2));
     assert_eq!((made.unit.values[0], made.unit.counter), (2, 1));
 }

@@ -1,5 +1,5 @@
-//! The generators reach every refusal of every call and every case of forbidden pairs and of unary costs, and a refused call of the reference
-//! leaves what it was lent.
+//! The generators reach every refusal of every call in either order of values, and every case of forbidden pairs, of unary costs and of the
+//! order, and a refused call of the reference leaves what it was lent.
 
 use harness::calls::{self, Call, Input, CALLS};
 use harness::cases;
@@ -8,7 +8,7 @@ use harness::random::Random;
 
 fn inputs(call: Call) -> u32 {
     match call {
-        Call::Deliver | Call::Settle | Call::Search => 4_000,
+        Call::Deliver(_) | Call::Settle(_) | Call::Search => 4_000,
         _ => 20_000,
     }
 }

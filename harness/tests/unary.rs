@@ -1,20 +1,16 @@
 //! 02's job 7 on the reference implementation: form two of the stream, unary costs (02's own costs) in checks, in what a unit is lent, in its
 //! range and step, and in the reports; and every assignment's total by a reading of the file that shares nothing with the reference.
 
+use harness::lent::{places, Lent};
 use harness::random::Random;
-use harness::reference::costs::{self, Cost, View};
+use harness::reference::costs::{self, Cost};
 use harness::reference::message::{self, Message};
-use harness::reference::unit::{self, Answer, Unit};
-use harness::reference::{cost_limit, network, search, table, Places, MAX_ESTIMATE, MAX_TOTAL, NONE};
+use harness::reference::order::ValueOrder::{self, Ascending};
+use harness::reference::unit::{self, Unit};
+use harness::reference::{cost_limit, network, search, table, MAX_ESTIMATE, MAX_TOTAL, NONE};
 use harness::{generate, sample};
 use std::fs;
 use std::path::Path;
-
-fn places(bytes: &[u8]) -> Places {
-    let mut places = [0; 16];
-    places[..bytes.len()].copy_from_slice(bytes);
-    places
-}
 
 // Files read by hand
 
@@ -131,7 +127,9 @@ fn totals_by_hand() {
         let sizes: Vec<u8> = (0..n).map(|_| random.between(1, 4) as u8).collect();
         let stream = generate::stream_of(&mut random, &sizes);
         let file = table::file_of(&stream);
-        same_as_by_hand(&file, &sample::shed(&file), &sample::bench(&file));
+        for order in ValueOrder::BOTH {
+            same_as_by_hand(&file, &sample::shed_by(order, &file), &sample::bench(&file));
+        }
         let plain = Plain::of(&file);
         for values in plain.assignments() {
             let assignment: Vec<u8> = values.iter().map(|value| *value as u8 + 1).collect();
@@ -144,7 +142,7 @@ fn totals_by_hand() {
     assert!(priced > 150 && none > 50, "{priced} tables with unary costs, {none} with nothing permitted");
 }
 
-/// The samples in form two, of which some have a listing.
+/// The samples in form two, of which some have a listing in each order.
 #[test]
 fn samples_by_hand() {
     let folder = Path::new(env!("CARGO_MANIFEST_DIR")).join("vectors");
@@ -153,16 +151,14 @@ fn samples_by_hand() {
         if !path.file_name().is_some_and(|name| name.to_string_lossy().starts_with("priced")) {
             continue;
         }
-        let Ok(listing) = fs::read_to_string(path.with_extension("listing")) else { continue };
-        if path.extension().is_some_and(|end| end == "table") {
-            let bench = fs::read_to_string(path.with_extension("bench")).unwrap();
-            let file = fs::read(path).unwrap();
-            assert_eq!(file[4], 200);
-            same_as_by_hand(&file, &listing, &bench);
-            listed += 1;
-        }
+        let Some("listing" | "cheapest") = path.extension().and_then(|end| end.to_str()) else { continue };
+        let bench = fs::read_to_string(path.with_extension("bench")).unwrap();
+        let file = fs::read(path.with_extension("table")).unwrap();
+        assert_eq!(file[4], 200);
+        same_as_by_hand(&file, &fs::read_to_string(path).unwrap(), &bench);
+        listed += 1;
     }
-    assert_eq!(listed, 3);
+    assert_eq!(listed, 6);
 }
 
 // The stream
@@ -212,10 +208,10 @@ fn costs_of_form_two() {
             own[place] = cost;
             let stream = sample::stream_in_form_two(&[1, 2], &own, &[1, 2]);
             assert_eq!(checked(&stream), unary, "{cost} at {place}");
-            let lent = |own: u8| costs::gather(&stream, own, &mut [0; 8]).err().unwrap_or(0);
-            assert_eq!((lent(1), lent(2)), (unary, unary));
+            let gathered = |own: u8| costs::gather(&stream, own, &mut [0; 8]).err().unwrap_or(0);
+            assert_eq!((gathered(1), gathered(2)), (unary, unary));
             let (unit, value) = [(1, 0), (2, 0), (2, 1)][place];
-            let mut unit = Lent::new(unit, &[1, 2], &[5; 3], &[1, 2]);
+            let mut unit = lent(unit, &[1, 2], &[5; 3], &[1, 2]);
             unit.costs[2 * value..2 * value + 2].copy_from_slice(&cost.to_le_bytes());
             assert_eq!(unit.make().refusal, unary);
         }
@@ -300,49 +296,15 @@ fn unary_costs_are_lent_before_pairs() {
     assert_eq!(costs::gather(&[200, 1], 1, &mut []), Err(6));
 }
 
-/// A unit of a table, with what it is lent.
-struct Lent {
-    own: u8,
-    n: u8,
-    sizes: Places,
-    costs: Vec<u8>,
-    out: Vec<u8>,
-}
-
-impl Lent {
-    fn new(own: u8, sizes: &[u8], unary: &[u16], pairs: &[u16]) -> Lent {
-        let costs = costs::of_unit(&sample::stream_in_form_two(sizes, unary, pairs), own as usize);
-        Lent { own, n: sizes.len() as u8, sizes: places(sizes), costs, out: vec![0xaa; unit::OUT] }
-    }
-
-    fn view(&self) -> View<'_> {
-        View::new(self.own as usize, self.n as usize, &self.sizes, &self.costs)
-    }
-
-    fn make(&mut self) -> Answer {
-        unit::make(self.own, self.n, &self.sizes, &self.costs, &mut self.out)
-    }
-
-    fn step(&mut self, unit: &Unit, kind: u8, message: &Message) -> Answer {
-        let packet = message::encode(kind, message);
-        unit::step(unit, self.own, self.n, &self.sizes, &self.costs, &packet, &mut self.out)
-    }
-
-    /// 0 or the refusal.
-    fn range(&self, unit: &Unit) -> u8 {
-        unit::check_lent(unit, self.own, self.n, &self.sizes, &self.costs).err().unwrap_or(0)
-    }
-
-    /// The k-th packet sent.
-    fn sent(&self, k: usize) -> (u8, Message) {
-        message::parse(self.n, &self.sizes, &self.out[64 * k..64 * (k + 1)]).unwrap()
-    }
+/// A unit of a table of these sizes and costs. It tries its values in ascending order.
+fn lent(own: u8, sizes: &[u8], unary: &[u16], pairs: &[u16]) -> Lent {
+    Lent::new(Ascending, own, &sample::stream_in_form_two(sizes, unary, pairs))
 }
 
 #[test]
 fn costs_without_the_unary_ones_are_too_short() {
     for own in 1..=3 {
-        let mut unit = Lent::new(own, &[2, 1, 2], &[1, 2, 3, 4, 5], &[0; 8]);
+        let mut unit = lent(own, &[2, 1, 2], &[1, 2, 3, 4, 5], &[0; 8]);
         let size = unit.view().size(own.into());
         assert_eq!((unit.make().refusal, unit.range(&unit::fresh())), (0, 0));
         unit.costs.drain(..2 * size);
@@ -394,7 +356,7 @@ fn out(values: &[u8], cost: u32) -> Unit {
 
 #[test]
 fn limits_of_a_state() {
-    let first = Lent::new(1, &[2, 2], &[7, 0, 1, 2], &[0; 4]);
+    let first = lent(1, &[2, 2], &[7, 0, 1, 2], &[0; 4]);
     for (bound, refusal) in [(7_200_001, 0), (8_160_000, 0), (8_160_001, 5), (NONE, 5)] {
         assert_eq!(first.range(&Unit { bound, best: places(&[1, 1]), ..unit::fresh() }), refusal, "{bound}");
     }
@@ -406,12 +368,12 @@ fn limits_of_a_state() {
         assert_eq!(first.range(&out(&[value], cost)), refusal, "value {value}, cost {cost}");
     }
     // unit 3's: own value 1 costs 50 by itself and 3 and 4 with those before, which may cost at most 180,000
-    let third = Lent::new(3, &[1, 1, 1, 1], &[0, 0, 50, 0], &[0, 3, 0, 4, 0, 0]);
+    let third = lent(3, &[1, 1, 1, 1], &[0, 0, 50, 0], &[0, 3, 0, 4, 0, 0]);
     for (cost, refusal) in [(57, 0), (56, 5), (7, 5), (0, 5), (180_057, 0), (180_058, 5), (360_000, 5)] {
         assert_eq!(third.range(&out(&[1, 1, 1], cost)), refusal, "{cost}");
     }
     // the dearest that there is
-    let last = Lent::new(16, &[1; 16], &[60_000; 16], &[60_000; 120]);
+    let last = lent(16, &[1; 16], &[60_000; 16], &[60_000; 120]);
     assert_eq!(last.range(&out(&[1; 16], MAX_TOTAL)), 0);
     assert_eq!(last.range(&out(&[1; 16], MAX_TOTAL + 1)), 5);
     assert_eq!(last.range(&out(&[1; 16], 959_999)), 5);
@@ -425,16 +387,16 @@ const PAIRS: [u16; 12] = [5, 3, 2, 4, 1, 8, 7, 6, 2, 2, 3, 9];
 
 #[test]
 fn unary_costs_in_estimates_and_not_in_h() {
-    let first = Lent::new(1, &[2; 3], &UNARY, &PAIRS);
+    let first = lent(1, &[2; 3], &UNARY, &PAIRS);
     let first = first.view();
     assert_eq!([first.h(1), first.h(2)], [Cost::Of(4), Cost::Of(8)]);
-    let second = Lent::new(2, &[2; 3], &UNARY, &PAIRS);
+    let second = lent(2, &[2; 3], &UNARY, &PAIRS);
     let second = second.view();
     assert_eq!([second.h(1), second.h(2)], [Cost::Of(2), Cost::Of(3)]);
     assert_eq!([second.unary(1), second.unary(2)], [0, 9]);
     // value 1: 0 + 5 + 2, value 2: 9 + 3 + 3; then 0 + 2 + 2, 9 + 4 + 3
     assert_eq!([1, 2].map(|v| second.estimate(&places(&[v]), 1)), [Cost::Of(7), Cost::Of(4)]);
-    let third = Lent::new(3, &[2; 3], &UNARY, &PAIRS);
+    let third = lent(3, &[2; 3], &UNARY, &PAIRS);
     let third = third.view();
     assert_eq!([third.h(1), third.h(2)], [Cost::Of(0); 2]);
     // 30 + 1 against 4 + 8: without unary costs value 1 would be the least
@@ -444,7 +406,7 @@ fn unary_costs_in_estimates_and_not_in_h() {
 
 #[test]
 fn a_unary_cost_counts_when_its_value_is_written() {
-    let mut first = Lent::new(1, &[2; 3], &UNARY, &PAIRS);
+    let mut first = lent(1, &[2; 3], &UNARY, &PAIRS);
     let made = first.make();
     assert_eq!((made.refusal, made.records, made.sent), (0, 1, 3));
     assert_eq!((made.unit.values[0], made.unit.cost), (1, 20));
@@ -476,7 +438,7 @@ fn a_unary_cost_decides_a_step() {
         best: places(&[1, 1, 1]),
     };
     for (bound, value, cost) in [(111, 1, 110), (110, 2, 105), (106, 2, 105)] {
-        let mut second = Lent::new(2, &[1, 2, 1], &unary, &[pairs[0], pairs[1], 0, 0, 0]);
+        let mut second = lent(2, &[1, 2, 1], &unary, &[pairs[0], pairs[1], 0, 0, 0]);
         let fresh = second.make().unit;
         let wrote = second.step(&fresh, message::CPA, &cpa(bound));
         assert_eq!((wrote.refusal, wrote.records, wrote.sent), (0, 1, 2), "{bound}");
@@ -488,12 +450,12 @@ fn a_unary_cost_decides_a_step() {
         assert_eq!((backed.refusal, backed.records, backed.sent), (0, 0, 1));
         assert_eq!(second.sent(0), (message::CPA, Message { sender: 2, receiver: 1, ..lower }));
     }
-    let mut second = Lent::new(2, &[1, 2, 1], &unary, &[pairs[0], pairs[1], 0, 0, 0]);
+    let mut second = lent(2, &[1, 2, 1], &unary, &[pairs[0], pairs[1], 0, 0, 0]);
     let fresh = second.make().unit;
     let backed = second.step(&fresh, message::CPA, &cpa(105));
     assert_eq!((backed.refusal, backed.records, backed.sent), (0, 0, 1));
     // without unary costs value 1 is written
-    let mut second = Lent::new(2, &[1, 2, 1], &[0; 4], &[pairs[0], pairs[1], 0, 0, 0]);
+    let mut second = lent(2, &[1, 2, 1], &[0; 4], &[pairs[0], pairs[1], 0, 0, 0]);
     let wrote = second.step(&fresh, message::CPA, &cpa(105));
     assert_eq!((wrote.records, wrote.unit.values[1], wrote.unit.cost), (1, 1, 101));
 }
@@ -529,9 +491,11 @@ fn zero_unary_costs_change_nothing() {
             table::pair_costs(&stream).chunks(2).map(|cost| u16::from_le_bytes([cost[0], cost[1]])).collect();
         let values = sizes.iter().map(|d| *d as usize).sum();
         let (one, two) = (sample::stream(&sizes, &pairs), sample::stream_in_form_two(&sizes, &vec![0; values], &pairs));
-        let (mut pool, mut other) = (vec![0; network::POOL], vec![0; network::POOL]);
-        assert_eq!(network::settle(&one, &mut pool), network::settle(&two, &mut other));
-        assert!(pool == other);
+        for order in ValueOrder::BOTH {
+            let (mut pool, mut other) = (vec![0; network::POOL], vec![0; network::POOL]);
+            assert_eq!(network::settle_by(order, &one, &mut pool), network::settle_by(order, &two, &mut other));
+            assert!(pool == other);
+        }
         assert_eq!(search::exhaustive(&one), search::exhaustive(&two));
     }
 }

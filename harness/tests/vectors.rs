@@ -1,17 +1,9 @@
-//! Every sample table against the listing and the bench report that lie beside it.
+//! Every sample table against the listings, one for each order of values, and the bench report that lie beside it.
 
+use harness::reference::order::ValueOrder;
 use harness::reference::table;
-use harness::sample;
+use harness::sample::{self, tables};
 use std::fs;
-use std::path::{Path, PathBuf};
-
-fn tables() -> Vec<PathBuf> {
-    let folder = Path::new(env!("CARGO_MANIFEST_DIR")).join("vectors");
-    let mut files: Vec<_> = fs::read_dir(folder).unwrap().map(|entry| entry.unwrap().path()).collect();
-    files.retain(|path| path.extension().is_some_and(|end| end == "table"));
-    files.sort();
-    files
-}
 
 fn compare_all(end: &str, program: fn(&[u8]) -> String) -> usize {
     let mut compared = 0;
@@ -26,6 +18,21 @@ fn compare_all(end: &str, program: fn(&[u8]) -> String) -> usize {
 #[test]
 fn listings() {
     assert_eq!(compare_all("listing", sample::shed), 18);
+}
+
+#[test]
+fn listings_cheapest_first() {
+    assert_eq!(compare_all("cheapest", |file| sample::shed_by(ValueOrder::CheapestFirst, file)), 18);
+}
+
+/// Both listings of a table have the same total.
+#[test]
+fn totals_of_both_orders() {
+    for path in tables() {
+        let Ok(listing) = fs::read_to_string(path.with_extension("listing")) else { continue };
+        let cheapest = fs::read_to_string(path.with_extension("cheapest")).unwrap();
+        assert_eq!(cheapest.lines().next(), listing.lines().next(), "{}", path.display());
+    }
 }
 
 #[test]

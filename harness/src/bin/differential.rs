@@ -2,8 +2,9 @@
 //!
 //! differential [ROUNDS] [SEED] [WORD]: rounds for each call (20,000 and 1 unless named; a fifth for the calls on a whole network),
 //! of the calls alone whose name has the word, if there is one.
-//! Prints for each call how often it was accepted and how often each refusal came and each case of forbidden pairs or of unary costs; ends
-//! with 1 at a difference or at one of these never reached.
+//! A call that tries values comes twice, in ascending order and cheapest first; the latter is named by numbers and not named at all.
+//! Prints for each call how often it was accepted and how often each refusal came and each case of forbidden pairs, of unary costs or of the
+//! order; ends with 1 at a difference or at one of these never reached.
 
 use harness::calls::{Call, CALLS};
 use harness::differential;
@@ -20,7 +21,7 @@ fn main() {
     let mut faults = 0;
     for (call, name, refusals) in CALLS.into_iter().filter(|(_, name, _)| name.contains(&word)) {
         let rounds = match call {
-            Call::Deliver | Call::Settle | Call::Search => rounds.div_ceil(5),
+            Call::Deliver(_) | Call::Settle(_) | Call::Search => rounds.div_ceil(5),
             _ => rounds,
         };
         let report = differential::compare(call, rounds, seed, linked::linked);

@@ -1,10 +1,16 @@
-//! The AFB paper's experiment on the shed's rules: `experiment FOLDER [PROBLEMS]` writes results.csv, messages.svg and checks.svg there.
+//! The AFB paper's experiment on the shed's rules: `experiment FOLDER [PROBLEMS]` writes results.csv, messages.svg and checks.svg there, values
+//! tried in ascending order; and what the order of values does to the same problems (orders.csv, orders.svg) and to the sample sheds (sheds.csv).
 //!
-//! PROBLEMS a point, 10 unless named. The seed is fixed: the same numbers every time. Ends with 1 where the two algorithms disagree on a least total.
+//! PROBLEMS a point, 10 unless named. The seed is fixed: the same numbers every time. Ends with 1 where the two algorithms or the two orders
+//! disagree on a least total.
 
 use harness::maxcsp::{self, Effort};
 use harness::plot::{Curve, Plot};
 use harness::random::Random;
+use harness::reference::network::{self, Network};
+use harness::reference::order::ValueOrder::{self, Ascending, CheapestFirst};
+use harness::sample;
+use std::cmp::Ordering;
 use std::path::Path;
 use std::process::exit;
 
@@ -20,7 +26,9 @@ const MOST_CHECKS: u64 = 50_000_000;
 struct Point {
     density: f64,
     tightness: f64,
+    /// In ascending order, as the paper has it.
     afb: Vec<Effort>,
+    cheapest: Vec<Effort>,
     synchronous: Vec<Effort>,
     given_up: usize,
 }
@@ -32,23 +40,39 @@ impl Point {
     }
 }
 
+/// Ends the program where two searches of one problem disagree.
+fn agree(one: u32, other: u32) {
+    if one != other {
+        eprintln!("least totals differ: {one} and {other}");
+        exit(1);
+    }
+}
+
 fn measure(random: &mut Random, problems: usize, density: f64, tightness: f64) -> Point {
-    let mut afb = Vec::new();
-    let mut synchronous = Vec::new();
-    let mut given_up = 0;
+    let (afb, cheapest, synchronous) = (Vec::new(), Vec::new(), Vec::new());
+    let mut point = Point { density, tightness, afb, cheapest, synchronous, given_up: 0 };
     for _ in 0..problems {
         let problem = maxcsp::problem(random, UNITS, VALUES, density, tightness);
-        let effort = maxcsp::forward_bounding(&problem);
+        let [effort, cheapest] = [Ascending, CheapestFirst].map(|order| maxcsp::forward_bounding(order, &problem));
+        agree(effort.least, cheapest.least);
         let (other, whole) = maxcsp::branch_and_bound(&problem, MOST_CHECKS);
-        if whole && other.least != effort.least {
-            eprintln!("least totals differ: {} and {}", effort.least, other.least);
-            exit(1);
+        if whole {
+            agree(effort.least, other.least);
         }
-        given_up += usize::from(!whole);
-        afb.push(effort);
-        synchronous.push(other);
+        point.given_up += usize::from(!whole);
+        point.afb.push(effort);
+        point.cheapest.push(cheapest);
+        point.synchronous.push(other);
     }
-    Point { density, tightness, afb, synchronous, given_up }
+    point
+}
+
+fn deliveries(effort: &Effort) -> u64 {
+    effort.deliveries
+}
+
+fn records(effort: &Effort) -> u64 {
+    effort.records
 }
 
 fn messages(effort: &Effort) -> u64 {
@@ -95,28 +119,71 @@ fn row(point: &Point) -> String {
     format!("{},{},{problems},{:.1},{numbers}", point.density, point.tightness, mean(&point.afb, least))
 }
 
-/// Medians of both algorithms at both densities, those left out that are only a lower limit.
-fn curves(points: &[Point], of: fn(&Effort) -> u64) -> Vec<Curve> {
+const ORDERS: &str = "density,tightness,problems,\
+deliveries ascending (median),deliveries cheapest first (median),deliveries ascending (mean),deliveries cheapest first (mean),\
+records ascending (median),records cheapest first (median),records ascending (mean),records cheapest first (mean),\
+fewer deliveries cheapest first,more deliveries cheapest first";
+
+fn orders_row(point: &Point) -> String {
+    let mut row = format!("{},{},{}", point.density, point.tightness, point.afb.len());
+    for of in [deliveries, records] {
+        for middle in [median, mean] {
+            row += &format!(",{:.0},{:.0}", middle(&point.afb, of), middle(&point.cheapest, of));
+        }
+    }
+    let compared: Vec<Ordering> =
+        point.cheapest.iter().zip(&point.afb).map(|(one, other)| one.deliveries.cmp(&other.deliveries)).collect();
+    let times = |which: Ordering| compared.iter().filter(|order| **order == which).count();
+    row + &format!(",{},{}", times(Ordering::Less), times(Ordering::Greater))
+}
+
+const SHEDS: &str = "table,deliveries ascending,deliveries cheapest first,records ascending,records cheapest first";
+
+/// The sample sheds that are easy enough to finish: cell 0 delivered until unit 1 has stopped.
+fn sheds() -> String {
+    let mut text = format!("{SHEDS}\n");
+    for path in sample::tables().iter().filter(|path| path.with_extension("listing").exists()) {
+        let file = std::fs::read(path).expect("a sample table");
+        let stream = sample::read(&file).expect("an accepted table");
+        let settle = |order: ValueOrder| -> Network {
+            network::settle_by(order, &stream, &mut vec![0; network::POOL]).expect("an accepted table")
+        };
+        let [one, two] = [settle(Ascending), settle(CheapestFirst)];
+        agree(one.units[0].bound, two.units[0].bound);
+        let name = path.file_stem().unwrap_or_default().to_string_lossy();
+        text += &format!("{name},{},{},{},{}\n", one.deliveries, two.deliveries, one.records, two.records);
+    }
+    text
+}
+
+/// What a curve shows of a point, if anything.
+type Shown<'a> = &'a dyn Fn(&Point) -> Option<f64>;
+
+/// Two curves for each density: the first whole, the second dashed.
+fn curves(points: &[Point], names: [&str; 2], of: [Shown; 2]) -> Vec<Curve> {
     let mut curves = Vec::new();
     for (density, colour) in DENSITIES.into_iter().zip(["#0b6fa4", "#c2410c"]) {
-        let of_density = || points.iter().filter(move |point| point.density == density);
-        curves.push(Curve {
-            name: format!("AFB, {density}"),
-            colour,
-            dashed: false,
-            points: of_density().map(|p| (p.tightness, median(&p.afb, of))).collect(),
-        });
-        curves.push(Curve {
-            name: format!("SBB, {density}"),
-            colour,
-            dashed: true,
-            points: of_density()
-                .filter(|p| !p.cut_short())
-                .map(|p| (p.tightness, median(&p.synchronous, of)))
-                .collect(),
-        });
+        for k in [0, 1] {
+            let here = points.iter().filter(|point| point.density == density);
+            let points = here.filter_map(|point| Some((point.tightness, of[k](point)?))).collect();
+            curves.push(Curve { name: format!("{}, {density}", names[k]), colour, dashed: k == 1, points });
+        }
     }
     curves
+}
+
+/// Medians of both algorithms, those left out that are only a lower limit.
+fn of_algorithms(points: &[Point], of: fn(&Effort) -> u64) -> Vec<Curve> {
+    let afb = |point: &Point| Some(median(&point.afb, of));
+    let synchronous = |point: &Point| (!point.cut_short()).then(|| median(&point.synchronous, of));
+    curves(points, ["AFB", "SBB"], [&afb, &synchronous])
+}
+
+/// Medians of both orders.
+fn of_orders(points: &[Point], of: fn(&Effort) -> u64) -> Vec<Curve> {
+    let ascending = |point: &Point| Some(median(&point.afb, of));
+    let cheapest = |point: &Point| Some(median(&point.cheapest, of));
+    curves(points, ["ascending", "cheapest"], [&ascending, &cheapest])
 }
 
 fn plot(title: &str, y_name: &str, curves: Vec<Curve>) -> String {
@@ -147,20 +214,23 @@ fn main() {
     let problems = arguments.get(1).and_then(|text| text.parse().ok()).unwrap_or(10);
     let mut random = Random::new(SEED);
     let mut points = Vec::new();
-    let mut table = format!("{HEADER}\n");
+    let (mut table, mut orders) = (format!("{HEADER}\n"), format!("{ORDERS}\n"));
     println!("{HEADER}");
     for density in DENSITIES {
         for tightness in TIGHTNESS {
             let point = measure(&mut random, problems, density, tightness);
             let row = row(&point);
             println!("{row}");
-            table += &row;
-            table.push('\n');
+            table += &format!("{row}\n");
+            orders += &format!("{}\n", orders_row(&point));
             points.push(point);
         }
     }
     write(folder, "results.csv", &table);
-    write(folder, "messages.svg", &plot("Messages sent, median", "messages", curves(&points, messages)));
+    write(folder, "orders.csv", &orders);
+    write(folder, "sheds.csv", &sheds());
+    write(folder, "messages.svg", &plot("Messages sent, median", "messages", of_algorithms(&points, messages)));
     let title = "Non-concurrent constraint checks, median";
-    write(folder, "checks.svg", &plot(title, "checks", curves(&points, checks)));
+    write(folder, "checks.svg", &plot(title, "checks", of_algorithms(&points, checks)));
+    write(folder, "orders.svg", &plot("Deliveries, median", "deliveries", of_orders(&points, deliveries)));
 }

@@ -1,5 +1,5 @@
 //! How fast the Rattle library's calls are, beside a yardstick: the tuned run of `harness::tuned` for settle, deliver and step, the second
-//! implementation for the others. One table, a row for each call and sample.
+//! implementation for the others. One table, a row for each call and sample; settle, deliver and step in both orders of values.
 //!
 //! speed [--counts FOLDER] [WORD]   times; WORD: the rows alone whose name has it. FOLDER: callgrind's dumps of a run with --once
 //! speed --once [WORD]              does the work of every row once, with a call of `riksamoe_mark` before and after, for callgrind to dump at
@@ -11,6 +11,7 @@ use harness::linked;
 use harness::random::Random;
 use harness::reference::message::{self, Message};
 use harness::reference::network::{self, Network};
+use harness::reference::order::ValueOrder;
 use harness::reference::table::{self, Form};
 use harness::reference::unit::{self, Unit};
 use harness::reference::{convert, costs, readings, search, Places};
@@ -21,9 +22,9 @@ use std::path::Path;
 
 /// What is measured. Each gives how many deliveries, steps or calls it made.
 trait Library {
-    fn settle(&self, stream: &[u8], pool: &mut [u8]) -> u64;
+    fn settle(&self, order: ValueOrder, stream: &[u8], pool: &mut [u8]) -> u64;
     /// Makes a network and delivers cell 0 at most this often.
-    fn deliver(&self, stream: &[u8], pool: &mut [u8], most: u64) -> u64;
+    fn deliver(&self, order: ValueOrder, stream: &[u8], pool: &mut [u8], most: u64) -> u64;
     fn step(&self, steps: &[Step], out: &mut [u8]) -> u64;
     /// The same, beside the second implementation.
     fn plain_step(&self, steps: &[Step], out: &mut [u8]) -> u64;
@@ -38,6 +39,7 @@ trait Library {
 
 /// One step of a run.
 struct Step {
+    order: ValueOrder,
     unit: Unit,
     own: u8,
     n: u8,
@@ -49,14 +51,14 @@ struct Step {
 struct Yardstick;
 
 impl Library for Yardstick {
-    fn settle(&self, stream: &[u8], pool: &mut [u8]) -> u64 {
-        tuned::settle(stream, pool, u128::MAX).map_or(0, |network| network.deliveries as u64)
+    fn settle(&self, order: ValueOrder, stream: &[u8], pool: &mut [u8]) -> u64 {
+        tuned::settle_by(order, stream, pool, u128::MAX).map_or(0, |network| network.deliveries as u64)
     }
 
-    fn deliver(&self, stream: &[u8], pool: &mut [u8], most: u64) -> u64 {
-        let mut network = tuned::settle(stream, pool, 0).expect("an accepted table");
+    fn deliver(&self, order: ValueOrder, stream: &[u8], pool: &mut [u8], most: u64) -> u64 {
+        let mut network = tuned::settle_by(order, stream, pool, 0).expect("an accepted table");
         let mut delivered = 0;
-        while delivered < most && tuned::deliver(&mut network, stream, pool, 0).is_ok() {
+        while delivered < most && tuned::deliver_by(order, &mut network, stream, pool, 0).is_ok() {
             delivered += 1;
         }
         delivered
@@ -65,14 +67,14 @@ impl Library for Yardstick {
     fn step(&self, steps: &[Step], out: &mut [u8]) -> u64 {
         for s in steps {
             let mut unit = s.unit;
-            let _ = black_box(tuned::step(&mut unit, s.own, s.n, &s.sizes, &s.costs, &s.packet, out));
+            let _ = black_box(tuned::step_by(s.order, &mut unit, s.own, s.n, &s.sizes, &s.costs, &s.packet, out));
         }
         steps.len() as u64
     }
 
     fn plain_step(&self, steps: &[Step], out: &mut [u8]) -> u64 {
         for s in steps {
-            let _ = black_box(unit::step(&s.unit, s.own, s.n, &s.sizes, &s.costs, &s.packet, out));
+            let _ = black_box(unit::step_by(s.order, &s.unit, s.own, s.n, &s.sizes, &s.costs, &s.packet, out));
         }
         steps.len() as u64
     }
@@ -109,15 +111,16 @@ impl Library for Yardstick {
 struct Rattle;
 
 impl Library for Rattle {
-    fn settle(&self, stream: &[u8], pool: &mut [u8]) -> u64 {
-        linked::network_settle(stream, pool).network.core.deliveries.low
+    fn settle(&self, order: ValueOrder, stream: &[u8], pool: &mut [u8]) -> u64 {
+        linked::network_settle(Some(order.number()), stream, pool).network.core.deliveries.low
     }
 
-    fn deliver(&self, stream: &[u8], pool: &mut [u8], most: u64) -> u64 {
-        let mut network = linked::network_make(stream, pool).network;
+    fn deliver(&self, order: ValueOrder, stream: &[u8], pool: &mut [u8], most: u64) -> u64 {
+        let named = Some(order.number());
+        let mut network = linked::network_make(named, stream, pool).network;
         let mut delivered = 0;
         while delivered < most {
-            let answer = linked::network_deliver(network, stream, pool, 0);
+            let answer = linked::network_deliver(named, network, stream, pool, 0);
             if answer.refusal != 0 {
                 break;
             }
@@ -130,7 +133,9 @@ impl Library for Rattle {
     fn step(&self, steps: &[Step], out: &mut [u8]) -> u64 {
         for s in steps {
             let mut unit = (&s.unit).into();
-            black_box(linked::unit_step_in_place(&mut unit, s.own, s.n, &s.sizes, &s.costs, &s.packet, out));
+            let order = Some(s.order.number());
+            let lent = linked::Lent { order, own: s.own, n: s.n, sizes: &s.sizes, costs: &s.costs };
+            black_box(linked::unit_step_in_place(&mut unit, lent, &s.packet, out));
         }
         steps.len() as u64
     }
@@ -198,51 +203,68 @@ impl Row {
 
 /// The sample sheds, but those that stop when made: name, stream, and whether its run is short enough to be done whole.
 fn sheds() -> Vec<(String, Vec<u8>, bool)> {
-    let folder = Path::new(env!("CARGO_MANIFEST_DIR")).join("vectors");
-    let mut files: Vec<_> = std::fs::read_dir(folder).expect("vectors").map(|entry| entry.unwrap().path()).collect();
-    files.retain(|path| path.extension().is_some_and(|end| end == "table"));
-    files.sort();
     let shed = |path: &std::path::PathBuf| {
         let stream = sample::read(&std::fs::read(path).unwrap()).expect("an accepted table");
         let name = path.file_stem().unwrap().to_string_lossy().into_owned();
         (name, stream, path.with_extension("listing").exists())
     };
-    files.iter().map(shed).filter(|(_, stream, _)| !steps(stream, 1).is_empty()).collect()
+    let runs = |stream: &[u8]| !steps(ValueOrder::Ascending, stream, 1).is_empty();
+    sample::tables().iter().map(shed).filter(|(_, stream, _)| runs(stream)).collect()
 }
 
 /// The first steps of a run, cell 0 each time.
-fn steps(stream: &[u8], most: usize) -> Vec<Step> {
+fn steps(order: ValueOrder, stream: &[u8], most: usize) -> Vec<Step> {
     let (n, sizes) = table::head(stream);
     let mut pool = vec![0; network::POOL];
-    let mut shed: Network = network::make(stream, &mut pool).expect("an accepted table");
+    let mut shed: Network = network::make_by(order, stream, &mut pool).expect("an accepted table");
     let mut steps = Vec::new();
     while steps.len() < most && !shed.units[0].has_stopped() {
         let packet = pool[..64].to_vec();
         let own = packet[2];
         let costs = costs::of_unit(stream, own as usize);
-        steps.push(Step { unit: shed.units[own as usize - 1], own, n, sizes, costs, packet });
-        network::deliver(&mut shed, stream, &mut pool, 0).expect("a delivery of a run");
+        steps.push(Step { order, unit: shed.units[own as usize - 1], own, n, sizes, costs, packet });
+        network::deliver_by(order, &mut shed, stream, &mut pool, 0).expect("a delivery of a run");
     }
     steps
 }
 
+/// Ascending, a call has its plain name.
+fn name(call: &str, order: ValueOrder, sample: &str) -> String {
+    match order {
+        ValueOrder::Ascending => format!("{call} {sample}"),
+        ValueOrder::CheapestFirst => format!("{call}-cheapest {sample}"),
+    }
+}
+
+fn settle_row(order: ValueOrder, sample: &str, stream: Vec<u8>) -> Row {
+    let pool = RefCell::new(vec![0; network::POOL]);
+    let work = move |library: &dyn Library| library.settle(order, black_box(&stream), &mut pool.borrow_mut());
+    row(name("settle", order, sample), "delivery", work)
+}
+
+fn deliver_row(order: ValueOrder, sample: &str, stream: Vec<u8>) -> Row {
+    let pool = RefCell::new(vec![0; network::POOL]);
+    let work = move |library: &dyn Library| library.deliver(order, black_box(&stream), &mut pool.borrow_mut(), 500);
+    row(name("deliver", order, sample), "delivery", work)
+}
+
+fn step_row(order: ValueOrder, sample: &str, stream: Vec<u8>) -> Row {
+    let (steps, out) = (steps(order, &stream, 500), RefCell::new([0; unit::OUT]));
+    let work = move |library: &dyn Library| library.step(black_box(&steps), &mut *out.borrow_mut());
+    row(name("step", order, sample), "step", work)
+}
+
+/// Of each call the rows in ascending order, then those cheapest first.
 fn run_rows() -> Vec<Row> {
-    let pool = || RefCell::new(vec![0; network::POOL]);
     let mut rows = Vec::new();
-    for (name, stream, _) in sheds().into_iter().filter(|(_, _, whole)| *whole) {
-        let pool = pool();
-        let work = move |library: &dyn Library| library.settle(black_box(&stream), &mut pool.borrow_mut());
-        rows.push(row(format!("settle {name}"), "delivery", work));
+    for order in ValueOrder::BOTH {
+        let whole = sheds().into_iter().filter(|(_, _, whole)| *whole);
+        rows.extend(whole.map(|(name, stream, _)| settle_row(order, &name, stream)));
     }
-    for (name, stream, _) in sheds() {
-        let pool = pool();
-        let work = move |library: &dyn Library| library.deliver(black_box(&stream), &mut pool.borrow_mut(), 500);
-        rows.push(row(format!("deliver {name}"), "delivery", work));
-    }
-    for (name, stream, _) in sheds() {
-        let (steps, out) = (steps(&stream, 500), RefCell::new([0; unit::OUT]));
-        let work = move |library: &dyn Library| library.step(black_box(&steps), &mut *out.borrow_mut());
-        rows.push(row(format!("step {name}"), "step", work));
+    for make in [deliver_row, step_row] {
+        for order in ValueOrder::BOTH {
+            rows.extend(sheds().into_iter().map(|(name, stream, _)| make(order, &name, stream)));
+        }
     }
     rows
 }
@@ -304,7 +326,7 @@ fn other_rows() -> Vec<Row> {
         .over(64),
     ];
     for n in [4, 8, 16] {
-        let (steps, out) = (steps(&stream(n, 4), 500), RefCell::new([0; unit::OUT]));
+        let (steps, out) = (steps(ValueOrder::Ascending, &stream(n, 4), 500), RefCell::new([0; unit::OUT]));
         let work = move |library: &dyn Library| library.plain_step(black_box(&steps), &mut *out.borrow_mut());
         rows.push(row(format!("plain step, {n} units of 4"), "call", work));
     }
@@ -367,6 +389,7 @@ fn once(rows: &[Row]) {
 const HEAD: &str = "\
 Rattle library beside a yardstick: tuned, the harness's tuned run (settle checks its table once; deliver and step check all that they are lent), or second,
 its second implementation. A second: how many deliveries, steps or calls. Instructions: for each of them, by callgrind, - without it.
+Values are tried in ascending order; cheapest first in the rows that say so.
 ";
 
 fn main() {
@@ -381,7 +404,7 @@ fn main() {
         return once(&rows);
     }
     println!("{HEAD}");
-    print!("{:<26} {:<9} {:<9}", "call and sample", "yardstick", "counted");
+    print!("{:<33} {:<9} {:<9}", "call and sample", "yardstick", "counted");
     print!(" {:>14} {:>14} {:>7}", "Rattle/second", "yardstick/sec", "slower");
     println!(" {:>14} {:>14} {:>7}", "Rattle instr.", "yardst. instr.", "more");
     let mut means: Vec<(String, Vec<f64>, Vec<f64>)> = Vec::new();
@@ -391,7 +414,7 @@ fn main() {
         let cost = [0, 1]
             .map(|side| instructions(counts.as_deref(), 2 * k + side).map(|number| number as f64 / done[side] as f64));
         let slower = speed[1] / speed[0];
-        print!("{:<26} {:<9} {:<9}", row.name, row.beside, row.counted);
+        print!("{:<33} {:<9} {:<9}", row.name, row.beside, row.counted);
         print!(" {:>14.0} {:>14.0} {slower:>7.1}", speed[0], speed[1]);
         let rate = match row.bytes {
             0 => String::new(),
@@ -420,7 +443,7 @@ fn main() {
         let more = if numbers.is_empty() { "-".to_string() } else { format!("{:.1}", mean(&numbers)) };
         let what = format!("{call}, mean of all");
         println!(
-            "{what:<26} {:<9} {:<9} {:>14} {:>14} {:>7.1} {:>14} {:>14} {more:>7}",
+            "{what:<33} {:<9} {:<9} {:>14} {:>14} {:>7.1} {:>14} {:>14} {more:>7}",
             "",
             "",
             "",

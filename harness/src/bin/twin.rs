@@ -1,15 +1,20 @@
 //! The two programs of document 01 by the reference implementation: `twin shed` and `twin bench` read a table's file on standard input.
+//! The shed tries values in ascending order, as 01's listing does; `twin shed cheapest` tries the cheapest first (02's job 9).
 
+use harness::reference::order::ValueOrder;
 use harness::sample;
 use std::io::Read;
 use std::process::exit;
 
 fn main() {
-    let program = match std::env::args().nth(1).as_deref() {
-        Some("shed") => sample::shed,
-        Some("bench") => sample::bench,
+    let words: Vec<String> = std::env::args().skip(1).collect();
+    let words: Vec<&str> = words.iter().map(String::as_str).collect();
+    let program = match words[..] {
+        ["shed"] => sample::shed,
+        ["shed", "cheapest"] => |file: &[u8]| sample::shed_by(ValueOrder::CheapestFirst, file),
+        ["bench"] => sample::bench,
         _ => {
-            eprintln!("twin shed|bench");
+            eprintln!("twin shed|shed cheapest|bench");
             exit(2)
         }
     };

@@ -5,12 +5,14 @@
 //! vectors steps TABLE [LIMIT]     each step of that run: own number, unit before, packet, refusal, unit after, records, packets sent
 //! vectors messages TABLE COUNT    messages good and bad, each after the number that reading it gives (0 accepted)
 //!
+//! Values are tried in ascending order, as in 01's listing.
 //! A unit is 138 bytes, its fields in the order of 01's state: threshold (16 bytes), bound (4), best (16), estimates (16 × 4),
 //! stamp (16), values (16), cost (4), counter (1), stopped (1); numbers little-endian.
 
 use harness::generate;
 use harness::random::Random;
 use harness::reference::network::{self, Network};
+use harness::reference::order::ValueOrder;
 use harness::reference::unit::{self, Unit};
 use harness::reference::{costs, message, table};
 use harness::sample;
@@ -33,16 +35,18 @@ fn unit_bytes(unit: &Unit) -> Vec<u8> {
     bytes
 }
 
+const ORDER: ValueOrder = ValueOrder::Ascending;
+
 /// Calls `each` with the network and the packet before every delivery of the run.
 fn run(stream: &[u8], limit: usize, mut each: impl FnMut(&Network, &[u8])) {
     let mut pool = vec![0; network::POOL];
-    let mut shed = network::make(stream, &mut pool).unwrap_or_else(refused);
+    let mut shed = network::make_by(ORDER, stream, &mut pool).unwrap_or_else(refused);
     for _ in 0..limit {
         if shed.units[0].has_stopped() {
             return;
         }
         each(&shed, &pool[..64]);
-        network::deliver(&mut shed, stream, &mut pool, 0).unwrap_or_else(refused);
+        network::deliver_by(ORDER, &mut shed, stream, &mut pool, 0).unwrap_or_else(refused);
     }
 }
 
@@ -51,7 +55,8 @@ fn print_step(stream: &[u8], shed: &Network, packet: &[u8]) {
     let own = packet[2];
     let before = &shed.units[own as usize - 1];
     let mut out = [0; unit::OUT];
-    let answer = unit::step(before, own, n, &sizes, &costs::of_unit(stream, own as usize), packet, &mut out);
+    let costs = costs::of_unit(stream, own as usize);
+    let answer = unit::step_by(ORDER, before, own, n, &sizes, &costs, packet, &mut out);
     println!("own {own}");
     println!("before {}", hex(&unit_bytes(before)));
     println!("packet {}", hex(packet));

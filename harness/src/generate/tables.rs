@@ -55,14 +55,19 @@ impl Forbidding {
         }
         let one = random.below(n) as usize;
         let other = (one + random.between(1, n - 1) as usize) % n as usize;
-        match random.below(20) {
-            0..=9 => Forbidding::Nothing,
-            10 | 11 => Forbidding::OnceIn(20),
-            12 | 13 => Forbidding::OnceIn(5),
-            14 => Forbidding::OnceIn(2),
-            15 | 16 => Forbidding::Alike,
-            17 => Forbidding::Units(one.min(other), one.max(other)),
-            18 => Forbidding::Value(one, random.below(u64::from(sizes[one])) as u8, other),
+        match random.below(26) {
+            0..=12 => Forbidding::Nothing,
+            13 | 14 => Forbidding::OnceIn(20),
+            15 | 16 => Forbidding::OnceIn(5),
+            17 => Forbidding::OnceIn(2),
+            18 | 19 => Forbidding::Alike,
+            20 => Forbidding::Units(one.min(other), one.max(other)),
+            21 => Forbidding::Value(one, random.below(u64::from(sizes[one])) as u8, other),
+            // one value of a unit without an h
+            22..=24 => {
+                let (one, other) = (one.min(other), one.max(other));
+                Forbidding::Value(one, random.below(u64::from(sizes[one])) as u8, other)
+            }
             _ => *random.pick(&[Forbidding::Units(0, one.max(1)), Forbidding::All]),
         }
     }
@@ -152,7 +157,7 @@ pub fn damage_stream(random: &mut Random, stream: &mut Vec<u8>) {
     let count = usize::from(form == Form::Two);
     let n = stream[count] as usize;
     let (unary, pairs) = cases::begin_in_stream(stream);
-    match random.below(10) {
+    match random.below(12) {
         0 => stream[count] = *random.pick(&[0, 17, 200, 201, 255]),
         1 => stream[count + random.between(1, n as u64) as usize] = *random.pick(&[0, 17, 255]),
         2 => stream.truncate(random.below(stream.len() as u64) as usize),
@@ -160,9 +165,9 @@ pub fn damage_stream(random: &mut Random, stream: &mut Vec<u8>) {
         4 => stream.truncate(1),
         5 => stream.extend(vec![random.byte(); random.between(1, 3) as usize]),
         6 => damage_cost(random, &mut stream[pairs..]),
-        7 => damage_cost(random, &mut stream[unary..pairs]),
-        8 if form == Form::Two => drop(stream.remove(0)),
-        8 => stream.insert(0, FORM_TWO),
+        7..=9 => damage_cost(random, &mut stream[unary..pairs]),
+        10 if form == Form::Two => drop(stream.remove(0)),
+        10 => stream.insert(0, FORM_TWO),
         _ => {
             let at = random.below(stream.len() as u64) as usize;
             stream[at] = random.byte();

@@ -1,6 +1,7 @@
 //! Unary and pair costs, as a whole table and as one unit sees them; units and values count from 1. A unary cost is what 02's job 7 calls a
 //! value's own cost.
 
+use super::order::ValueOrder;
 use super::table::{self, number_at};
 use super::{Places, Refusal, FORBIDDEN_PAIR, NONE};
 use std::cell::Cell;
@@ -167,7 +168,9 @@ pub struct View<'a> {
     /// Where the costs with each other unit begin.
     starts: [usize; 16],
     /// h of each own value.
-    h: [Cost; 16],
+    h: Vec<Cost>,
+    /// The own values in the order in which they are tried.
+    pub tried: Vec<usize>,
     /// How often a cost with each other unit was looked up, those for h left out. For the experiment only.
     pub checks: [Cell<u64>; 16],
 }
@@ -175,16 +178,19 @@ pub struct View<'a> {
 impl<'a> View<'a> {
     /// All of it has been checked: n, sizes, own number and the number of costs.
     pub fn new(own: usize, n: usize, sizes: &Places, costs: &'a [u8]) -> View<'a> {
-        let h = [Cost::Of(0); 16];
-        let mut view = View { own, n, sizes: *sizes, costs, starts: [0; 16], h, checks: Default::default() };
+        View::new_by(ValueOrder::default(), own, n, sizes, costs)
+    }
+
+    pub fn new_by(order: ValueOrder, own: usize, n: usize, sizes: &Places, costs: &'a [u8]) -> View<'a> {
+        let (h, tried, checks) = (Vec::new(), Vec::new(), Default::default());
+        let mut view = View { own, n, sizes: *sizes, costs, starts: [0; 16], h, tried, checks };
         let mut at = 2 * view.size(own);
         for j in (1..=n).filter(|j| *j != own) {
             view.starts[j - 1] = at;
             at += 2 * view.size(own) * view.size(j);
         }
-        for v in 1..=view.size(own) {
-            view.h[v - 1] = (own + 1..=n).map(|j| view.least_with(j, v)).sum();
-        }
+        view.h = (1..=view.size(own)).map(|v| (own + 1..=n).map(|j| view.least_with(j, v)).sum()).collect();
+        view.tried = order.tried(&view.h);
         view
     }
 
@@ -213,6 +219,17 @@ impl<'a> View<'a> {
     /// of h".
     pub fn h(&self, v: usize) -> Cost {
         self.h[v - 1]
+    }
+
+    /// 01: "the own value's place in the order tried", from 1. It is one of the unit's.
+    pub fn place(&self, v: usize) -> usize {
+        1 + self.tried.iter().position(|tried| *tried == v).expect("a value of the unit")
+    }
+
+    /// 01: "the values after the current one", all of them after none, 0. 02's job 9: ""After the current one" means in that order".
+    pub fn after(&self, current: usize) -> &[usize] {
+        let tried_before = if current == 0 { 0 } else { self.place(current) };
+        &self.tried[tried_before..]
     }
 
     /// What own value v adds to the values of units 1 to `count`: its unary cost, and its costs with them.

@@ -1,11 +1,12 @@
-//! Documents 01 and 02 (jobs 1, 3 and 7) in plain Rust, one module for each part of them. Refusals are their numbers, the first in their
-//! order.
+//! Documents 01 and 02 (jobs 1, 3, 7 and 9) in plain Rust, one module for each part of them. Refusals are their numbers, the first in their
+//! order. A call that tries values has a twin whose name ends in `by`, and whose first argument is the order in which it tries them.
 
 pub mod checksum;
 pub mod convert;
 pub mod costs;
 pub mod message;
 pub mod network;
+pub mod order;
 pub mod readings;
 pub mod search;
 pub mod table;

@@ -2,9 +2,10 @@
 
 use super::costs::{self, View};
 use super::message::{self, SIZE};
+use super::order::ValueOrder;
 use super::table;
 use super::unit::{self, Unit};
-use super::{Places, Refusal};
+use super::Refusal;
 
 pub const CELLS: usize = 1_024;
 pub const POOL: usize = CELLS * SIZE;
@@ -21,6 +22,10 @@ pub struct Network {
 
 /// Refusals 5, 6, 7, 13.
 pub fn make(stream: &[u8], pool: &mut [u8]) -> Result<Network, Refusal> {
+    make_by(ValueOrder::default(), stream, pool)
+}
+
+pub fn make_by(order: ValueOrder, stream: &[u8], pool: &mut [u8]) -> Result<Network, Refusal> {
     table::check_stream(stream)?;
     if pool.len() < POOL {
         return Err(13);
@@ -29,7 +34,7 @@ pub fn make(stream: &[u8], pool: &mut [u8]) -> Result<Network, Refusal> {
     let mut network = Network { units: [unit::fresh(); 16], ..Network::default() };
     for own in 1..=n as usize {
         let costs = costs::of_unit(stream, own);
-        let made = unit::start(&View::new(own, n as usize, &sizes, &costs));
+        let made = unit::start(&View::new_by(order, own, n as usize, &sizes, &costs));
         network.units[own - 1] = made.unit;
         network.records += u128::from(made.records);
         append(&mut network, pool, &made.sent);
@@ -39,12 +44,23 @@ pub fn make(stream: &[u8], pool: &mut [u8]) -> Result<Network, Refusal> {
 
 /// Refusals 13, 5, 6, 7, 5 (states, pool count), 12, 15, the step's from 8 on, 14. Refused: nothing changes.
 pub fn deliver(network: &mut Network, stream: &[u8], pool: &mut [u8], cell: u64) -> Result<(), Refusal> {
+    deliver_by(ValueOrder::default(), network, stream, pool, cell)
+}
+
+/// 02's job 9: "in a run, the making and every delivery or echo name the same" order.
+pub fn deliver_by(
+    order: ValueOrder,
+    network: &mut Network,
+    stream: &[u8],
+    pool: &mut [u8],
+    cell: u64,
+) -> Result<(), Refusal> {
     if pool.len() < POOL {
         return Err(13);
     }
     table::check_stream(stream)?;
     let (n, sizes) = table::head(stream);
-    check_states(network, stream, n, &sizes)?;
+    check_states(order, network, stream)?;
     if network.units[0].has_stopped() {
         return Err(12);
     }
@@ -55,7 +71,7 @@ pub fn deliver(network: &mut Network, stream: &[u8], pool: &mut [u8], cell: u64)
     let packet = &pool[SIZE * cell..SIZE * (cell + 1)];
     let own = receiver_of(packet, n);
     let costs = costs::of_unit(stream, own);
-    let view = View::new(own, n as usize, &sizes, &costs);
+    let view = View::new_by(order, own, n as usize, &sizes, &costs);
     let decision = unit::step_packet(&view, &network.units[own - 1], packet)?;
     if network.count as usize - 1 + decision.sent.len() > CELLS {
         return Err(14);
@@ -70,20 +86,23 @@ pub fn deliver(network: &mut Network, stream: &[u8], pool: &mut [u8], cell: u64)
 
 /// Making, then cell 0 each time until unit 1 has stopped.
 pub fn settle(stream: &[u8], pool: &mut [u8]) -> Result<Network, Refusal> {
-    let mut network = make(stream, pool)?;
+    settle_by(ValueOrder::default(), stream, pool)
+}
+
+pub fn settle_by(order: ValueOrder, stream: &[u8], pool: &mut [u8]) -> Result<Network, Refusal> {
+    let mut network = make_by(order, stream, pool)?;
     while !network.units[0].has_stopped() {
-        deliver(&mut network, stream, pool, 0)?;
+        deliver_by(order, &mut network, stream, pool, 0)?;
     }
     Ok(network)
 }
 
 /// Refusal 5 for any unit's state or the pool count.
-fn check_states(network: &Network, stream: &[u8], n: u8, sizes: &Places) -> Result<(), Refusal> {
+fn check_states(order: ValueOrder, network: &Network, stream: &[u8]) -> Result<(), Refusal> {
+    let (n, sizes) = table::head(stream);
     for own in 1..=n as usize {
         let costs = costs::of_unit(stream, own);
-        if !unit::in_range(&View::new(own, n as usize, sizes, &costs), &network.units[own - 1]) {
-            return Err(5);
-        }
+        unit::check_state(&View::new_by(order, own, n as usize, &sizes, &costs), &network.units[own - 1])?;
     }
     if network.count > CELLS as u64 {
         return Err(5);

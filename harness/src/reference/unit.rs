@@ -2,6 +2,7 @@
 
 use super::costs::{self, Cost, View};
 use super::message::{self, Message};
+use super::order::ValueOrder;
 use super::{bound_in_range, check_sizes, cost_limit, filled, table, Places, Refusal, MAX_ESTIMATE, NONE};
 use std::cmp::Ordering;
 
@@ -48,56 +49,81 @@ pub struct Decision {
 
 /// Refusals 5, 10, 6, 7, 13. A refused making gives an all-zero unit.
 pub fn make(own: u8, n: u8, sizes: &Places, costs: &[u8], out: &mut [u8]) -> Answer {
-    match try_make(own, n, sizes, costs, out.len()) {
-        Ok(decision) => send(decision, out),
-        Err(refusal) => Answer { refusal, unit: Unit::default(), sent: 0, records: 0 },
-    }
+    make_by(ValueOrder::default(), own, n, sizes, costs, out)
 }
 
-fn try_make(own: u8, n: u8, sizes: &Places, costs: &[u8], out: usize) -> Result<Decision, Refusal> {
-    check_sizes(n, sizes)?;
-    check_own(own, n)?;
-    check_costs(own, n, sizes, costs)?;
-    if out < OUT {
-        return Err(13);
-    }
-    Ok(start(&View::new(own as usize, n as usize, sizes, costs)))
+pub fn make_by(order: ValueOrder, own: u8, n: u8, sizes: &Places, costs: &[u8], out: &mut [u8]) -> Answer {
+    let decided = check_seat(order, own, n, sizes, costs).and_then(|view| {
+        check_out(out)?;
+        Ok(start(&view))
+    });
+    answer(decided, &Unit::default(), out)
 }
 
 /// Refusals 13, 5 (n, sizes), 10 (own number), 6, 7, 5 (state), 8, 10, 9, 12, 11. A refused step gives the unit as lent.
 pub fn step(unit: &Unit, own: u8, n: u8, sizes: &Places, costs: &[u8], packet: &[u8], out: &mut [u8]) -> Answer {
-    match try_step(unit, own, n, sizes, costs, packet, out.len()) {
-        Ok(decision) => send(decision, out),
-        Err(refusal) => Answer { refusal, unit: *unit, sent: 0, records: 0 },
-    }
+    step_by(ValueOrder::default(), unit, own, n, sizes, costs, packet, out)
 }
 
-fn try_step(
+#[allow(clippy::too_many_arguments)] // as C lends them
+pub fn step_by(
+    order: ValueOrder,
     unit: &Unit,
     own: u8,
     n: u8,
     sizes: &Places,
     costs: &[u8],
     packet: &[u8],
-    out: usize,
-) -> Result<Decision, Refusal> {
-    if out < OUT {
-        return Err(13);
-    }
-    let view = check_lent(unit, own, n, sizes, costs)?;
-    step_packet(&view, unit, packet)
+    out: &mut [u8],
+) -> Answer {
+    let decided = check_out(out).and_then(|()| {
+        let view = check_seat(order, own, n, sizes, costs)?;
+        check_state(&view, unit)?;
+        step_packet(&view, unit, packet)
+    });
+    answer(decided, unit, out)
 }
 
-/// What a step is lent beside the packet and the output, as the unit sees it. Refusals 5 (n, sizes), 10 (own number), 6, 7, 5 (state).
-pub fn check_lent<'a>(unit: &Unit, own: u8, n: u8, sizes: &Places, costs: &'a [u8]) -> Result<View<'a>, Refusal> {
+/// Whether a lent state is in range: 5 (n, sizes), 10 (own number), 6, 7, 5 (state).
+pub fn check_lent(unit: &Unit, own: u8, n: u8, sizes: &Places, costs: &[u8]) -> Result<(), Refusal> {
+    check_lent_by(ValueOrder::default(), unit, own, n, sizes, costs)
+}
+
+pub fn check_lent_by(
+    order: ValueOrder,
+    unit: &Unit,
+    own: u8,
+    n: u8,
+    sizes: &Places,
+    costs: &[u8],
+) -> Result<(), Refusal> {
+    check_state(&check_seat(order, own, n, sizes, costs)?, unit)
+}
+
+/// Refusal 13 of a buffer for sending.
+pub fn check_out(out: &[u8]) -> Result<(), Refusal> {
+    if out.len() < OUT {
+        Err(13)
+    } else {
+        Ok(())
+    }
+}
+
+/// The table as a unit sees it. Refusals 5 (n, sizes), 10 (own number), 6, 7.
+pub fn check_seat<'a>(order: ValueOrder, own: u8, n: u8, sizes: &Places, costs: &'a [u8]) -> Result<View<'a>, Refusal> {
     check_sizes(n, sizes)?;
     check_own(own, n)?;
     check_costs(own, n, sizes, costs)?;
-    let view = View::new(own as usize, n as usize, sizes, costs);
-    if !in_range(&view, unit) {
-        return Err(5);
+    Ok(View::new_by(order, own as usize, n as usize, sizes, costs))
+}
+
+/// Refusal 5 of a state.
+pub fn check_state(view: &View, unit: &Unit) -> Result<(), Refusal> {
+    if in_range(view, unit) {
+        Ok(())
+    } else {
+        Err(5)
     }
-    Ok(view)
 }
 
 /// The part of a step that a delivery shares: refusals 8, 10, 9, 12, 11.
@@ -109,7 +135,12 @@ pub fn step_packet(view: &View, unit: &Unit, packet: &[u8]) -> Result<Decision, 
     decide(view, unit, kind, &message)
 }
 
-fn send(decision: Decision, out: &mut [u8]) -> Answer {
+/// What is sent goes to the front of `out`; a refusal comes with the unit named, and leaves `out`.
+pub fn answer(decided: Result<Decision, Refusal>, refused: &Unit, out: &mut [u8]) -> Answer {
+    let decision = match decided {
+        Ok(decision) => decision,
+        Err(refusal) => return Answer { refusal, unit: *refused, sent: 0, records: 0 },
+    };
     for (k, (kind, message)) in decision.sent.iter().enumerate() {
         out[64 * k..64 * (k + 1)].copy_from_slice(&message::encode(*kind, message));
     }
@@ -136,7 +167,7 @@ fn check_costs(own: u8, n: u8, sizes: &Places, costs: &[u8]) -> Result<(), Refus
 }
 
 /// 01: "A lent state is in range when ..".
-pub fn in_range(view: &View, unit: &Unit) -> bool {
+fn in_range(view: &View, unit: &Unit) -> bool {
     let limits = unit.stopped <= 1
         && unit.threshold.iter().all(|byte| *byte <= 17)
         && unit.estimates.iter().all(|estimate| *estimate <= MAX_ESTIMATE)
@@ -155,7 +186,8 @@ fn cpa_in_range(view: &View, unit: &Unit) -> bool {
     if !message_limits {
         return false;
     }
-    let counted = unit.counter == unit.stamp[own - 1] && unit.counter <= value;
+    // 01: "at most the own value's place in the order tried"
+    let counted = unit.counter == unit.stamp[own - 1] && unit.counter as usize <= view.place(value as usize);
     let fresh = compare(&unit.threshold, &unit.stamp, own) != Ordering::Less;
     // 02's job 3: "A lent paper whose own value is barred with a filled one is out of range"
     let Cost::Of(own_costs) = view.added(&unit.values, own - 1, value as usize) else { return false };
@@ -337,11 +369,11 @@ impl<'a> Work<'a> {
     fn next_value(&self) -> Option<(usize, u32)> {
         let own = self.view.own;
         let before = self.cost_without_own();
-        for v in self.own_value() + 1..=self.view.size(own) {
-            let cost = Cost::Of(before) + self.view.added(&self.unit.values, own - 1, v);
-            let (Cost::Of(cost), Cost::Of(h)) = (cost, self.view.h(v)) else { continue };
+        for v in self.view.after(self.own_value()) {
+            let cost = Cost::Of(before) + self.view.added(&self.unit.values, own - 1, *v);
+            let (Cost::Of(cost), Cost::Of(h)) = (cost, self.view.h(*v)) else { continue };
             if cost + h < self.unit.bound {
-                return Some((v, cost));
+                return Some((*v, cost));
             }
         }
         None
