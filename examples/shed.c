@@ -2,8 +2,9 @@
  *
  *     shed FILE      FILE: a stored table, as harness/vectors/t.table
  *
- * The radio is a queue here: what was sent first arrives first. Prints what the shed program prints: the least total, each unit's value,
- * and how many records were written and packets accepted by the time box 1 stopped. scripts/examples builds and runs it. */
+ * The radio is a queue here: what was sent first arrives first. The calls are told no order of values, so the boxes try the cheapest first, and
+ * it prints what the shed program prints with the argument `cheapest`: the least total, each unit's value, and how many records were written and
+ * packets accepted by the time box 1 stopped. scripts/examples builds and runs it. */
 #include "../include/riksamoe.h"
 
 #include <stdio.h>

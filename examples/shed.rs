@@ -2,8 +2,9 @@
 //!
 //!     shed FILE      FILE: a stored table, as harness/vectors/t.table
 //!
-//! The radio is a queue here: what was sent first arrives first. Prints what the shed program prints: the least total, each unit's
-//! value, and how many records were written and packets accepted by the time box 1 stopped. scripts/examples builds and runs it.
+//! The radio is a queue here: what was sent first arrives first. The boxes are told to try their values ascending, so it prints what the
+//! shed program prints: the least total, each unit's value, and how many records were written and packets accepted by the time box 1
+//! stopped. scripts/examples builds and runs it.
 
 use std::collections::VecDeque;
 use std::process::exit;
@@ -58,7 +59,8 @@ mod riksamoe {
         pub fn riksamoe_units(stream: *const u8, length: usize) -> u8;
         pub fn riksamoe_sizes(stream: *const u8, length: usize) -> Sizes;
         pub fn riksamoe_costs(stream: *const u8, length: usize, own: u8, out: *mut u8, room: usize) -> Length;
-        pub fn riksamoe_unit_make(
+        pub fn riksamoe_unit_make_by(
+            order: u8,
             own: u8,
             n: u8,
             sizes: Sizes,
@@ -67,7 +69,8 @@ mod riksamoe {
             out: *mut u8,
             room: usize,
         ) -> Outcome;
-        pub fn riksamoe_unit_step_in_place(
+        pub fn riksamoe_unit_step_in_place_by(
+            order: u8,
             unit: &mut Unit,
             own: u8,
             n: u8,
@@ -87,6 +90,7 @@ use riksamoe::*;
 const STREAM: usize = 61_970;
 const SENDING: usize = 1_024;
 const COSTS: usize = 7_712;
+const ASCENDING: u8 = 0; // the order of values: RIKSAMOE_ASCENDING
 
 type Packet = [u8; 64];
 type Refusal = u8;
@@ -124,7 +128,8 @@ impl Node {
                 return Err(gathered.refusal);
             }
             costs.truncate(gathered.length);
-            (sizes, riksamoe_unit_make(own, n, sizes, costs.as_ptr(), costs.len(), out.as_mut_ptr(), out.len()))
+            let (lent, room) = (out.as_mut_ptr(), out.len());
+            (sizes, riksamoe_unit_make_by(ASCENDING, own, n, sizes, costs.as_ptr(), costs.len(), lent, room))
         };
         if made.refusal != 0 {
             return Err(made.refusal);
@@ -139,7 +144,8 @@ impl Node {
         let (costs, costs_length) = (self.costs.as_ptr(), self.costs.len());
         let (room, lent) = (out.len(), out.as_mut_ptr());
         let report = unsafe {
-            riksamoe_unit_step_in_place(
+            riksamoe_unit_step_in_place_by(
+                ASCENDING,
                 &mut self.unit,
                 self.own,
                 self.n,

@@ -21,6 +21,11 @@
  * RIKSAMOE_FORM_TWO; n; the sizes; what each value of each unit costs alone, unit by unit (unary costs, 0 to 60,000); the pair costs. Costs
  * are 16-bit numbers, the low byte first. Every call takes both; in form one all unary costs are 0. A stream is written in its own form.
  *
+ * A box tries its values by rising h (the lookahead bound of the AFB paper: the least that the later units must still add), the lower number
+ * first on a tie, values without an h last. The calls with `_by` in their name are told an order of values, RIKSAMOE_ASCENDING or
+ * RIKSAMOE_CHEAPEST_FIRST; the same calls without it take the cheapest first. A state doesn't keep the order: all calls of one run must name the
+ * same. Two runs may differ in theirs: both come to the least total.
+ *
  * A stale packet is accepted, changes nothing and sends nothing. Packets may come in any order; none may be lost.
  *
  * Buffers. A pointer and the length after it are lent for the call alone: nothing keeps them. Lend no buffer twice in one call. Each
@@ -34,26 +39,33 @@
  * Stack. Bytes that a call needs at most, its return address counted, beside what the three functions of the C library use; structs that
  * pass by value stand in the caller's own frame (a network has 2,280 bytes, an answer 2,288). scripts/stack reads these off the machine code.
  *
- *   riksamoe_checksum                256
- *   riksamoe_block_refusal           256
- *   riksamoe_table_read              512
- *   riksamoe_table_write             512
- *   riksamoe_to_form_one           2,304
- *   riksamoe_to_form_two           2,304
- *   riksamoe_readings_stream         256
- *   riksamoe_units                   256
- *   riksamoe_sizes                   256
- *   riksamoe_costs                 1,024
- *   riksamoe_message_parse           768
- *   riksamoe_message_write           768
- *   riksamoe_unit_make             2,560
- *   riksamoe_unit_in_range         1,280
- *   riksamoe_unit_step             5,376
- *   riksamoe_unit_step_in_place    5,376
- *   riksamoe_network_make         13,312
- *   riksamoe_network_deliver      25,088
- *   riksamoe_network_settle      150,016
- *   riksamoe_search                7,424
+ *   riksamoe_checksum                   256
+ *   riksamoe_block_refusal              256
+ *   riksamoe_table_read                 512
+ *   riksamoe_table_write                512
+ *   riksamoe_to_form_one              2,304
+ *   riksamoe_to_form_two              2,304
+ *   riksamoe_readings_stream            256
+ *   riksamoe_units                      256
+ *   riksamoe_sizes                      256
+ *   riksamoe_costs                    1,024
+ *   riksamoe_message_parse              768
+ *   riksamoe_message_write              768
+ *   riksamoe_unit_make                2,560
+ *   riksamoe_unit_make_by             2,560
+ *   riksamoe_unit_in_range            1,280
+ *   riksamoe_unit_in_range_by         1,280
+ *   riksamoe_unit_step                5,376
+ *   riksamoe_unit_step_by             5,376
+ *   riksamoe_unit_step_in_place       5,632
+ *   riksamoe_unit_step_in_place_by    5,376
+ *   riksamoe_network_make            13,312
+ *   riksamoe_network_make_by         13,312
+ *   riksamoe_network_deliver         29,952
+ *   riksamoe_network_deliver_by      27,648
+ *   riksamoe_network_settle         152,576
+ *   riksamoe_network_settle_by      152,576
+ *   riksamoe_search                   7,424
  */
 #ifndef RIKSAMOE_H
 #define RIKSAMOE_H
@@ -65,7 +77,7 @@
 extern "C" {
 #endif
 
-#define RIKSAMOE_VERSION 5         /* raised where a call, a struct or a promise below changes */
+#define RIKSAMOE_VERSION 6         /* raised where a call, a struct or a promise below changes */
 
 #define RIKSAMOE_UNITS 16          /* places in every array: unit k's is k - 1 */
 #define RIKSAMOE_NONE 4294967295u  /* the bound *none*; the estimate of a unit that has no value left */
@@ -77,6 +89,9 @@ extern "C" {
 #define RIKSAMOE_FILE 62976        /* most bytes of a stored table */
 #define RIKSAMOE_FORM_TWO 200      /* the first byte of a stream of form two */
 #define RIKSAMOE_POOL 65536        /* bytes to lend for a network's pool: 1,024 cells of a packet */
+
+/* Orders in which a unit tries its values. Any other number is taken as RIKSAMOE_CHEAPEST_FIRST. */
+enum { RIKSAMOE_ASCENDING = 0 /* by number */, RIKSAMOE_CHEAPEST_FIRST = 1 /* by rising h, the lower number first on a tie, those without an h last */ };
 
 /* Kinds of message, with the words of the format's paper. */
 enum { RIKSAMOE_CPA = 1 /* paper */, RIKSAMOE_REQUEST = 2 /* copy */, RIKSAMOE_ESTIMATE = 3, RIKSAMOE_SOLUTION = 4 /* news */, RIKSAMOE_STOP = 5 };
@@ -245,42 +260,57 @@ riksamoe_parsed_t riksamoe_message_parse(uint8_t n, riksamoe_sizes_t sizes, cons
 /* A packet of 64 bytes to the front of `out`: 5, 10, 9 (no such kind, too), 13. */
 uint8_t riksamoe_message_write(uint8_t n, riksamoe_sizes_t sizes, uint8_t kind, riksamoe_message_t message, uint8_t *out, size_t room);
 
-/* ---- One unit. Lend RIKSAMOE_SENDING bytes as `out`; what is sent stands at its front, the bytes behind it stay. */
+/* ---- One unit. Lend RIKSAMOE_SENDING bytes as `out`; what is sent stands at its front, the bytes behind it stay. With `_by`, values are tried in
+ * the order named; without, the cheapest first. */
 
 /* Unit `own` of n, new: 5, 10, 6, 7, 13. Unit 1 sends; for n = 1 it has stopped, and so it has where each of its values is forbidden
  * beside all values of some other unit. */
 riksamoe_outcome_t riksamoe_unit_make(uint8_t own, uint8_t n, riksamoe_sizes_t sizes, const uint8_t *costs, size_t costs_length,
                                       uint8_t *out, size_t room);
+riksamoe_outcome_t riksamoe_unit_make_by(uint8_t order, uint8_t own, uint8_t n, riksamoe_sizes_t sizes, const uint8_t *costs,
+                                         size_t costs_length, uint8_t *out, size_t room);
 
 /* Whether a state is in range, as one that was read back from flash may not be: 5 (n, sizes), 10 (own), 6, 7, 5 (state). A step checks the
- * same before it reads its packet. */
+ * same before it reads its packet. It depends on the order: a state's counter is at most its own value's place in it. */
 uint8_t riksamoe_unit_in_range(riksamoe_unit_t unit, uint8_t own, uint8_t n, riksamoe_sizes_t sizes, const uint8_t *costs,
                                size_t costs_length);
+uint8_t riksamoe_unit_in_range_by(uint8_t order, riksamoe_unit_t unit, uint8_t own, uint8_t n, riksamoe_sizes_t sizes,
+                                  const uint8_t *costs, size_t costs_length);
 
 /* The unit after a packet: 13, 5 (n, sizes), 10 (own), 6, 7, 5 (state), 8, 10, 9, 12, 11. */
 riksamoe_outcome_t riksamoe_unit_step(riksamoe_unit_t unit, uint8_t own, uint8_t n, riksamoe_sizes_t sizes, const uint8_t *costs,
                                       size_t costs_length, const uint8_t *packet, size_t packet_length, uint8_t *out, size_t room);
+riksamoe_outcome_t riksamoe_unit_step_by(uint8_t order, riksamoe_unit_t unit, uint8_t own, uint8_t n, riksamoe_sizes_t sizes,
+                                         const uint8_t *costs, size_t costs_length, const uint8_t *packet, size_t packet_length,
+                                         uint8_t *out, size_t room);
 
 /* The same step, the new state written where the old one was lent: the call for a box. */
 riksamoe_report_t riksamoe_unit_step_in_place(riksamoe_unit_t *unit, uint8_t own, uint8_t n, riksamoe_sizes_t sizes,
                                               const uint8_t *costs, size_t costs_length, const uint8_t *packet,
                                               size_t packet_length, uint8_t *out, size_t room);
+riksamoe_report_t riksamoe_unit_step_in_place_by(uint8_t order, riksamoe_unit_t *unit, uint8_t own, uint8_t n, riksamoe_sizes_t sizes,
+                                                 const uint8_t *costs, size_t costs_length, const uint8_t *packet,
+                                                 size_t packet_length, uint8_t *out, size_t room);
 
 /* ---- A network: all units of a table at one place, for tests and trials, where a run can be ordered at will. Lend RIKSAMOE_POOL bytes as
- * `pool`, and to every delivery the same stream, the network as the call before gave it and the pool as it left it. */
+ * `pool`, and to every delivery the same stream and order, the network as the call before gave it and the pool as it left it. */
 
 /* All units, new, and what unit 1 sends in the pool: 5, 6, 7, 13. */
 riksamoe_answer_t riksamoe_network_make(const uint8_t *stream, size_t length, uint8_t *pool, size_t room);
+riksamoe_answer_t riksamoe_network_make_by(uint8_t order, const uint8_t *stream, size_t length, uint8_t *pool, size_t room);
 
 /* The packet at a cell goes to its unit; later cells move down one, and what the unit sends is added at the end: 13, 5 (n, sizes), 6, 7,
  * 5 (states of units 1 to n, cells in use), 12 (unit 1), 15, 8, 10, 9, 12 (the receiver), 11, 14. Units past n are not looked at and come
  * back as lent. */
 riksamoe_answer_t riksamoe_network_deliver(riksamoe_network_t network, const uint8_t *stream, size_t length, uint8_t *pool, size_t room,
                                            uint64_t cell);
+riksamoe_answer_t riksamoe_network_deliver_by(uint8_t order, riksamoe_network_t network, const uint8_t *stream, size_t length,
+                                              uint8_t *pool, size_t room, uint64_t cell);
 
 /* Making, then cell 0 again and again until unit 1 has stopped: 5, 6, 7, 13, as making; proved: it comes to that end, and no delivery on
  * the way is refused. The answer is in unit 1. How long it takes is not bounded by anything short. It keeps the costs of every unit on the stack. */
 riksamoe_answer_t riksamoe_network_settle(const uint8_t *stream, size_t length, uint8_t *pool, size_t room);
+riksamoe_answer_t riksamoe_network_settle_by(uint8_t order, const uint8_t *stream, size_t length, uint8_t *pool, size_t room);
 
 /* ---- The bench: every assignment of a stream's table is tried, so lend it 1,048,576 of them at most, those with a forbidden pair counted
  * too: 5, 6, 7, 16. */
