@@ -13,9 +13,13 @@
  *   3. When a packet arrives, call riksamoe_unit_step_in_place with the kept state, n, sizes, costs, the bytes as they came and an
  *      output of RIKSAMOE_SENDING bytes. If the refusal is 0, send the first `sent` packets of 64 bytes from the output, in their
  *      order; byte 2 of each says to which unit. If it is not 0, nothing has changed and there is nothing to send: drop the packet.
- *   4. Once `stopped` is 1 the box is done, and every later packet that reads well is refused by 12. In box 1 `bound` is then the least
- *      total and `best` the value of each unit (unit k's at best[k - 1]); this is proved. The others are told both by box 1's stop.
- *      Where every assignment has a forbidden pair, `bound` is RIKSAMOE_NONE and `best` all 0; box 1 may then have stopped when made.
+ *   4. Once `stopped` is 1 the box is done, and every later packet that reads well is refused by 12. `bound` is then the least total and
+ *      `best` the value of each unit (unit k's at best[k - 1]), the same in every box: of the assignments with that total the first in the
+ *      order in which the boxes try their values, unit 1's first; ascending, what riksamoe_search gives. Where every assignment has a
+ *      forbidden pair, `bound` is RIKSAMOE_NONE and `best` all 0; box 1 may then have stopped when made.
+ *
+ * All boxes come to this, in whatever order the packets arrive, and a box that has not stopped refuses no packet that another sent to it.
+ * This is proved of boxes that are made of one table with one order of values, where no packet is lost, changed or heard twice.
  *
  * A stored table has one of two forms, told by the first byte of its stream. Form one: n, 1 to 16; the n sizes; the pair costs. Form two:
  * RIKSAMOE_FORM_TWO; n; the sizes; what each value of each unit costs alone, unit by unit (unary costs, 0 to 60,000); the pair costs. Costs
@@ -24,7 +28,7 @@
  * A box tries its values by rising h (the lookahead bound of the AFB paper: the least that the later units must still add), the lower number
  * first on a tie, values without an h last. The calls with `_by` in their name are told an order of values, RIKSAMOE_ASCENDING or
  * RIKSAMOE_CHEAPEST_FIRST; the same calls without it take the cheapest first. A state doesn't keep the order: all calls of one run must name the
- * same. Two runs may differ in theirs: both come to the least total.
+ * same. Two runs may differ in theirs: both come to the least total, though maybe to another assignment that has it.
  *
  * A stale packet is accepted, changes nothing and sends nothing. Packets may come in any order; none may be lost.
  *

@@ -125,6 +125,17 @@ pub fn network_outcome(refusal: u8, network: &Network, lent: Vec<u8>) -> Outcome
     Outcome { refusal, numbers, units: network.units.to_vec(), lent, ..Outcome::default() }
 }
 
+/// The network of an outcome, to be lent again.
+pub fn network_in(outcome: &Outcome) -> Network {
+    let word = |at: usize| u128::from(outcome.numbers[at]);
+    Network {
+        units: std::array::from_fn(|k| outcome.units[k]),
+        count: outcome.numbers[0],
+        records: word(1) | word(2) << 64,
+        deliveries: word(3) | word(4) << 64,
+    }
+}
+
 /// Of a network that was made or settled; refused it is all zero.
 pub fn made_outcome(made: Result<Network, u8>, lent: Vec<u8>) -> Outcome {
     match made {

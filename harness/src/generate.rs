@@ -15,8 +15,8 @@ use crate::reference::table::Form;
 use crate::reference::unit::Unit;
 use crate::reference::{cost_limit, table, Places, MAX_ESTIMATE, MAX_TOTAL, NONE};
 use crate::sample;
-pub use tables::stream_of;
 use tables::{damage_cost, damage_file, damage_stream, dearest, file, sizes, some_stream, stream};
+pub use tables::{searched, stream_of};
 
 // Readings
 

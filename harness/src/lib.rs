@@ -2,6 +2,7 @@
 //!
 //! `reference` is written from the documents alone. Nothing here is proved: it is the other opinion.
 
+pub mod boxes;
 pub mod calls;
 pub mod cases;
 pub mod differential;

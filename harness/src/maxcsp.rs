@@ -133,7 +133,7 @@ impl Clocked<'_> {
             }
         }
         self.units[own - 1] = decision.unit;
-        self.records += decision.records;
+        self.records += decision.records();
         self.sent += decision.sent.len() as u64;
         let clock = self.clocks[own - 1];
         self.waiting.extend(decision.sent.into_iter().map(|(kind, message)| (kind, message, clock)));

@@ -3,6 +3,7 @@
 //! no more deliveries than allowed, a message waiting until the stop, and no refusal. Two sheds of one table report the same total, though
 //! they differ in their order.
 
+use harness::boxes::problem::beginnings;
 use harness::random::Random;
 use harness::reference::costs::{self, Cost};
 use harness::reference::message;
@@ -14,15 +15,8 @@ use std::collections::HashSet;
 
 /// 01: "N is d(1) + d(1) × d(2) + .. up to d(1) × .. × d(n-1)", times 3n - 1.
 fn most_deliveries(stream: &[u8]) -> u128 {
-    let (n, sizes) = table::head(stream);
-    let n = n as usize;
-    let mut product = 1u128;
-    let mut sum = 0;
-    for size in &sizes[..n - 1] {
-        product *= u128::from(*size);
-        sum += product;
-    }
-    (3 * n as u128 - 1) * sum
+    let n = u128::from(table::head(stream).0);
+    (3 * n - 1) * beginnings(stream).iter().sum::<u128>()
 }
 
 fn cell(random: &mut Random, style: u64, count: u64) -> u64 {

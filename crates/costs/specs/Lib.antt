@@ -3,6 +3,7 @@ pub mod Cost
 pub mod Instance
 pub mod Bounds
 pub mod Order
+pub mod Least
 pub mod Lent
 pub mod Gathered
 pub mod Gather

@@ -6,7 +6,7 @@ use mathlib.Core.Path.{_≡_, refl}
 use mathlib.Core.Bool.{Bool, true, false, cond, _&&_, _||_}
 use mathlib.Core.List.{List, [], _∷_, map}
 use lib.Dec.{eqb}
-use lib.ListN.{length, getD}
+use lib.ListN.{length, getD, replicate}
 use Rattle.base.specs.Limits.{poolCells, NONE}
 use Rattle.costs.specs.declared.ValueOrder.{ValueOrder}
 use Rattle.costs.specs.declared.ValueOrder.the-variants.{Ascending, CheapestFirst}
@@ -29,7 +29,7 @@ abbrev after : Instance → List ℕ → Bool × ℕ × List ℕ × ℕ × ℕ
 after I cells = seen Ascending I cells
 
 -- 01: "Table T: n = 2, sizes 2 and 2, costs 5, 3, 2, 4"
-abbrev T : Instance
+abbrev pub T : Instance
 T = record { n = 2; dom = λ k. 2; unary = λ k v. 0; cost = λ i u j v. Of (getD (5 ∷ 3 ∷ 2 ∷ 4 ∷ []) ((u - 1) * 2 + (v - 1)) 0) }
 
 -- three units of two values each: the costs of the pairs (1,2), (1,3), (2,3)
@@ -60,6 +60,16 @@ no-solution = refl
 pub late-estimate : after three (0 ∷ 2 ∷ 2 ∷ 2 ∷ 4 ∷ 4 ∷ []) ≡ (true, 1, 1 ∷ 1 ∷ 1 ∷ [], 3, 6)
 unfolding placeTried valueAt
 late-estimate = refl
+
+-- ---- a tie
+
+-- units of 2 and 3 values; all but unit 1's first with unit 2's first have the least total, 1: the best is the first of them, after 3 deliveries of the 10
+abbrev tie : Instance
+tie = record { n = 2; dom = λ k. k + 2; unary = λ k v. 0; cost = λ i u j v. Of (cond (eqb u 1 && eqb v 1) 2 1) }
+
+pub first-of-a-tie : after tie (replicate 10 0) ≡ (true, 1, 2 ∷ 1 ∷ [], 3, 3)
+unfolding placeTried valueAt
+first-of-a-tie = refl
 
 -- ---- tables with forbidden pairs
 

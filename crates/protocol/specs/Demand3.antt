@@ -19,7 +19,9 @@
 -- Liveness                      until unit 1 stops its CPA waits somewhere; the pool is any predicate on messages
 -- Count                         each record pays for the deliveries that follow from it
 -- Progress                      messages whose step sends more than one are few, so the pool never refuses all
--- Theorem                       the four together
+-- Best                          for each bound there is one best, the first assignment with that total
+-- Theorem                       the five together
+-- Air                           beside demand 3: boxes on radio, where messages go on arriving after unit 1 has stopped
 -- Oldest                        delivered oldest first the pool is a queue, in rounds: each unit sends at most two CPAs in one
 -- Assumes nothing.
 use Prim.Native.Nat.{ℕ, zero, suc, _+_, _*_, _-_, _≤_}
@@ -28,7 +30,7 @@ use mathlib.Core.Logic.{_≢_}
 use mathlib.Core.Bool.{true, false}
 use mathlib.Core.List.{List, [], _++_, map}
 use Rattle.base.specs.Members.{In}
-use Rattle.protocol.specs.Problem.{Problem, Full, ValidBound, N}
+use Rattle.protocol.specs.Problem.{Problem, Full, ValidBound, Passed, N}
 use Rattle.protocol.specs.Machine.{Msg, to, valuesOf, Agent, refused, step, Network}
 
 -- the prefixes that units 0 to k - 1 have written. 01: "At each record unit i writes a beginning"
@@ -56,5 +58,7 @@ pub record Demand3 (P : Problem) (S : Network) : Type 0 where
   -- once it has stopped it reports a least total: none, or that of its best assignment
   pub report : S .units 0 .stopped ≡ true → ValidBound P (S .units 0 .bound) (S .units 0 .best)
   pub least : S .units 0 .stopped ≡ true → (l : List ℕ) → Full P l → S .units 0 .bound ≤ P .cost l
+  -- and the best is the first with that total, in the order tried: all before it costs more
+  pub first : S .units 0 .stopped ≡ true → Passed P (S .units 0 .best) (suc (S .units 0 .bound))
   -- no unit refuses a message that waits
   pub honest : (m : Msg) → In m (S .pool) → step P (S .units (to m)) m ≢ refused

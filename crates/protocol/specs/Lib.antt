@@ -9,7 +9,9 @@ pub mod Safety
 pub mod Liveness
 pub mod Count
 pub mod Progress
+pub mod Best
 pub mod Theorem
+pub mod Air
 pub mod Oldest
 pub mod Cases
 pub mod Simulation

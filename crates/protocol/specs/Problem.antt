@@ -1,13 +1,13 @@
--- The problem: what the protocol asks of a table, and what a valid bound is. `Problem`, `Full`, `Closed` and `Laws`, all that the proof of demand 3
--- may use of costs, are those of `costs`, which shows that they hold of a table.
+-- The problem: what the protocol asks of a table, what a valid bound is, and when all before an assignment costs more. `Problem`, `Full`, `Closed`
+-- and `Laws`, all that the proof of demand 3 may use of costs, are those of `costs`, which shows that they hold of a table.
 --
 -- Units count from 0 here: unit k is 01's unit k + 1. A prefix of k units is the list of their values, the LAST unit's first, so
 -- `v ∷ b` is the prefix b with the value v of unit `length b` behind it. A value is its place, from 1, in the order tried.
 -- Assumes nothing.
-use Prim.Native.Nat.{ℕ, suc, _-_, _≤_}
+use Prim.Native.Nat.{ℕ, suc, _-_, _≤_, _<_}
 use mathlib.Core.Path.{_≡_, refl}
 use mathlib.Core.Logic.{_⊎_, inl, inr}
-use mathlib.Core.List.{List, []}
+use mathlib.Core.List.{List, [], _∷_}
 use native.Mathlib.Omega.{arith}
 use Rattle.base.specs.Sums.{sumTo}
 pub use Rattle.base.specs.Limits.{NONE}
@@ -26,6 +26,19 @@ module _ (P : Problem) where
   pub valid-le-none : {B : ℕ} (l : List ℕ) → ValidBound B l → B ≤ NONE
   valid-le-none l (inl h) = omega (arith, h .0)
   valid-le-none l (inr h) = omega (arith, h .0, h .1 .2)
+
+  -- each smaller value at each place of l is closed at C: all before l, in the order tried, costs at least C
+  abbrev pub Passed : List ℕ → ℕ → Type 0
+  Passed [] C = Unit {0}
+  Passed (w ∷ p) C = ((v : ℕ) → 1 ≤ v → v < w → Closed P (v ∷ p) C) × Passed p C
+
+  pub passed-mono : (l : List ℕ) (C D : ℕ) → D ≤ C → Passed l C → Passed l D
+  passed-mono [] C D le h = tt
+  passed-mono (w ∷ p) C D le h = ((λ v lo hi. closed-mono P (v ∷ p) C D le (h .0 v lo hi)), passed-mono p C D le (h .1))
+
+  -- where the lookahead is below a bound the cost is
+  pub cost-below : Laws P → (b : List ℕ) (B : ℕ) → B ≤ NONE → P .lookahead b < B → P .cost b < B
+  cost-below laws b B le low = omega (arith, low, laws .cost-le-lookahead b (omega (arith, low, le)))
 
   -- 01: "N is d(1) + d(1) × d(2) + .. up to d(1) × .. × d(n-1); 0 for n = 1"
   abbrev pub N : ℕ

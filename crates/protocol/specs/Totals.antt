@@ -45,9 +45,9 @@ total-le f g h (m ∷ l) = omega (arith, h m, total-le f g h l)
 
 -- ---- over units
 
-sum-le : (f g : ℕ → ℕ) (n : ℕ) → ((i : ℕ) → f i ≤ g i) → sumTo f n ≤ sumTo g n
+pub sum-le : (f g : ℕ → ℕ) (n : ℕ) → ((i : ℕ) → i < n → f i ≤ g i) → sumTo f n ≤ sumTo g n
 sum-le f g zero h = omega arith
-sum-le f g (suc n) h = omega (arith, h n, sum-le f g n h)
+sum-le f g (suc n) h = omega (arith, h n (omega arith), sum-le f g n (λ i lt. h i (omega arith)))
 
 -- one term more by c
 pub sum-more : (f g : ℕ → ℕ) (k c n : ℕ) → k < n → ((i : ℕ) → f i ≤ g i) → f k + c ≤ g k → sumTo f n + c ≤ sumTo g n
@@ -58,7 +58,7 @@ sum-more f g k c (suc n) lt h l = go (le-split (suc k) n lt) (λ z. sum-more f g
     go (inl z) ih = omega (arith, ih z, h n)
     go (inr e) ih =
         let q : n ≡ k = omega arith in
-        omega (arith, sum-le f g n h, ap f q, ap g q, l)
+        omega (arith, sum-le f g n (λ i z. h i), ap f q, ap g q, l)
 
 -- no term above c
 pub sum-most : (f : ℕ → ℕ) (c n : ℕ) → ((i : ℕ) → i < n → f i ≤ c) → sumTo f n ≤ c * n

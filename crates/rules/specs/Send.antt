@@ -54,9 +54,13 @@ packets n k s = byPlan n k (s .plan) (s .improved) (s .message)
 
 -- ---- as bytes
 
+-- the 64 bytes of a packet
+abbrev pub packetBytes : Packet → List ℕ
+packetBytes p = encode (p .kind) (p .message)
+
 unfoldable pub encodeAll : List Packet → List ℕ
 encodeAll [] = []
-encodeAll (p ∷ ps) = encode (p .kind) (p .message) ++ encodeAll ps
+encodeAll (p ∷ ps) = packetBytes p ++ encodeAll ps
 
 -- The messages at the front of a buffer, 01: "An output's unused bytes stay."
 unfoldable pub laid : List Packet → List ℕ → List ℕ

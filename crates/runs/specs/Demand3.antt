@@ -10,9 +10,9 @@
 use Rattle.base.specs.Library.{ℕ, _+_, _*_, _-_, _≤_, _≡_, _⊎_, Bool, true, false, cond, List, [], _∷_, _++_, map, eqb, length, take}
 use Rattle.base.specs.Limits.{messageSize}
 use Rattle.costs.specs.declared.ValueOrder.{ValueOrder}
-use Rattle.costs.specs.{Instance.Instance, Instance.instanceOf, Bounds.Reported, Bounds.N}
-use Rattle.message.specs.{Message.Packet, Written.encode}
-use Rattle.rules.specs.{Send.encodeAll, Units.unitAt, Units.Distinct}
+use Rattle.costs.specs.{Instance.Instance, Instance.instanceOf, Bounds.Reported, Bounds.N, Least.LeastFirst, Least.Padded}
+use Rattle.message.specs.Message.{Packet}
+use Rattle.rules.specs.{Send.packetBytes, Send.encodeAll, Units.unitAt, Units.Distinct}
 use Rattle.runs.specs.{declared.Network.Network, Count.valueOf, Pool.cellOf, Run.History, Run.run, Run.written, Calls.Result, Calls.makeOf, Calls.deliverOf}
 
 -- ---- the run on bytes
@@ -113,10 +113,13 @@ pub record Served (order : ValueOrder) (stream pool cells : List ℕ) : Type 0 w
   pub progress : over (runBytes order stream pool cells) ≡ false → (cell : ℕ) × (refusalAt order stream (runBytes order stream pool cells) cell ≡ 0)
   -- once stopped it reports the least total, with an assignment that totals just that, or none where there is no assignment
   pub reported : over (runBytes order stream pool cells) ≡ true → Reported (instanceOf stream) (reportOf (runBytes order stream pool cells) .total) (reportOf (runBytes order stream pool cells) .assignment)
+  -- which is the first with that total, in the order tried
+  pub lotting : over (runBytes order stream pool cells) ≡ true → LeastFirst order (instanceOf stream) (reportOf (runBytes order stream pool cells) .total) (reportOf (runBytes order stream pool cells) .assignment)
+      × Padded (instanceOf stream .n) (reportOf (runBytes order stream pool cells) .assignment)
   -- what accepted deliveries handed over was sent, every message at most once
   pub handed : (t : Packet → Bool) → times t (run order (instanceOf stream) cells .handed) + times t (run order (instanceOf stream) cells .waiting) ≡ times t (run order (instanceOf stream) cells .sent)
   -- these messages, in this order, are the bytes that were handed over
-  pub taken : handedIn order stream (shedMade order stream pool) cells ≡ map (λ p. encode (p .kind) (p .message)) (run order (instanceOf stream) cells .handed)
+  pub taken : handedIn order stream (shedMade order stream pool) cells ≡ map packetBytes (run order (instanceOf stream) cells .handed)
   -- the counts are exact
   pub records : valueOf (runBytes order stream pool cells .network .core .records) ≡ length (written order stream cells)
   pub deliveries : valueOf (runBytes order stream pool cells .network .core .deliveries) ≡ acceptedIn order stream (shedMade order stream pool) cells
@@ -133,3 +136,6 @@ pub record Demand3 (stream : List ℕ) (order : ValueOrder) (pool cells : List �
   -- two sheds of one table report the same total
   pub agree : over (runBytes order stream pool cells) ≡ true → over (runBytes order′ stream pool′ cells′) ≡ true
       → reportOf (runBytes order stream pool cells) .total ≡ reportOf (runBytes order′ stream pool′ cells′) .total
+  -- and, told one order, the same lotting
+  pub same : order ≡ order′ → over (runBytes order stream pool cells) ≡ true → over (runBytes order′ stream pool′ cells′) ≡ true
+      → reportOf (runBytes order stream pool cells) .assignment ≡ reportOf (runBytes order′ stream pool′ cells′) .assignment

@@ -15,28 +15,32 @@ use Rattle.base.specs.Members.Laws.{not-in-nil}
 use borrow.Author.Tests.{eq-eqb}
 use Rattle.table.specs.Stream.{Accepted}
 use Rattle.costs.specs.declared.ValueOrder.{ValueOrder}
-use Rattle.costs.specs.Bounds.{Reported}
+use Rattle.costs.specs.Least.{LeastFirst, Padded}
+use Rattle.costs.specs.Least.Laws.{first-unique}
 use Rattle.costs.specs.Laws.Prefix.{reported-same}
 use Rattle.costs.specs.Instance.{instanceOf}
 use Rattle.costs.specs.Laws.Tried.{problemBy}
 use Rattle.costs.specs.Laws.Stream.{sound-of}
+use Rattle.costs.specs.Gather.{sizesIn}
 use Rattle.message.specs.Message.{Packet}
 use Rattle.rules.specs.declared.Unit.{Unit as UnitState}
+use Rattle.rules.specs.Send.{packetBytes}
 use Rattle.rules.specs.Units.{unitAt}
+use Rattle.rules.specs.Laws.Units.{best-padded}
 use Rattle.protocol.specs.Machine as M
 use Rattle.protocol.specs.Machine.{Network}
 use Rattle.protocol.specs.Demand3 as D
 use Rattle.protocol.specs.Theorem as T
 use Rattle.protocol.specs.Oldest.Run as O
 use Rattle.protocol.specs.Simulation.Units.{read-length}
-use Rattle.protocol.specs.Simulation.Report.{reports}
+use Rattle.protocol.specs.Simulation.First.{reports-first}
+use Rattle.protocol.specs.Simulation.Table.{laws}
 use Rattle.runs.specs.Count.{valueOf}
 use Rattle.runs.specs.Pool.{cellOf}
 use Rattle.runs.specs.Run as R
 use Rattle.runs.specs.Run.{History, DeliveryOf, stopped, onward, handOver, runFrom, run}
 use Rattle.runs.specs.Calls.{deliverOf}
 use Rattle.runs.specs.Demand3.{Shed, shedOf, shedMade, shedAfter, deliverAll, runBytes, refusalAt, acceptedIn, handedIn, Made, over, reportOf, most, Honest, Served, Demand3}
-use Rattle.runs.specs.Proof.Core.{packetBytes, laws}
 use Rattle.runs.specs.Proof.Invariant.{Invariant}
 use Rattle.runs.specs.Proof.Making.{none-handed, accepted-table, make-invariant}
 use Rattle.runs.specs.Proof.Delivery.{numberOf, HonestDelivery, Delivers, after-stop, delivers}
@@ -164,7 +168,8 @@ module _ (order : ValueOrder) (s pool : List ℕ) (made : Made order s pool) whe
         progress = λ e.
             let p = T.progress (problemBy order (instanceOf s)) (laws order s ok) (sound-of s ok .n1) poolCells (T.enough-room (problemBy order (instanceOf s)) (laws order s ok) (sound-of s ok .n1) (sound-of s ok .n16)) cs (sym (over-is cs) ∙ e) in
             (p .0, accepted-by cs (p .0) (p .1));
-        reported = report;
+        reported = λ e. lotting e .0 .reported;
+        lotting = lotting;
         handed = i .balanced;
         taken = taken cs;
         records = i .core .records;
@@ -186,11 +191,14 @@ module _ (order : ValueOrder) (s pool : List ℕ) (made : Made order s pool) whe
           not-empty [] m j = absurd (not-in-nil j)
           not-empty (x ∷ l) m j = omega arith
 
-      report : over (runBytes order s pool cs) ≡ true → Reported (instanceOf s) (reportOf (runBytes order s pool cs) .total) (reportOf (runBytes order s pool cs) .assignment)
-      report e =
-          subst (λ (u : UnitState). Reported (instanceOf s) (u .bound) (u .best)) (sym (unit-is cs))
-          (reports order (instanceOf s) (sound-of s ok) (unitAt (run order (instanceOf s) cs .units) 0) (machine cs .units 0) (i .core .matches .units 0 (sound-of s ok .n1)) (d .report (sym (over-is cs) ∙ e))
-          (i .kept .network .safe 0 (sound-of s ok .n1) .stop refl (sym (over-is cs) ∙ e)))
+      lotting : over (runBytes order s pool cs) ≡ true → LeastFirst order (instanceOf s) (reportOf (runBytes order s pool cs) .total) (reportOf (runBytes order s pool cs) .assignment)
+          × Padded (instanceOf s .n) (reportOf (runBytes order s pool cs) .assignment)
+      lotting e =
+          subst (λ (u : UnitState). LeastFirst order (instanceOf s) (u .bound) (u .best) × Padded (instanceOf s .n) (u .best)) (sym (unit-is cs)) (
+            reports-first order (instanceOf s) (sound-of s ok) 0 (unitAt (run order (instanceOf s) cs .units) 0) (machine cs .units 0) (i .core .matches .units 0 (sound-of s ok .n1)) (d .report (sym (over-is cs) ∙ e))
+                (i .kept .network .safe 0 (sound-of s ok .n1) .stop refl (sym (over-is cs) ∙ e)) (d .first (sym (over-is cs) ∙ e)),
+            best-padded order (instanceOf s) (sizesIn s) (run order (instanceOf s) cs .units) (i .core .units) 0 (sound-of s ok .n1),
+          )
 
   -- ---- its end
 
@@ -219,6 +227,9 @@ demand3 s order pool made cells order′ pool′ made′ cells′ =
       one = one;
       other = other;
       agree = λ e e′. reported-same (instanceOf s) _ _ _ _ (one .reported e) (other .reported e′);
+      same = λ q e e′.
+          let l = subst (λ (o : ValueOrder). LeastFirst o (instanceOf s) (reportOf (runBytes order s pool cells) .total) (reportOf (runBytes order s pool cells) .assignment)) q (one .lotting e .0) in
+          first-unique order′ (instanceOf s) _ _ _ _ l (other .lotting e′ .0) (one .lotting e .1) (other .lotting e′ .1);
     }
   where
     one : Served order s pool cells

@@ -1,7 +1,7 @@
 -- The exhaustive search. 01: "The bench search goes unit by unit, each choice handing on to the next unit's, and gives the least total
 -- with its first lotting in ascending order." Every choice of all values is totalled on its own here; the code carries the cost of what is chosen
 -- and goes no further where that is forbidden.
--- Nobody has to believe it: that the answer is the one that specs/Least describes, and no other, is in specs/Laws. Assumes nothing.
+-- Nobody has to believe it: that the answer is the one that costs/specs/Least describes, and no other, is in specs/Laws. Assumes nothing.
 use Rattle.base.specs.Library.{ℕ, zero, suc, cond, List, ltb, set, replicate}
 use Rattle.base.specs.Limits.{NONE}
 use Rattle.costs.specs.{Instance.Instance, Cost.asNumber, Bounds.total}

@@ -1,5 +1,5 @@
 -- What the answer of the search is: the least total with its first assignment in ascending order, or NONE, where it isn't refused, and only the
--- number where it is. Each by taking the definition's tests apart; the rest is in Least.
+-- number where it is. Each by taking the definition's tests apart; the rest is in Picked.
 -- Assumes nothing.
 use Prim.Native.Nat.{ℕ, _≤_}
 use mathlib.Core.Path.{_≡_, refl, sym, _∙_}
@@ -11,16 +11,17 @@ use lib.ListN.{replicate}
 use borrow.Author.Tests.{ltb-false, eq-eqb, ne-eqb, eqb-true, eqb-false}
 use Rattle.base.specs.Limits.{searchLimit}
 use Rattle.table.specs.Stream.{streamRefusal, Accepted}
+use Rattle.costs.specs.declared.ValueOrder.the-variants.{Ascending}
 use Rattle.costs.specs.Instance.{instanceOf}
 use Rattle.costs.specs.Bounds.{total}
+use Rattle.costs.specs.Least.{LeastFirst, Padded}
+use Rattle.costs.specs.Least.Laws.{least-unique, first-unique}
 use Rattle.costs.specs.Laws.Stream.{sound-of}
 use Rattle.search.specs.declared.Best.{Best}
 use Rattle.search.specs.declared.Found.{Found}
 use Rattle.search.specs.Search.{assignmentCount, searchRefusal, searchOf}
 use Rattle.search.specs.Best.{bestOf}
-use Rattle.search.specs.Least.{LeastFirst, Padded}
-use Rattle.search.specs.Least.Order.{least-unique, first-unique}
-use Rattle.search.specs.Least.Picked.{best-least-first, best-of-padded}
+use Rattle.search.specs.Picked.{best-least-first, best-of-padded}
 
 -- ---- the two answers
 
@@ -65,20 +66,20 @@ module _ (s : List ℕ) where
     search-found = rw (eq-eqb (searchRefusal s) 0 h)
 
     -- an assignment that totals what is reported, every one at least that and each before it more; or NONE, with no assignment
-    pub search-least-first : LeastFirst (instanceOf s) (searchOf s .total) (searchOf s .values)
+    pub search-least-first : LeastFirst Ascending (instanceOf s) (searchOf s .total) (searchOf s .values)
     search-least-first = rw search-found (best-least-first (instanceOf s) (sound-of s (searched h .0)))
 
     pub search-padded : Padded (instanceOf s .n) (searchOf s .values)
     search-padded = rw search-found (best-of-padded (instanceOf s) (sound-of s (searched h .0)))
 
     -- and there is no other such answer
-    pub search-is-least-first : (t : ℕ) (l : List ℕ) → LeastFirst (instanceOf s) t l → Padded (instanceOf s .n) l → searchOf s ≡ record { refusal = 0; total = t; values = l }
+    pub search-is-least-first : (t : ℕ) (l : List ℕ) → LeastFirst Ascending (instanceOf s) t l → Padded (instanceOf s .n) l → searchOf s ≡ record { refusal = 0; total = t; values = l }
     search-is-least-first t l f p =
         let I = instanceOf s in
         let sound = sound-of s (searched h .0) in
         let found = best-least-first I sound in
-        let e : bestOf I .total ≡ t = least-unique I (bestOf I .total) t (bestOf I .values) l found f in
-        let g : bestOf I .values ≡ l = first-unique I (bestOf I .total) t (bestOf I .values) l found f (best-of-padded I sound) p in
+        let e : bestOf I .total ≡ t = least-unique Ascending Ascending I (bestOf I .total) t (bestOf I .values) l found f in
+        let g : bestOf I .values ≡ l = first-unique Ascending I (bestOf I .total) t (bestOf I .values) l found f (best-of-padded I sound) p in
         search-found ∙ rw (e, g)
 
   -- ---- the answer, as each of the code's ways out gives it

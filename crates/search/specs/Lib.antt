@@ -1,6 +1,6 @@
--- The exhaustive search, in reading order: what it gives; which answer that is, without the search; the search; that it gives that answer; what the code goes by.
+-- The exhaustive search, in reading order: what it gives; the search; that it picks the first least (costs/specs/Least); so which answer it gives; what the code goes by.
 pub mod Search
-pub mod Least
 pub mod Best
+pub mod Picked
 pub mod Laws
 pub mod Steps

@@ -1,6 +1,6 @@
 -- What the exhaustive search gives. 01: ".. gives the least total with its first lotting in ascending order." 02: "If no lotting remains, stop and
 -- bench give *none* with best all zero."
--- specs/Least says of the answer, without the search, which one it is; specs/Best is the search. Assumes nothing.
+-- costs/specs/Least says of the answer, without the search, which one it is; specs/Best is the search. Assumes nothing.
 use Rattle.base.specs.Library.{ℕ, cond, List, ltb, eqb, replicate}
 use Rattle.base.specs.Limits.{searchLimit}
 use Rattle.table.specs.Stream.{streamRefusal}

@@ -34,7 +34,7 @@ use Rattle.costs.specs.Laws.Stream.{unariesFrom, instance-units, instance-unary
 use Rattle.search.specs.declared.Best.{Best}
 use Rattle.search.specs.Search.{assignmentCount}
 use Rattle.search.specs.Best.{keep, inTurn, bestFrom}
-use Rattle.search.specs.Least.Picked.{best-picks}
+use Rattle.search.specs.Picked.{best-picks}
 
 -- ---- where the costs of a unit and of a pair begin
 

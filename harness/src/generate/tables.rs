@@ -87,15 +87,14 @@ impl Forbidding {
     }
 }
 
-fn pair_costs(random: &mut Random, sizes: &[u8]) -> Vec<u16> {
-    let style = random.below(5);
+fn pair_costs(random: &mut Random, sizes: &[u8], cost: impl Fn(&mut Random) -> u16) -> Vec<u16> {
     let forbidding = Forbidding::any(random, sizes);
     let mut costs = Vec::new();
     for i in 0..sizes.len() {
         for j in i + 1..sizes.len() {
             for (u, v) in (0..sizes[i]).flat_map(|u| (0..sizes[j]).map(move |v| (u, v))) {
                 let forbidden = forbidding.holds(random, (i, u), (j, v));
-                costs.push(if forbidden { FORBIDDEN_PAIR } else { cost(random, style) });
+                costs.push(if forbidden { FORBIDDEN_PAIR } else { cost(random) });
             }
         }
     }
@@ -120,11 +119,36 @@ fn unary_costs(random: &mut Random, sizes: &[u8]) -> Vec<u16> {
 
 /// A stream of these sizes, half of them in form two.
 pub fn stream_of(random: &mut Random, sizes: &[u8]) -> Vec<u8> {
-    let pairs = pair_costs(random, sizes);
+    let style = random.below(5);
+    let pairs = pair_costs(random, sizes, |random| cost(random, style));
     if random.once_in(2) {
         return sample::stream(sizes, &pairs);
     }
     sample::stream_in_form_two(sizes, &unary_costs(random, sizes), &pairs)
+}
+
+/// A stream that is quick to search; three in four are full of ties.
+pub fn searched(random: &mut Random) -> Vec<u8> {
+    let n = random.between(1, 6);
+    let sizes: Vec<u8> = (0..n).map(|_| *random.pick(&[1, 2, 2, 3, 3, 3, 4])).collect();
+    if random.once_in(4) {
+        stream_of(random, &sizes)
+    } else {
+        tied(random, &sizes)
+    }
+}
+
+/// Costs are the same, or differ by 1 or 2; half of the streams are in form two.
+fn tied(random: &mut Random, sizes: &[u8]) -> Vec<u8> {
+    let least = *random.pick(&[0, 0, 0, 1, 7]);
+    let most = least + *random.pick(&[0, 1, 1, 2, 2]);
+    let cost = |random: &mut Random| random.between(least, most) as u16;
+    let pairs = pair_costs(random, sizes, cost);
+    if random.once_in(2) {
+        return sample::stream(sizes, &pairs);
+    }
+    let unary: Vec<u16> = sizes.iter().flat_map(|d| 0..*d).map(|_| cost(random)).collect();
+    sample::stream_in_form_two(sizes, &unary, &pairs)
 }
 
 /// The dearest table that there is; in half of them one unit has a choice of two values.

@@ -36,7 +36,7 @@ pub fn make_by(order: ValueOrder, stream: &[u8], pool: &mut [u8]) -> Result<Netw
         let costs = costs::of_unit(stream, own);
         let made = unit::start(&View::new_by(order, own, n as usize, &sizes, &costs));
         network.units[own - 1] = made.unit;
-        network.records += u128::from(made.records);
+        network.records += u128::from(made.records());
         append(&mut network, pool, &made.sent);
     }
     Ok(network)
@@ -77,7 +77,7 @@ pub fn deliver_by(
         return Err(14);
     }
     network.units[own - 1] = decision.unit;
-    network.records = network.records.wrapping_add(u128::from(decision.records));
+    network.records = network.records.wrapping_add(u128::from(decision.records()));
     network.deliveries = network.deliveries.wrapping_add(1);
     take(network, pool, cell);
     append(network, pool, &decision.sent);

@@ -44,7 +44,14 @@ pub struct Answer {
 pub struct Decision {
     pub unit: Unit,
     pub sent: Vec<(u8, Message)>,
-    pub records: u64,
+    /// 01: "At each record unit i writes a beginning: the values of units 1 to i".
+    pub written: Vec<Places>,
+}
+
+impl Decision {
+    pub fn records(&self) -> u64 {
+        self.written.len() as u64
+    }
 }
 
 /// Refusals 5, 10, 6, 7, 13. A refused making gives an all-zero unit.
@@ -144,7 +151,7 @@ pub fn answer(decided: Result<Decision, Refusal>, refused: &Unit, out: &mut [u8]
     for (k, (kind, message)) in decision.sent.iter().enumerate() {
         out[64 * k..64 * (k + 1)].copy_from_slice(&message::encode(*kind, message));
     }
-    Answer { refusal: 0, unit: decision.unit, sent: decision.sent.len() as u8, records: decision.records }
+    Answer { refusal: 0, unit: decision.unit, sent: decision.sent.len() as u8, records: decision.records() }
 }
 
 /// Refusal 10 for the own number.
@@ -230,19 +237,19 @@ pub fn decide(view: &View, unit: &Unit, kind: u8, message: &Message) -> Result<D
     Ok(work.decision())
 }
 
-/// A unit at work: its state, and what it has sent and recorded in this step.
+/// A unit at work: its state, and what it has sent and written in this step.
 struct Work<'a> {
     view: &'a View<'a>,
     unit: Unit,
     cpa_sent: Option<(u8, Message)>,
     others_sent: Vec<(u8, Message)>,
     improved: bool,
-    records: u64,
+    written: Vec<Places>,
 }
 
 impl<'a> Work<'a> {
     fn new(view: &'a View<'a>, unit: &Unit) -> Work<'a> {
-        Work { view, unit: *unit, cpa_sent: None, others_sent: Vec::new(), improved: false, records: 0 }
+        Work { view, unit: *unit, cpa_sent: None, others_sent: Vec::new(), improved: false, written: Vec::new() }
     }
 
     /// 01: "unit n sends one news, after its last improvement in a step, to all others";
@@ -256,7 +263,7 @@ impl<'a> Work<'a> {
         }
         let mut sent: Vec<_> = self.cpa_sent.into_iter().collect();
         sent.extend(self.others_sent);
-        Decision { unit: self.unit, sent, records: self.records }
+        Decision { unit: self.unit, sent, written: self.written }
     }
 
     // Messages
@@ -354,7 +361,7 @@ impl<'a> Work<'a> {
             self.unit.values[own - 1] = value as u8;
             self.unit.cost = cost;
             self.unit.threshold = self.unit.stamp;
-            self.records += 1;
+            self.written.push(self.unit.values);
             if own < self.view.n {
                 return self.send_down();
             }

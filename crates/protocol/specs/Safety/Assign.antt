@@ -1,7 +1,7 @@
 -- Assigning keeps a unit good: a unit that is ready to try its values writes the next one, or has none left and backtracks, and what it sends is valid.
 -- By the walk over assigning: what is left to show is that a value written or passed over leaves the unit ready for the rest.
 --
--- In order: `backtrack-post`; the values in turn (`spent`, `skip-ready`, `written-good`, `solved-ready`); `try-post`; `resume-post`, a CPA in hand.
+-- In order: `closed-one-more`; `backtrack-post`; the values in turn (`spent`, `skip-ready`, `written-good`, `solved-ready`); `try-post`; `resume-post`, a CPA in hand.
 -- Assumes nothing.
 use Prim.Native.Nat.{ℕ, suc, _+_, _*_, _-_, _≤_, _<_}
 use mathlib.Core.Path.{_≡_, refl, sym, subst}
@@ -12,12 +12,21 @@ use native.Mathlib.Omega.{arith}
 use lib.ListN.{length}
 use Rattle.base.specs.Members.{here, Every}
 use Rattle.base.specs.Members.Laws.{every-cons, every-append}
-use Rattle.protocol.specs.Problem.{Problem, Closed, Laws, closed-mono, closed-by-values, closed-full, valid-le-none}
+use Rattle.protocol.specs.Problem.{Problem, Closed, Laws, closed-mono, closed-by-values, closed-full, valid-le-none, cost-below}
 use Rattle.protocol.specs.Machine.{stop, stampOf, Agent, stamp, values, skip, write, counted, announce, giveBack, backtrack, solved, sendDown, tryFrom, resume}
 use Rattle.protocol.specs.Lists.{every-announced, every-given-back, every-sent-down}
 use Rattle.protocol.specs.Tests.{le-split}
 use Rattle.protocol.specs.Walk.{try-walk, resume-cases}
 use Rattle.protocol.specs.Safety.Facts.{History, OnLog, Extended, ValidMsg, Before, Sorted, Good, Ready, Spent, Post}
+
+-- the values up to one more are closed, at a bound that is no higher
+pub closed-one-more : (P : Problem) (u : Agent) (C : ℕ) → C ≤ u .bound → ((v : ℕ) → 1 ≤ v → v ≤ u .own → Closed P (v ∷ u .prefix) (u .bound)) → Closed P (values (skip u)) C
+    → (v : ℕ) → 1 ≤ v → v ≤ suc (u .own) → Closed P (v ∷ u .prefix) C
+closed-one-more P u C le closed c v lo hi = go (le-split v (u .own) hi)
+  where
+    go : (v ≤ u .own) ⊎ (v ≡ suc (u .own)) → Closed P (v ∷ u .prefix) C
+    go (inl a) = closed-mono P (v ∷ u .prefix) (u .bound) C le (closed v lo a)
+    go (inr e) = rw e c
 
 module _ (P : Problem) (laws : Laws P) (k : ℕ) (k<n : k < P .n) (Past : History) (X : ℕ) (bf : Before P k Past X) where
   -- ---- backtrack
@@ -56,14 +65,6 @@ module _ (P : Problem) (laws : Laws P) (k : ℕ) (k<n : k < P .n) (Past : Histor
             (λ v lo hi. h .closed v lo (let z = subst (λ x. v ≤ P .size x) (prefix-length u h) hi in omega (arith, h .left)));
       }
 
-  -- the values up to one more are closed, at a bound that is no higher
-  closed-next : (m : ℕ) (u : Agent) (C : ℕ) → Ready P k Past m u → C ≤ u .bound → Closed P (values (skip u)) C → (v : ℕ) → 1 ≤ v → v ≤ suc (u .own) → Closed P (v ∷ u .prefix) C
-  closed-next m u C h le c v lo hi = go (le-split v (u .own) hi)
-    where
-      go : (v ≤ u .own) ⊎ (v ≡ suc (u .own)) → Closed P (v ∷ u .prefix) C
-      go (inl a) = closed-mono P (v ∷ u .prefix) (u .bound) C le (h .closed v lo a)
-      go (inr e) = rw e c
-
   -- a value passed over is closed by its lookahead (L1)
   skip-ready : (m : ℕ) (u : Agent) → Ready P k Past (suc m) u → u .bound ≤ P .lookahead (values (skip u)) → Ready P k Past m (skip u)
   skip-ready m u h low =
@@ -75,7 +76,7 @@ module _ (P : Problem) (laws : Laws P) (k : ℕ) (k<n : k < P .n) (Past : Histor
         counter = omega (arith, h .counter);
         left = omega (arith, h .left);
         top = λ r i. (h .top r i .0, omega (arith, h .top r i .1));
-        closed = closed-next (suc m) u (u .bound) h (omega arith) (laws .closed-by-lookahead (values (skip u)) (u .bound) (omega (arith, prefix-length u h)) low);
+        closed = closed-one-more P u (u .bound) (omega arith) (h .closed) (laws .closed-by-lookahead (values (skip u)) (u .bound) (omega (arith, prefix-length u h)) low);
         stop = h .stop;
       }
 
@@ -127,12 +128,12 @@ module _ (P : Problem) (laws : Laws P) (k : ℕ) (k<n : k < P .n) (Past : Histor
         counter = omega (arith, h .counter);
         left = omega (arith, h .left);
         top = every-cons _ _ (u .log) (omega arith, omega arith) (λ r i. (omega (arith, h .top r i .0), omega (arith, h .top r i .1)));
-        closed = closed-next (suc m) u (P .cost (values (skip u))) h (omega (arith, less)) (closed-full P (values (skip u)) (omega (arith, prefix-length u h)));
+        closed = closed-one-more P u (P .cost (values (skip u))) (omega (arith, less)) (h .closed) (closed-full P (values (skip u)) (omega (arith, prefix-length u h)));
         stop = λ e t. closed-mono P [] (u .bound) (P .cost (values (skip u))) (omega (arith, less)) (h .stop e t);
       }
     where
       less : P .cost (values (skip u)) < u .bound
-      less = omega (arith, low, laws .cost-le-lookahead (values (skip u)) (omega (arith, low, valid-le-none P (u .best) (h .valid))))
+      less = cost-below P laws (values (skip u)) (u .bound) (valid-le-none P (u .best) (h .valid)) low
 
   pub try-post : (m : ℕ) (better : Bool) (u : Agent) → Ready P k Past m u → Post P k Past X (tryFrom P k m better u)
   try-post =

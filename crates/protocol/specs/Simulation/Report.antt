@@ -1,4 +1,4 @@
--- What unit 1 reports once it has stopped, said of the instance: the least total over its assignments, or NONE where there is none, in either order. The
+-- What a unit reports once it has stopped, said of the instance: the least total over its assignments, or NONE where there is none, in either order. The
 -- report that Demand3 speaks of is over places and numbers; that these are the table's assignments and totals is from `costs`, and that the unit's array holds
 -- the machine's best is in what corresponds. Whatever pool there is.
 -- Assumes nothing.
@@ -28,7 +28,7 @@ module _ (order : ValueOrder) (I : Instance) (snd : Sound I) where
   empty-zeros l a e (inr q) k = absurd (omega (arith, snd .n1, length-pre (I .n) a, ap length (q ∙ ap (valuesAt order I) e)))
 
   -- and a full one is read off it
-  full-read : (l a : List ℕ) → length l ≡ I .n → BestIs order I a l → pre (I .n) a ≡ valuesAt order I l
+  pub full-read : (l a : List ℕ) → length l ≡ I .n → BestIs order I a l → pre (I .n) a ≡ valuesAt order I l
   full-read l a e (inl q) = absurd (omega (arith, snd .n1, e, ap length (q .0)))
   full-read l a e (inr q) = q
 
@@ -39,5 +39,5 @@ module _ (order : ValueOrder) (I : Instance) (snd : Sound I) where
       let e : pre (I .n) a ≡ valuesAt order I l = full-read l a (q .1 .0) b in
       full-reported I snd B a (q .0 ∙ ap (λ (z : List ℕ). asNumber (costOf I z)) (sym e)) (subst (λ z. Full (problemOf I) z) (sym e) (full-values order I l (q .1))) (closed-empty order I B c)
 
-  pub reports : (s : UnitState) (u : Agent) → AtRest order I 0 s u → ValidBound (problemBy order I) (u .bound) (u .best) → Closed (problemBy order I) [] (u .bound) → Reported I (s .bound) (s .best)
-  reports s u r valid closed = rw (r .common .bound-is) (valid-reported (u .bound) (u .best) (s .best) valid closed (r .common .best-is))
+  pub reports : (k : ℕ) (s : UnitState) (u : Agent) → AtRest order I k s u → ValidBound (problemBy order I) (u .bound) (u .best) → Closed (problemBy order I) [] (u .bound) → Reported I (s .bound) (s .best)
+  reports k s u r valid closed = rw (r .common .bound-is) (valid-reported (u .bound) (u .best) (s .best) valid closed (r .common .best-is))

@@ -121,6 +121,11 @@ module _ (order : ValueOrder) (own n : ℕ) (sizes costs : List ℕ) (room : ℕ
       unless-refused (Whenever (GoodDecision n sizes view 16)) (makeRefusal own n sizes costs room) (start view (pred own)) (λ x. tt)
       (λ e. let m = makes own n sizes costs room e in start-kept n sizes view (lent-good order own n sizes costs (m .shape) long (m .unit) (m .lent)) (pred own) (sym place-is))
 
+  -- what is lent well is made
+  pub make-starts : Makes own n sizes costs room → makeOut order own n sizes costs room ≡ start (lentView order own n sizes costs) (pred own)
+  unfolding makeOut makeRefusal
+  make-starts m = rw (seat-good own n sizes costs (record { shape = m .shape; unit = m .unit; lent = m .lent }), le-ltb room sendingSize (m .fits))
+
   -- ---- a step
 
   module _ (u : State) (arrays : SizedUnit u) (bytes : List ℕ) (all : AllBytes bytes) where

@@ -96,3 +96,12 @@ bound-32 n sizes bound best e = go (eqb bound NONE) refl e
     go : (t : Bool) → eqb bound NONE ≡ t → cond t (filledTo 0 sizes best) (leb bound totalLimit && filledTo n sizes best) ≡ true → bound < 4294967296
     go true q h = omega (arith, eqb-true bound NONE q)
     go false q h = omega (arith, leb-true bound totalLimit (and-left _ _ h))
+
+-- and its best is zero past the n units
+pub best-past : (n : ℕ) (sizes : List ℕ) (bound : ℕ) (best : List ℕ) → noneOrBound n sizes bound best ≡ true → (j : ℕ) → n ≤ j → j < 16 → getD best j 0 ≡ 0
+unfolding noneOrBound
+best-past n sizes bound best e j lo hi = go (eqb bound NONE) e
+  where
+    go : (t : Bool) → cond t (filledTo 0 sizes best) (boundGood n sizes bound best) ≡ true → getD best j 0 ≡ 0
+    go true h = filled-past 0 sizes best h j (omega arith) hi
+    go false h = filled-past n sizes best (bound-parts n sizes bound best h .1) j lo hi

@@ -7,14 +7,15 @@ use mathlib.Core.Logic.{_≢_}
 use mathlib.Core.Bool.{Bool, true, false}
 use mathlib.Core.List.{List}
 use native.Mathlib.Omega.{arith}
-use lib.Dec.{eqb}
-use lib.ListN.{length, set, replicate, length-set, getD-replicate}
+use lib.Dec.{eqb, ltb}
+use lib.ListN.{length, getD, set, replicate, length-set, getD-replicate, List·getD-eq-default}
 use lib.Seq.{getD-set-same, getD-set-other}
-use borrow.Author.Tests.{eqb-true, eqb-false}
+use borrow.Author.Tests.{eqb-true, eqb-false, ltb-true, ltb-false}
 use Rattle.base.specs.Shape.Laws.{and-right}
 use Rattle.base.specs.Members.{Every}
 use Rattle.costs.specs.declared.ValueOrder.{ValueOrder}
 use Rattle.costs.specs.Instance.{Instance, viewBy}
+use Rattle.costs.specs.Least.{Padded}
 use Rattle.message.specs.Message.{Packet, isUnit, addressGood}
 use Rattle.rules.specs.declared.Unit.{Unit as State}
 use Rattle.rules.specs.declared.Sending.{Sending}
@@ -23,7 +24,8 @@ use Rattle.rules.specs.Step.{Decision, refused, accepted, Written, assig
 use Rattle.rules.specs.Send.{packets}
 use Rattle.rules.specs.Units.{unitAt, placeOf, stepOn}
 use Rattle.rules.specs.Laws.Views.{GoodView, unit-range}
-use Rattle.rules.specs.Laws.Range.{SizedUnit}
+use Rattle.rules.specs.Laws.Range.{SizedUnit, range-facts}
+use Rattle.rules.specs.Laws.Filled.{best-past}
 use Rattle.rules.specs.Laws.Packets.{Sendable}
 use Rattle.rules.specs.Laws.Assign.{Whenever, GoodDecision}
 use Rattle.rules.specs.Laws.Steps.{respond-kept, fresh-arrays, fresh-in-range, start-kept}
@@ -60,6 +62,14 @@ pub record AllInRange (order : ValueOrder) (I : Instance) (sizes : List ℕ) (us
   pub size : length us ≡ 16
   pub states : (k : ℕ) → k < I .n → inRange sizes (viewBy order I k) (unitAt us k) ≡ true
   pub arrays : (k : ℕ) → k < I .n → SizedUnit (unitAt us k)
+
+-- so a unit's best is an array of 16 places, those past n zero
+pub best-padded : (order : ValueOrder) (I : Instance) (sizes : List ℕ) (us : List State) → AllInRange order I sizes us → (k : ℕ) → k < I .n → Padded (I .n) (unitAt us k .best)
+best-padded order I sizes us r k lt = record { places = r .arrays k lt .best; zeros = λ i past. go i past (ltb i 16) refl }
+  where
+    go : (i : ℕ) → I .n ≤ i → (t : Bool) → ltb i 16 ≡ t → getD (unitAt us k .best) i 0 ≡ 0
+    go i past true e = best-past (I .n) sizes (unitAt us k .bound) (unitAt us k .best) (range-facts sizes (viewBy order I k) (unitAt us k) (r .states k lt) .bound) i past (ltb-true i 16 e)
+    go i past false e = List·getD-eq-default (unitAt us k .best) 0 (omega (arith, r .arrays k lt .best, ltb-false i 16 e))
 
 -- what a step of the unit at place k leaves: all in range, and at most 16 packets that can be written
 pub record Leaves (order : ValueOrder) (I : Instance) (sizes : List ℕ) (us : List State) (k : ℕ) (u : State) (s : Sending) (ws : List Written) : Type 0 where

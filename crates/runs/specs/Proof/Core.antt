@@ -1,75 +1,45 @@
 -- The units and counts of a network, on bytes, over messages and in the machine (`CoreFollows`), whatever pool their packets wait in: unit 1's making gives it
 -- (`core-starts`), and a packet handed to its unit keeps it (`core-steps`). And a packet that can be written reads back from its bytes as itself.
--- In order: an accepted table; a packet and its bytes; the core; the counts; making and a step.
+-- In order: the core; a packet and its bytes; the counts; making and a step.
 -- Assumes nothing.
-use Prim.Native.Nat.{ℕ, _+_, _*_, _^_, _≤_, _<_, pred}
+use Prim.Native.Nat.{ℕ, _+_, _*_, _^_, _<_, pred}
 use mathlib.Core.Path.{_≡_, refl, sym, ap, _∙_, subst}
-use mathlib.Core.Bool.{Bool, true, false, cond, _&&_}
+use mathlib.Core.Bool.{cond}
 use mathlib.Core.List.{List, [], _∷_, _++_}
-use native.Mathlib.Omega.{arith}
 use native.Mathlib.Nat.{zero-add}
-use lib.Dec.{ltb}
 use lib.ListN.{length, set, replicate, length-append}
-use Rattle.table.specs.Stream.{inFormTwo, unitsOf, Accepted}
-use Rattle.table.specs.StreamLaws.{accepted-units}
-use Rattle.base.specs.Shape.{isValue}
+use Rattle.table.specs.Stream.{unitsOf, Accepted}
 use Rattle.costs.specs.declared.ValueOrder.{ValueOrder}
-use Rattle.costs.specs.declared.Cost.{Cost}
-use Rattle.costs.specs.declared.Cost.the-variants.{Of}
-use Rattle.costs.specs.Instance.{viewBy, instanceOf, domOf}
-use Rattle.costs.specs.Laws.Tried.{laws-by, problemBy}
+use Rattle.costs.specs.Instance.{viewBy, instanceOf}
+use Rattle.costs.specs.Laws.Tried.{problemBy}
 use Rattle.costs.specs.Laws.Stream.{sound-of}
 use Rattle.costs.specs.Gather.{sizesIn}
-use Rattle.costs.specs.Gather.Sizes.{length-sizes, sizes-at, accepted-sizes-good}
+use Rattle.costs.specs.Gather.Sizes.{accepted-sizes-good}
 use Rattle.message.specs.declared.Parsed.{Parsed}
 use Rattle.message.specs.Message.{Packet, isUnit}
-use Rattle.message.specs.Written.{encode}
 use Rattle.message.specs.RoundTrip.{parse-encode, receiver-of-encode}
 use Rattle.rules.specs.declared.Unit.{Unit as UnitState}
 use Rattle.rules.specs.declared.Sending.{Sending}
 use Rattle.rules.specs.State.{fresh}
 use Rattle.rules.specs.Step as U
 use Rattle.rules.specs.Step.{Written}
-use Rattle.rules.specs.Send.{packets}
+use Rattle.rules.specs.Send.{packets, packetBytes}
 use Rattle.rules.specs.Calls.{onRead}
 use Rattle.rules.specs.Units.{unitAt, placeOf, stepOn}
-use Rattle.rules.specs.Laws.Views.{GoodView, view-good}
 use Rattle.rules.specs.Laws.Packets.{Sendable}
 use Rattle.rules.specs.Laws.Units.{AllInRange, Leaves, receiver-unit}
-use Rattle.protocol.specs.Problem.{Laws}
 use Rattle.protocol.specs.Machine as M
 use Rattle.protocol.specs.Machine.{Msg, to, Agent, Result}
 use Rattle.protocol.specs.Safety.Logs.{Safe}
 use Rattle.protocol.specs.Count.Width.{records-fit}
 use Rattle.protocol.specs.Simulation.Relations.{Reads}
-use Rattle.protocol.specs.Simulation.Step.{FreeWhenUnassigned}
 use Rattle.protocol.specs.Simulation.Units.{read-to, Matches, StepsTo}
+use Rattle.protocol.specs.Simulation.Table.{laws}
 use Rattle.runs.specs.declared.Core.{Core}
 use Rattle.runs.specs.Count.{zeroCount, valueOf, plus}
 use Rattle.runs.specs.Count.Laws.{plus-exact}
 use Rattle.runs.specs.Run.{Pool, HistoryOf, historyAfter, begunWith}
 use Rattle.runs.specs.Calls.{receiverOf, stepFrom8}
-
--- the bytes of a packet
-abbrev pub packetBytes : Packet → List ℕ
-packetBytes p = encode (p .kind) (p .message)
-
--- ---- an accepted table
-
--- a unit without a value costs nothing
-pub stream-free : (s : List ℕ) → FreeWhenUnassigned (instanceOf s)
-unfolding instanceOf
-stream-free s = (λ j. no-value (inFormTwo s), λ i u j. never _ (ltb i j) (ltb j (unitsOf s)) (isValue (domOf s i) u))
-  where
-    no-value : (t : Bool) → _≡_ {A = ℕ} (cond t 0 0) 0
-    no-value true = refl
-    no-value false = refl
-
-    never : (x : Cost) (a b c : Bool) → cond (a && b && c && false) x (Of 0) ≡ Of 0
-    never x true true true = refl
-    never x true true false = refl
-    never x true false c = refl
-    never x false b c = refl
 
 -- the units and counts follow: those of H, which are the machine's units us
 pub record CoreFollows (order : ValueOrder) {W : Type 0} (s : List ℕ) (core : Core) (H : HistoryOf W) (us : ℕ → Agent) : Type 0 where
@@ -80,15 +50,6 @@ pub record CoreFollows (order : ValueOrder) {W : Type 0} (s : List ℕ) (core : 
   pub deliveries : valueOf (core .deliveries) ≡ length (H .handed)
 
 module _ (order : ValueOrder) (s : List ℕ) (ok : Accepted s) where
-  pub laws : Laws (problemBy order (instanceOf s))
-  laws = laws-by order (instanceOf s) (sound-of s ok)
-
-  pub views : (k : ℕ) → k < instanceOf s .n → GoodView (instanceOf s .n) (sizesIn s) (viewBy order (instanceOf s) k)
-  unfolding instanceOf
-  views k lt =
-      let n16 : unitsOf s ≤ 16 = accepted-units s ok .1 in
-      view-good order (instanceOf s) (sizesIn s) k (sound-of s ok) (accepted-sizes-good s ok) (omega (arith, length-sizes s, n16)) lt (sym (sizes-at s k (omega (arith, lt, n16))))
-
   -- ---- a packet that can be written, and its bytes
 
   module _ (p : Packet) (w : Sendable (instanceOf s .n) (sizesIn s) p) where
@@ -107,7 +68,7 @@ module _ (order : ValueOrder) (s : List ℕ) (ok : Accepted s) where
   -- ---- the records fit two words
 
   records-below : (us : ℕ → Agent) → Safe (problemBy order (instanceOf s)) us → (hs : List UnitState) (W : List Written) → Matches order (instanceOf s) hs W us → length W < 2 ^ 64 * 2 ^ 64
-  records-below us safe hs W m = subst (λ x. x < 2 ^ 128) (sym (m .whole)) (records-fit (problemBy order (instanceOf s)) laws us safe (sound-of s ok .n16))
+  records-below us safe hs W m = subst (λ x. x < 2 ^ 128) (sym (m .whole)) (records-fit (problemBy order (instanceOf s)) (laws order s ok) us safe (sound-of s ok .n16))
 
   -- ---- making: unit 1 gave u, o and ws
 

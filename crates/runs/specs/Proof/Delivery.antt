@@ -29,7 +29,7 @@ use Rattle.rules.specs.declared.Unit.{Unit as UnitState}
 use Rattle.rules.specs.declared.Sending.{Sending}
 use Rattle.rules.specs.Step as U
 use Rattle.rules.specs.Step.{Decision, Written}
-use Rattle.rules.specs.Send.{packets}
+use Rattle.rules.specs.Send.{packets, packetBytes}
 use Rattle.rules.specs.Units.{unitAt, placeOf, stepOn}
 use Rattle.rules.specs.Laws.Packets.{Sendable}
 use Rattle.rules.specs.Laws.Assign.{Whenever}
@@ -41,6 +41,7 @@ use Rattle.protocol.specs.Theorem.{Kept, deliver-kept}
 use Rattle.protocol.specs.Simulation.Relations.{ReadAll, read-append}
 use Rattle.protocol.specs.Simulation.Units as X
 use Rattle.protocol.specs.Simulation.Units.{read-length, Simulated, StepsTo}
+use Rattle.protocol.specs.Simulation.Table.{laws, views}
 use Rattle.runs.specs.Pool.{cellOf, poolAfter}
 use Rattle.runs.specs.Pool.Stored.{AllSized, StandsAt, stands-at, none-at, no-room, some-room, cell-in-use, cell-bytes, used-after, put-stored}
 use Rattle.runs.specs.Run as R
@@ -48,7 +49,7 @@ use Rattle.runs.specs.Run.{History, DeliveryOf, cells, stopped, onward, 
 use Rattle.runs.specs.Calls as C
 use Rattle.runs.specs.Calls.{Result, deliverRefusal, receiverOf, stepFrom8, refusedDelivery, deliverBy, deliverOf}
 use Rattle.runs.specs.Demand3.{Shed, shedOf, times, Honest}
-use Rattle.runs.specs.Proof.Core.{packetBytes, laws, views, receiver-is, step-is, core-steps}
+use Rattle.runs.specs.Proof.Core.{receiver-is, step-is, core-steps}
 use Rattle.runs.specs.Code.{unitInRange, check-stopped, check-cell, check-none, deliver-goes}
 use Rattle.runs.specs.Proof.Walk.{hand-cases, deliver-cases}
 use Rattle.runs.specs.Proof.Invariant.{Invariant, sized, accepted-below, same-stop, cut, step-accepted}

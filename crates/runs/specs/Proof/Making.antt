@@ -22,13 +22,14 @@ use Rattle.protocol.specs.Machine as M
 use Rattle.protocol.specs.Machine.{Result}
 use Rattle.protocol.specs.Theorem.{Kept, make-kept}
 use Rattle.protocol.specs.Simulation.Units.{Simulated, start-simulated}
+use Rattle.protocol.specs.Simulation.Table.{stream-free, laws, views}
 use Rattle.runs.specs.Run as R
 use Rattle.runs.specs.Calls as C
 use Rattle.runs.specs.Calls.{makingRefusal, makeOf}
 use Rattle.runs.specs.Demand3.{shedOf, Made, times}
 use Rattle.runs.specs.Code.{makeable}
 use Rattle.runs.specs.Pool.Stored.{start-stored}
-use Rattle.runs.specs.Proof.Core.{stream-free, laws, views, core-starts}
+use Rattle.runs.specs.Proof.Core.{core-starts}
 use Rattle.runs.specs.Proof.Invariant.{Invariant, sized}
 
 -- none was handed over by making

@@ -17,20 +17,22 @@ use Rattle.base.specs.Limits.{NONE, totalLimit}
 use Rattle.costs.specs.declared.Cost.the-variants.{Of, Forbidden}
 use Rattle.costs.specs.Cost.{asNumber}
 use Rattle.costs.specs.Cost.Laws.{number-most, number-below, number-is}
-use Rattle.costs.specs.Instance.{Instance}
+use Rattle.costs.specs.declared.ValueOrder.the-variants.{Ascending}
+use Rattle.costs.specs.Instance.{Instance, View, viewBy}
 use Rattle.costs.specs.Bounds.{Assignment, total}
+use Rattle.costs.specs.Order.Laws.{ascending-place}
+use Rattle.costs.specs.Least.{Before, LeastFirst, Padded}
+use Rattle.costs.specs.Least.Laws.{Agree, agree-next, before-differs, before-not-after, alike-total}
 use Rattle.costs.specs.Laws.{Sound}
 use Rattle.costs.specs.Laws.Prefix.{total-limit, permitted-total, total-permitted}
 use Rattle.search.specs.declared.Best.{Best}
 use Rattle.search.specs.Best.{nothing, keep, inTurn, bestFrom, bestOf}
-use Rattle.search.specs.Least.{Before, LeastFirst, Padded}
-use Rattle.search.specs.Least.Order.{Agree, agree-next, before-not-after, alike-total}
 
 -- ---- what a part of the search picks
 
 -- r is of S, lower than b, and the first of its total in S
 abbrev Newer : Instance → (List ℕ → Type 0) → Best → Best → Type 0
-Newer I S b r = S (r .values) × (r .total ≡ asNumber (total I (r .values))) × (r .total < b .total) × ((m : List ℕ) → S m → Before (I .n) m (r .values) → r .total < asNumber (total I m))
+Newer I S b r = S (r .values) × (r .total ≡ asNumber (total I (r .values))) × (r .total < b .total) × ((m : List ℕ) → S m → Before Ascending I m (r .values) → r .total < asNumber (total I m))
 
 -- r is the first least of b and the choices in S, b coming first
 pub record Picked (I : Instance) (S : List ℕ → Type 0) (b r : Best) : Type 0 where
@@ -51,7 +53,7 @@ picked-none : (I : Instance) (S : List ℕ → Type 0) (b : Best) → ((m : List
 picked-none I S b empty = record { below = omega arith; least = λ m x. absurd (empty m x); from = inl refl }
 
 -- S, then T, whose choices come after those of S
-module _ (I : Instance) (S T : List ℕ → Type 0) (b a r : Best) (after : (l m : List ℕ) → S l → T m → Before (I .n) l m) (f : Picked I S b a) (g : Picked I T a r) where
+module _ (I : Instance) (S T : List ℕ → Type 0) (b a r : Best) (after : (l m : List ℕ) → S l → T m → Before Ascending I l m) (f : Picked I S b a) (g : Picked I T a r) where
   abbrev Either : List ℕ → Type 0
   Either m = S m ⊎ T m
 
@@ -60,14 +62,14 @@ module _ (I : Instance) (S T : List ℕ → Type 0) (b a r : Best) (after : (l m
   bounds m (inr y) = g .least m y
 
   -- r is of T
-  first-of-second : Newer I T a r → (m : List ℕ) → Either m → Before (I .n) m (r .values) → r .total < asNumber (total I m)
+  first-of-second : Newer I T a r → (m : List ℕ) → Either m → Before Ascending I m (r .values) → r .total < asNumber (total I m)
   first-of-second h m (inl x) p = omega (arith, h .2, f .least m x)
   first-of-second h m (inr y) p = h .3 m y p
 
   -- r is of S
-  first-of-first : Newer I S b r → (m : List ℕ) → Either m → Before (I .n) m (r .values) → r .total < asNumber (total I m)
+  first-of-first : Newer I S b r → (m : List ℕ) → Either m → Before Ascending I m (r .values) → r .total < asNumber (total I m)
   first-of-first h m (inl x) p = h .3 m x p
-  first-of-first h m (inr y) p = absurd (before-not-after (I .n) m (r .values) p (after (r .values) m (h .0) y))
+  first-of-first h m (inr y) p = absurd (before-not-after Ascending I m (r .values) p (after (r .values) m (h .0) y))
 
   either : (r ≡ a) ⊎ Newer I T a r → (a ≡ b) ⊎ Newer I S b a → (r ≡ b) ⊎ Newer I Either b r
   either (inr h) x = inr (inr (h .0), h .1, omega (arith, h .2, f .below), first-of-second h)
@@ -119,10 +121,12 @@ module _ (I : Instance) (k : ℕ) (p : List ℕ) (inside : k < I .n) (room : k <
         go true e = inl (value-extends v m (y .0) (eqb-true (getD m k 0) v e))
         go false e = let q : getD m k 0 ≡ v → ⊥ = eqb-false (getD m k 0) v e in inr (y .0, omega (arith, y .1), omega (arith, y .2))
 
-    ascending : (l m : List ℕ) → Extends I (suc k) (set p k v) l → Among I k p (suc v) d m → Before (I .n) l m
+    ascending : (l m : List ℕ) → Extends I (suc k) (set p k v) l → Among I k p (suc v) d m → Before Ascending I l m
     ascending l m x y =
+        let w : View = viewBy Ascending I k in
         let e = with-value v l x in
-        record { place = k; inside = inside; same = λ i h. begins v l x i h ∙ sym (y .0 .0 i h); lower = omega (arith, y .1) }
+        let a : getD l k 0 < getD m k 0 = omega (arith, y .1) in
+        record { place = k; inside = inside; same = λ i h. begins v l x i h ∙ sym (y .0 .0 i h); sooner = rw (ascending-place w refl (getD l k 0), ascending-place w refl (getD m k 0)) a }
 
   in-turn-keeps : (f : ℕ → Best → Best) → ((v : ℕ) (a : Best) → 1 ≤ v → v ≤ I .dom k → Picked I (Extends I (suc k) (set p k v)) a (f v a))
       → (d v : ℕ) (b : Best) → 1 ≤ v → v + d ≤ suc (I .dom k) → Picked I (Among I k p v d) b (inTurn f v d b)
@@ -149,7 +153,7 @@ module _ (I : Instance) where
           record {
             below = omega arith;
             least = λ m x. omega (arith, alike-p m x);
-            from = inr ((λ i l. refl, λ i l r. absurd (omega arith)), refl, h, λ m x o. absurd (omega (arith, x .0 (o .place) (omega (arith, o .inside)), o .lower)));
+            from = inr ((λ i l. refl, λ i l r. absurd (omega arith)), refl, h, λ m x o. absurd (before-differs Ascending I m p o (x .0 (o .place) (omega (arith, o .inside)))));
           }
       go false q =
           let h = ltb-false (asNumber (total I p)) (b .total) q in
@@ -212,10 +216,10 @@ module _ (I : Instance) (sound : Sound I) where
   none-kept : bestOf I .total ≡ NONE → (m : List ℕ) → Assignment I m → ⊥
   none-kept e m a = omega (arith, best-picked .least m (any-extends m a), number-most totalLimit (total I m) (total-limit I sound m) (permitted-total I m (a .1)))
 
-  pub best-least-first : LeastFirst I (bestOf I .total) (bestOf I .values)
+  pub best-least-first : LeastFirst Ascending I (bestOf I .total) (bestOf I .values)
   best-least-first = go (best-picked .from)
     where
-      go : (bestOf I ≡ nothing) ⊎ Newer I (Extends I 0 (replicate 16 0)) nothing (bestOf I) → LeastFirst I (bestOf I .total) (bestOf I .values)
+      go : (bestOf I ≡ nothing) ⊎ Newer I (Extends I 0 (replicate 16 0)) nothing (bestOf I) → LeastFirst Ascending I (bestOf I .total) (bestOf I .values)
       go (inl e) =
           let none = none-kept (ap (λ (b : Best). b .total) e) in
           record {

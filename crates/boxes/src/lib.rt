@@ -1,0 +1,1 @@
+// What boxes on the air promise is theory only: definitions and proofs stand in specs/.
