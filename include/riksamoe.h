@@ -65,8 +65,10 @@
  *   riksamoe_unit_step_in_place_by    5,376
  *   riksamoe_network_make            13,312
  *   riksamoe_network_make_by         13,312
- *   riksamoe_network_deliver         29,952
- *   riksamoe_network_deliver_by      27,648
+ *   riksamoe_network_deliver         36,352
+ *   riksamoe_network_deliver_by      34,048
+ *   riksamoe_network_echo            38,656
+ *   riksamoe_network_echo_by         36,352
  *   riksamoe_network_settle         152,576
  *   riksamoe_network_settle_by      152,576
  *   riksamoe_search                   7,424
@@ -81,7 +83,7 @@
 extern "C" {
 #endif
 
-#define RIKSAMOE_VERSION 6         /* raised where a call, a struct or a promise below changes */
+#define RIKSAMOE_VERSION 7         /* raised where a call, a struct or a promise below changes */
 
 #define RIKSAMOE_UNITS 16          /* places in every array: unit k's is k - 1 */
 #define RIKSAMOE_NONE 4294967295u  /* the bound *none*; the estimate of a unit that has no value left */
@@ -198,7 +200,7 @@ typedef struct {
     uint64_t high; /* 8 */
 } riksamoe_count_t;
 
-/* All units of a table, with the counts: values written down, and deliveries accepted. Size 2,272. */
+/* All units of a table, with the counts: values written down, and deliveries accepted, echoes among them. Size 2,272. */
 typedef struct {
     riksamoe_unit_t units[16];   /*    0 */
     riksamoe_count_t records;    /* 2240 */
@@ -297,7 +299,7 @@ riksamoe_report_t riksamoe_unit_step_in_place_by(uint8_t order, riksamoe_unit_t 
                                                  size_t packet_length, uint8_t *out, size_t room);
 
 /* ---- A network: all units of a table at one place, for tests and trials, where a run can be ordered at will. Lend RIKSAMOE_POOL bytes as
- * `pool`, and to every delivery the same stream and order, the network as the call before gave it and the pool as it left it. */
+ * `pool`, and to every delivery or echo the same stream and order, the network as the call before gave it and the pool as it left it. */
 
 /* All units, new, and what unit 1 sends in the pool: 5, 6, 7, 13. */
 riksamoe_answer_t riksamoe_network_make(const uint8_t *stream, size_t length, uint8_t *pool, size_t room);
@@ -310,6 +312,14 @@ riksamoe_answer_t riksamoe_network_deliver(riksamoe_network_t network, const uin
                                            uint64_t cell);
 riksamoe_answer_t riksamoe_network_deliver_by(uint8_t order, riksamoe_network_t network, const uint8_t *stream, size_t length,
                                               uint8_t *pool, size_t room, uint64_t cell);
+
+/* A packet that was sent is heard again: it goes to its unit; nothing leaves the pool, and what the unit sends is added at the end: 13,
+ * 5 (n, sizes), 6, 7, 5 (states of units 1 to n, cells in use), 12 (unit 1), 8, 10, 9, 12 (the receiver), 11, 14. Lend bytes of your own,
+ * not a cell of the pool. Units past n are not looked at and come back as lent. The call can't tell an echo from a forgery. */
+riksamoe_answer_t riksamoe_network_echo(riksamoe_network_t network, const uint8_t *stream, size_t length, uint8_t *pool, size_t room,
+                                        const uint8_t *packet, size_t count);
+riksamoe_answer_t riksamoe_network_echo_by(uint8_t order, riksamoe_network_t network, const uint8_t *stream, size_t length,
+                                           uint8_t *pool, size_t room, const uint8_t *packet, size_t count);
 
 /* Making, then cell 0 again and again until unit 1 has stopped: 5, 6, 7, 13, as making; proved: it comes to that end, and no delivery on
  * the way is refused. The answer is in unit 1. How long it takes is not bounded by anything short. It keeps the costs of every unit on the stack. */

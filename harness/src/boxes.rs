@@ -5,62 +5,38 @@
 pub mod problem;
 pub mod run;
 
-use crate::calls::{self, Input, Outcome};
-use crate::cases;
-use crate::generate;
+use crate::calls::{self, Event, Input, Outcome};
 use crate::random::Random;
 use crate::reference::message;
 use crate::reference::network;
 use crate::reference::order::ValueOrder;
-use crate::reference::{FORBIDDEN_PAIR, NONE};
+use crate::reference::NONE;
+use crate::trials::{self, Library, Report};
 use problem::{check_stopped, Problem};
 use run::{Run, Schedule};
 
-/// An implementation of every call.
-pub struct Library<'a> {
-    pub name: &'a str,
-    pub call: &'a dyn Fn(Input) -> Outcome,
-}
-
-pub const REFERENCE: Library = Library { name: "the second implementation", call: &calls::reference };
-
 // Trials
 
-/// What was tried. Packets and cases are those of the first implementation: the others come to the same.
-pub struct Report {
-    pub tables: u64,
-    pub runs: u64,
-    pub accepted: u128,
-    /// By 12.
-    pub refused: u128,
-    pub cases: Vec<(Case, u64)>,
-    pub fault: Option<String>,
-}
-
 /// Tables in one order of values; stops at the first fault.
-pub fn try_tables(libraries: &[Library], order: ValueOrder, tables: u64, seed: u64) -> Report {
-    let mut random = Random::new(seed);
-    let cases = CASES.map(|case| (case, 0)).to_vec();
-    let mut report = Report { tables: 0, runs: 0, accepted: 0, refused: 0, cases, fault: None };
-    while report.tables < tables && report.fault.is_none() {
-        let stream = generate::searched(&mut random);
-        let tried = try_table(libraries, &Problem::new(order, &stream), &mut random, &mut report);
-        report.fault = tried.err().map(|fault| format!("{fault}; the stream is {stream:?}"));
-        report.tables += 1;
-    }
-    report
+pub fn try_tables(libraries: &[Library], order: ValueOrder, tables: u64, seed: u64) -> Report<Case> {
+    trials::try_tables(&CASES, order, tables, seed, |problem, random, report| {
+        try_table(libraries, problem, random, report)
+    })
 }
 
 /// On the air by several schedules, in the shed, on the bench.
-fn try_table(libraries: &[Library], problem: &Problem, random: &mut Random, report: &mut Report) -> Result<(), String> {
+fn try_table(
+    libraries: &[Library],
+    problem: &Problem,
+    random: &mut Random,
+    report: &mut Report<Case>,
+) -> Result<(), String> {
     report.count(|case| table_comes_to(case, problem));
     for schedule in Schedule::some(random, problem.units()) {
         let seed = random.word();
         let run = try_air(libraries, problem, schedule, seed);
         let run = run.map_err(|fault| format!("{schedule:?}, seed {seed}: {fault}"))?;
-        report.runs += 1;
-        report.accepted += run.accepted();
-        report.refused += run.handed.len() as u128 - run.accepted();
+        report.count_run(run.handed.iter().map(|handed| handed.refusal));
         report.count(|case| run_comes_to(case, problem, &run));
     }
     let seed = random.word();
@@ -70,20 +46,13 @@ fn try_table(libraries: &[Library], problem: &Problem, random: &mut Random, repo
     })
 }
 
-/// One run by each implementation, which must be the same one; it is handed back.
 fn try_air(libraries: &[Library], problem: &Problem, schedule: Schedule, seed: u64) -> Result<Run, String> {
-    let runs = libraries.iter().map(|library| {
-        let run = run::run(library, problem, schedule, seed);
-        let checked = run.and_then(|run| problem.check(&run).map(|()| run));
-        checked.map_err(|fault| format!("{}: {fault}", library.name))
-    });
-    let mut runs = runs.collect::<Result<Vec<Run>, String>>()?;
-    if let Some(k) = runs.iter().position(|run| *run != runs[0]) {
-        let same = runs[0].handed.iter().zip(&runs[k].handed).take_while(|(one, other)| one == other).count();
-        let names = format!("{} and {}", libraries[0].name, libraries[k].name);
-        return Err(format!("{names} differ after {same} packets that are handed over alike"));
-    }
-    Ok(runs.swap_remove(0))
+    let checked = |library: &Library| {
+        let run = run::run(library, problem, schedule, seed)?;
+        problem.check(&run)?;
+        Ok(run)
+    };
+    trials::by_each(libraries, checked, |one, other| trials::same_start(&one.handed, &other.handed))
 }
 
 /// Box 1 of the shed: settled, and with any cell delivered each time.
@@ -114,9 +83,9 @@ fn deliver_any(library: &Library, problem: &Problem, seed: u64) -> Outcome {
             break;
         }
         let network = Box::new(calls::network_in(&shed));
-        let cell = random.below(network.count);
+        let event = Event::Cell(random.below(network.count));
         let (stream, pool) = (problem.stream.to_vec(), shed.lent);
-        shed = (library.call)(Input::Deliver { order, network, stream, pool, cell });
+        shed = (library.call)(Input::Deliver { order, network, stream, event, pool });
     }
     shed
 }
@@ -165,29 +134,12 @@ const CASES: [Case; 10] = {
     [Tie, OrderDecides, Forbidden, Unary, NoneMade, NoneSearched, Most, FirstRefuses, OtherRefuses, RunsOn]
 };
 
-impl Report {
-    fn count(&mut self, comes_to: impl Fn(Case) -> bool) {
-        self.cases.iter_mut().for_each(|(case, times)| *times += u64::from(comes_to(*case)));
-    }
-}
-
-/// `tables 4, runs 32, accepted 900, 12: 60, Tie: 3`.
-pub fn counted(report: &Report) -> String {
-    let Report { tables, runs, accepted, refused, .. } = report;
-    let mut text = format!("tables {tables}, runs {runs}, accepted {accepted}, 12: {refused}");
-    for (case, times) in &report.cases {
-        text += &format!(", {case:?}: {times}");
-    }
-    text
-}
-
 fn table_comes_to(case: Case, problem: &Problem) -> bool {
-    let (unary, pairs) = cases::costs_in(&Input::Search { stream: problem.stream.to_vec() });
     match case {
-        Case::Tie => !problem.ties.is_empty(),
-        Case::OrderDecides => Problem::new(problem.order.other(), problem.stream).best != problem.best,
-        Case::Forbidden => problem.total != NONE && pairs.contains(&FORBIDDEN_PAIR),
-        Case::Unary => unary.iter().any(|cost| *cost > 0),
+        Case::Tie => problem.has_ties(),
+        Case::OrderDecides => problem.order_decides(),
+        Case::Forbidden => problem.has_forbidden(),
+        Case::Unary => problem.has_unary(),
         _ => false,
     }
 }

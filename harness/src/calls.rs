@@ -25,6 +25,7 @@ pub enum Call {
     Step(ValueOrder),
     MakeNetwork(ValueOrder),
     Deliver(ValueOrder),
+    Echo(ValueOrder),
     Settle(ValueOrder),
     Search,
 }
@@ -34,9 +35,10 @@ const IN_RANGE: &[u8] = &[5, 10, 6, 7];
 const STEP: &[u8] = &[13, 5, 10, 6, 7, 8, 9, 12, 11];
 const MAKE_NETWORK: &[u8] = &[5, 6, 7, 13];
 const DELIVER: &[u8] = &[13, 5, 6, 7, 12, 15, 8, 10, 9, 11, 14];
+const ECHO: &[u8] = &[13, 5, 6, 7, 12, 8, 10, 9, 11, 14];
 
 /// Each call, its name in the Rattle code with the order in which it tries values, and the refusals it can give.
-pub const CALLS: [(Call, &str, &[u8]); 23] = [
+pub const CALLS: [(Call, &str, &[u8]); 25] = [
     (Call::Sum, "checksum::sum", &[]),
     (Call::Block, "table::read_block", &[1, 4, 2, 3]),
     (Call::Read, "table::read", &[13, 1, 4, 2, 3, 5, 6, 7]),
@@ -57,6 +59,8 @@ pub const CALLS: [(Call, &str, &[u8]); 23] = [
     (Call::MakeNetwork(CheapestFirst), "network::make, cheapest first", MAKE_NETWORK),
     (Call::Deliver(Ascending), "network::deliver, ascending", DELIVER),
     (Call::Deliver(CheapestFirst), "network::deliver, cheapest first", DELIVER),
+    (Call::Echo(Ascending), "network::echo, ascending", ECHO),
+    (Call::Echo(CheapestFirst), "network::echo, cheapest first", ECHO),
     (Call::Settle(Ascending), "network::settle, ascending", MAKE_NETWORK),
     (Call::Settle(CheapestFirst), "network::settle, cheapest first", MAKE_NETWORK),
     (Call::Search, "search::exhaustive", &[5, 6, 7, 16]),
@@ -69,7 +73,32 @@ pub fn order_of(named: Named) -> ValueOrder {
     named.map_or_else(ValueOrder::default, ValueOrder::numbered)
 }
 
-/// What a call is lent. The last buffer of each is the one that it may write.
+/// What a unit of a shed hears: the packet at a cell, or the echo of one, whose bytes are lent again.
+#[derive(Clone, PartialEq, Eq, Debug)]
+pub enum Event {
+    Cell(u64),
+    Echo(Vec<u8>),
+}
+
+impl Event {
+    /// The packet that is heard. A cell is one of the pool's.
+    pub fn packet<'a>(&'a self, pool: &'a [u8]) -> &'a [u8] {
+        match self {
+            Event::Cell(cell) => &pool[message::SIZE * *cell as usize..][..message::SIZE],
+            Event::Echo(packet) => packet,
+        }
+    }
+
+    /// The cells that stay in use of so many. 02's job 2: of an echo "nothing leaves the pool".
+    pub fn stay(&self, used: u64) -> u64 {
+        match self {
+            Event::Cell(_) => used.saturating_sub(1),
+            Event::Echo(_) => used,
+        }
+    }
+}
+
+/// What a call is lent; `Deliver` is a delivery or an echo. The last buffer of each is the one that it may write.
 #[derive(Clone, Debug)]
 pub enum Input {
     Sum { bytes: Vec<u8> },
@@ -85,7 +114,7 @@ pub enum Input {
     InRange { order: Named, unit: Unit, own: u8, n: u8, sizes: Places, costs: Vec<u8> },
     Step { order: Named, unit: Unit, own: u8, n: u8, sizes: Places, costs: Vec<u8>, packet: Vec<u8>, out: Vec<u8> },
     MakeNetwork { order: Named, stream: Vec<u8>, pool: Vec<u8> },
-    Deliver { order: Named, network: Box<Network>, stream: Vec<u8>, pool: Vec<u8>, cell: u64 },
+    Deliver { order: Named, network: Box<Network>, stream: Vec<u8>, event: Event, pool: Vec<u8> },
     Settle { order: Named, stream: Vec<u8>, pool: Vec<u8> },
     Search { stream: Vec<u8> },
 }
@@ -161,6 +190,14 @@ pub fn lent_outcome(n: u8, sizes: &Places, mut gathered: Outcome) -> Outcome {
     gathered
 }
 
+/// A delivery or an echo by the reference implementation.
+pub fn hear(order: ValueOrder, network: &mut Network, stream: &[u8], event: &Event, pool: &mut [u8]) -> Result<(), u8> {
+    match event {
+        Event::Cell(cell) => network::deliver_by(order, network, stream, pool, *cell),
+        Event::Echo(packet) => network::echo_by(order, network, stream, pool, packet),
+    }
+}
+
 /// The reference implementation's outcome.
 pub fn reference(input: Input) -> Outcome {
     match input {
@@ -200,9 +237,9 @@ pub fn reference(input: Input) -> Outcome {
         Input::MakeNetwork { order, stream, mut pool } => {
             made_outcome(network::make_by(order_of(order), &stream, &mut pool), pool)
         }
-        Input::Deliver { order, mut network, stream, mut pool, cell } => {
-            let delivered = network::deliver_by(order_of(order), &mut network, &stream, &mut pool, cell);
-            network_outcome(delivered.err().unwrap_or(0), &network, pool)
+        Input::Deliver { order, mut network, stream, event, mut pool } => {
+            let heard = hear(order_of(order), &mut network, &stream, &event, &mut pool);
+            network_outcome(heard.err().unwrap_or(0), &network, pool)
         }
         Input::Settle { order, stream, mut pool } => {
             made_outcome(network::settle_by(order_of(order), &stream, &mut pool), pool)

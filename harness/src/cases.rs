@@ -1,5 +1,5 @@
-//! What an input comes to beside the refusals: the cases of forbidden pairs (02's job 3), of unary costs (its job 7) and of the order of
-//! values (its job 9), each of which generated inputs must come to; then what they look at: an input's costs, and a unit's step.
+//! What an input comes to beside the refusals: the cases of echoes (02's job 2), of forbidden pairs (its job 3), of unary costs (its job 7)
+//! and of the order of values (its job 9), each of which generated inputs must come to; then what they look at: an input's costs, and a unit's step.
 
 use crate::calls::{order_of, Call, Input, Outcome};
 use crate::reference::costs::{self, View};
@@ -8,11 +8,12 @@ use crate::reference::order::ValueOrder;
 use crate::reference::table::{self, Form};
 use crate::reference::unit::{self, Unit};
 use crate::reference::Places;
-use crate::{forbidden, order, unary};
+use crate::{echo, forbidden, order, unary};
 use std::fmt;
 
 #[derive(Clone, Copy, PartialEq, Eq)]
 pub enum Case {
+    Echo(echo::Case),
     Forbidden(forbidden::Case),
     Unary(unary::Case),
     Order(order::Case),
@@ -21,6 +22,7 @@ pub enum Case {
 impl fmt::Display for Case {
     fn fmt(&self, out: &mut fmt::Formatter) -> fmt::Result {
         match self {
+            Case::Echo(case) => write!(out, "{case:?}"),
             Case::Forbidden(case) => write!(out, "{case:?}"),
             Case::Unary(case) => write!(out, "{case:?}"),
             Case::Order(case) => write!(out, "{case:?}"),
@@ -30,15 +32,18 @@ impl fmt::Display for Case {
 
 /// The cases that a call can come to.
 pub fn cases(call: Call) -> Vec<Case> {
+    let forbidden = forbidden::cases(call).iter().map(|case| Case::Forbidden(*case));
     let unary = unary::cases(call).into_iter().map(Case::Unary);
     let order = order::cases(call).into_iter().map(Case::Order);
-    forbidden::cases(call).iter().map(|case| Case::Forbidden(*case)).chain(unary).chain(order).collect()
+    let echo = echo::cases(call).into_iter().map(Case::Echo);
+    forbidden.chain(unary).chain(order).chain(echo).collect()
 }
 
 /// The cases that an input came to; the outcome is the reference's.
 pub fn reached(call: Call, input: &Input, outcome: &Outcome) -> Vec<Case> {
     let mut cases = cases(call);
     cases.retain(|case| match case {
+        Case::Echo(case) => echo::came_to(*case, input, outcome),
         Case::Forbidden(case) => forbidden::came_to(*case, input, outcome),
         Case::Unary(case) => unary::came_to(*case, input, outcome),
         Case::Order(case) => order::came_to(*case, input, outcome),
@@ -181,7 +186,7 @@ pub fn first_made(input: &Input) -> Option<Seat> {
     }
 }
 
-/// A step alone or of a delivery, accepted or refused by 11.
+/// A step alone, of a delivery or of an echo, accepted or refused by 11.
 pub struct Stepped {
     pub seat: Seat,
     pub before: Unit,
@@ -204,13 +209,13 @@ impl Stepped {
                 let sent = cells(0, outcome.numbers[0]);
                 Some(Stepped { seat, before: *unit, after: outcome.units[0], kind, message, sent })
             }
-            Input::Deliver { order, network, stream, pool, cell } => {
+            Input::Deliver { order, network, stream, event, pool } => {
                 let (n, sizes) = table::head(stream);
-                let at = 64 * *cell as usize;
-                let (kind, message) = message::parse(n, &sizes, &pool[at..at + 64]).ok()?;
+                let (kind, message) = message::parse(n, &sizes, event.packet(pool)).ok()?;
                 let seat = Seat::of_stream(order_of(*order), stream, message.receiver as usize);
                 let (before, after) = (network.units[seat.own - 1], outcome.units[seat.own - 1]);
-                let sent = if outcome.refusal == 0 { cells(network.count - 1, outcome.numbers[0]) } else { Vec::new() };
+                let stay = event.stay(network.count);
+                let sent = if outcome.refusal == 0 { cells(stay, outcome.numbers[0]) } else { Vec::new() };
                 Some(Stepped { seat, before, after, kind, message, sent })
             }
             _ => None,

@@ -47,7 +47,7 @@ pub fn cases(call: Call) -> &'static [Case] {
         Call::Parse | Call::Encode => &[Estimate, OneBelow],
         Call::Make(_) | Call::MakeNetwork(_) => &[Pair, OneBelow, NoH, Stops],
         Call::InRange(_) => &[Pair, OneBelow, OwnValue, OwnNoH],
-        Call::Step(_) | Call::Deliver(_) => {
+        Call::Step(_) | Call::Deliver(_) | Call::Echo(_) => {
             &[Pair, OneBelow, OwnValue, OwnNoH, Assigns, Stale, NotOut, Reply, Filled, NoH]
         }
         Call::Settle(_) => &[Pair, OneBelow, Stops, NoneLeft],

@@ -1,10 +1,12 @@
 //! Random inputs for every public call: right ones, ones with a single damage, and wrong lengths.
 //!
-//! In order: readings; messages; units; networks; `input`, which picks one for a call. Tables and their files are in `tables`.
+//! In order: readings; messages; units; networks; `input`, which picks one for a call. Tables and their files are in `tables`, sheds on their
+//! way in `runs`.
 
+mod runs;
 mod tables;
 
-use crate::calls::{Call, Input, Named};
+use crate::calls::{Call, Event, Input, Named};
 use crate::random::Random;
 use crate::reference::convert;
 use crate::reference::costs::{self, Cost, View};
@@ -15,6 +17,7 @@ use crate::reference::table::Form;
 use crate::reference::unit::Unit;
 use crate::reference::{cost_limit, table, Places, MAX_ESTIMATE, MAX_TOTAL, NONE};
 use crate::sample;
+use runs::{ran, Ran};
 use tables::{damage_cost, damage_file, damage_stream, dearest, file, sizes, some_stream, stream};
 pub use tables::{searched, stream_of};
 
@@ -324,25 +327,6 @@ fn message_for(random: &mut Random, view: &View, unit: &Unit) -> (u8, Message) {
 
 // Networks
 
-/// A network after some deliveries in this order, and its pool.
-pub fn network(random: &mut Random, order: ValueOrder, stream: &[u8]) -> (Network, Vec<u8>) {
-    let mut pool = vec![random.byte(); network::POOL];
-    let mut network = network::make_by(order, stream, &mut pool).expect("an accepted table");
-    let steps = random.below(40);
-    for _ in 0..steps {
-        if network.units[0].has_stopped() && !random.once_in(10) {
-            break;
-        }
-        let before = (network.clone(), pool.clone());
-        let cell = random.below(network.count.max(1));
-        let _ = network::deliver_by(order, &mut network, stream, &mut pool, cell);
-        if network.units[0].has_stopped() && random.once_in(2) {
-            return before;
-        }
-    }
-    (network, pool)
-}
-
 /// Fills the pool up to `count` cells with messages that wait already.
 fn crowd(random: &mut Random, network: &mut Network, pool: &mut [u8], count: u64) {
     let waiting = network.count;
@@ -368,11 +352,13 @@ fn some_unit(random: &mut Random, stream: &[u8]) -> usize {
     (1..=n.into()).find(|own| mixed(*own)).unwrap_or(own)
 }
 
-/// A packet into a cell, cut or filled up to its 64 bytes.
+/// A packet into a cell, cut or filled up to its 64 bytes, where the pool has not been cut itself.
 fn put(pool: &mut [u8], cell: u64, mut packet: Vec<u8>) {
     packet.resize(64, 1);
-    let at = 64 * cell.min(1_023) as usize;
-    pool[at..at + 64].copy_from_slice(&packet);
+    let at = 64 * cell as usize;
+    if let Some(bytes) = pool.get_mut(at..at + 64) {
+        bytes.copy_from_slice(&packet);
+    }
 }
 
 /// A state of another run, a message that has to do with a unit's state, or both.
@@ -380,9 +366,8 @@ fn meet_another_run(
     random: &mut Random,
     order: ValueOrder,
     network: &mut Network,
-    pool: &mut [u8],
+    packet: &mut Vec<u8>,
     stream: &[u8],
-    cell: u64,
 ) {
     let (n, sizes) = table::head(stream);
     let own = some_unit(random, stream);
@@ -394,19 +379,13 @@ fn meet_another_run(
     }
     if style > 1 {
         let (kind, m) = message_for(random, &view, &network.units[own - 1]);
-        put(pool, cell, message::encode(kind, &m).to_vec());
+        *packet = message::encode(kind, &m).to_vec();
     }
 }
 
-/// One damage to a network or to its pool; `cell` is the one that will be delivered, in this order.
-fn damage_network(
-    random: &mut Random,
-    order: ValueOrder,
-    network: &mut Network,
-    pool: &mut Vec<u8>,
-    stream: &[u8],
-    cell: u64,
-) {
+/// One damage to a network, to its pool or to the packet that will be heard, in this order.
+fn damage_network(random: &mut Random, order: ValueOrder, ran: &mut Ran, packet: &mut Vec<u8>, stream: &[u8]) {
+    let Ran { network, pool, .. } = ran;
     let (n, sizes) = table::head(stream);
     match random.below(19) {
         0 | 1 => {
@@ -433,13 +412,11 @@ fn damage_network(
             }
         }
         9 => {
-            let at = 64 * cell.min(1_023) as usize;
-            let mut packet = pool[at..at + 64].to_vec();
-            damage_packet(random, &mut packet);
-            put(pool, cell, packet);
+            packet.resize(64, 1);
+            damage_packet(random, packet);
         }
-        10..=16 => meet_another_run(random, order, network, pool, stream, cell),
-        _ => put(pool, cell, packet(random, n, &sizes)),
+        10..=16 => meet_another_run(random, order, network, packet, stream),
+        _ => *packet = self::packet(random, n, &sizes),
     }
 }
 
@@ -559,29 +536,70 @@ fn step(random: &mut Random, order: ValueOrder) -> Input {
     Input::Step { order: named(random, order), unit, own, n, sizes, costs, packet, out: buffer(random, 1_024) }
 }
 
-/// Once in 8 to a network whose run was in the other order.
-fn deliver(random: &mut Random, order: ValueOrder) -> Input {
-    let run = if random.once_in(8) { order.other() } else { order };
-    let mut stream = stream(random);
-    let (mut network, mut pool) = network(random, run, &stream);
-    while network.units[0].has_stopped() && network.deliveries == 0 && !random.once_in(4) {
-        stream = self::stream(random);
-        (network, pool) = self::network(random, run, &stream);
+/// A run on its way, rather one that has not stopped when made, and its stream.
+fn some_run(random: &mut Random, order: ValueOrder, echoes: bool) -> (Ran, Vec<u8>) {
+    loop {
+        let stream = stream(random);
+        let ran = ran(random, order, &stream, echoes);
+        if !ran.has_stopped() || ran.network.deliveries > 0 || random.once_in(4) {
+            return (ran, stream);
+        }
     }
-    let mut cell = random.below(network.count.max(1));
+}
+
+/// A delivery or an echo. Once in 8 the run was in the other order.
+fn deliver(random: &mut Random, order: ValueOrder, echo: bool) -> Input {
+    let run = if random.once_in(8) { order.other() } else { order };
+    let (mut ran, mut stream) = some_run(random, run, echo);
+    let cell = ran.any_cell(random);
+    let mut packet = if echo { ran.heard_again(random) } else { Event::Cell(cell).packet(&ran.pool).to_vec() };
     for _ in 0..random.below(3) {
-        damage_network(random, order, &mut network, &mut pool, &stream, cell);
-        if pool.len() < network::POOL {
+        damage_network(random, order, &mut ran, &mut packet, &stream);
+        if ran.pool.len() < network::POOL {
             break;
         }
     }
-    if random.once_in(10) {
-        cell = *random.pick(&[network.count, 1_023, 1_024, u64::MAX, 1 << 32, (1 << 32) + 1]);
-    }
+    let event = if echo { lent_again(random, packet) } else { at_cell(random, &mut ran, cell, packet) };
     if random.once_in(6) {
         damage_stream(random, &mut stream);
     }
-    Input::Deliver { order: named(random, order), network: Box::new(network), stream, pool, cell }
+    let Ran { network, pool, .. } = ran;
+    Input::Deliver { order: named(random, order), network: Box::new(network), stream, event, pool }
+}
+
+/// The packet stands at its cell, and at times another cell is named.
+fn at_cell(random: &mut Random, ran: &mut Ran, cell: u64, packet: Vec<u8>) -> Event {
+    put(&mut ran.pool, cell, packet);
+    if random.once_in(10) {
+        return Event::Cell(*random.pick(&[ran.network.count, 1_023, 1_024, u64::MAX, 1 << 32, (1 << 32) + 1]));
+    }
+    Event::Cell(cell)
+}
+
+/// At times bytes that are no packet, of any length, or a packet that is cut or goes on.
+fn lent_again(random: &mut Random, mut packet: Vec<u8>) -> Event {
+    match random.below(20) {
+        0 => {
+            let length = random.below(131);
+            packet = bytes(random, length);
+        }
+        1 => packet.truncate(random.below(64) as usize),
+        2 => packet.truncate(random.below(3) as usize),
+        3 => {
+            let more = random.between(1, 66);
+            packet.extend(bytes(random, more));
+        }
+        4 => {
+            packet = bytes(random, 64);
+            reseal(&mut packet);
+        }
+        _ => {}
+    }
+    Event::Echo(packet)
+}
+
+fn bytes(random: &mut Random, length: u64) -> Vec<u8> {
+    (0..length).map(|_| random.byte()).collect()
 }
 
 /// A table of few enough deliveries to be settled often; damaged at times.
@@ -714,7 +732,8 @@ pub fn input(random: &mut Random, call: Call) -> Input {
             let stream = some_stream(random, 3);
             Input::MakeNetwork { order: named(random, order), stream, pool: buffer(random, network::POOL) }
         }
-        Call::Deliver(order) => deliver(random, order),
+        Call::Deliver(order) => deliver(random, order, false),
+        Call::Echo(order) => deliver(random, order, true),
         Call::Settle(order) => settle(random, order),
         Call::Search => exhaustive(random),
     }

@@ -1,4 +1,4 @@
-//! An independent implementation of documents 01 and 02 (jobs 1, 3, 7 and 9) and the tools that compare the Rattle code with it.
+//! An independent implementation of documents 01 and 02 (jobs 1, 2, 3, 7 and 9) and the tools that compare the Rattle code with it.
 //!
 //! `reference` is written from the documents alone. Nothing here is proved: it is the other opinion.
 
@@ -6,8 +6,10 @@ pub mod boxes;
 pub mod calls;
 pub mod cases;
 pub mod differential;
+pub mod echo;
 pub mod forbidden;
 pub mod generate;
+pub mod heard_twice;
 pub mod lent;
 #[cfg(feature = "linked")]
 pub mod linked;
@@ -17,5 +19,6 @@ pub mod plot;
 pub mod random;
 pub mod reference;
 pub mod sample;
+pub mod trials;
 pub mod tuned;
 pub mod unary;

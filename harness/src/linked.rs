@@ -4,7 +4,7 @@
 //! A slice passes as a pointer and a length; structs pass by value and are `repr(C)`. A call that tries values is two, one that names no
 //! order and one that names it by its number: here one function for both.
 
-use crate::calls::{lent_outcome, Input, Named, Outcome};
+use crate::calls::{lent_outcome, Event, Input, Named, Outcome};
 use crate::reference;
 use crate::reference::network::Network as PlainNetwork;
 use crate::reference::table::Form;
@@ -537,9 +537,10 @@ pub fn linked(input: Input) -> Outcome {
         Input::MakeNetwork { order, stream, mut pool } => {
             network_outcome(&network_make(order, &stream, &mut pool), pool)
         }
-        Input::Deliver { order, network, stream, mut pool, cell } => {
+        Input::Deliver { order, network, stream, event: Event::Cell(cell), mut pool } => {
             network_outcome(&network_deliver(order, (&*network).into(), &stream, &mut pool, cell), pool)
         }
+        Input::Deliver { event: Event::Echo(_), .. } => unimplemented!("echoes are not linked yet"),
         Input::Settle { order, stream, mut pool } => network_outcome(&network_settle(order, &stream, &mut pool), pool),
         Input::Search { stream } => {
             let answer = search(&stream);

@@ -38,7 +38,7 @@ pub fn cases(call: Call) -> Vec<Case> {
     let (order, both, cheapest): (_, &[Case], &[Case]) = match call {
         Call::Make(order) | Call::MakeNetwork(order) => (order, &[OrderDecides], &[Tie]),
         Call::InRange(order) => (order, &[OnlyHere, NotHere], &[TieInRange, NoHInRange]),
-        Call::Step(order) | Call::Deliver(order) => {
+        Call::Step(order) | Call::Deliver(order) | Call::Echo(order) => {
             (order, &[OrderDecides, OnlyHere, NotHere], &[Tie, TieInRange, NoHLast, NoHInRange])
         }
         Call::Settle(order) => (order, &[OrderDecides, OtherBest], &[]),

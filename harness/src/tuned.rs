@@ -1,11 +1,11 @@
-//! Settle, deliver and step for the clock: the yardstick of scripts/speed, held equal to the reference by tests/tuned.rs.
+//! Settle, deliver, echo and step for the clock: the yardstick of scripts/speed, held equal to the reference by tests/tuned.rs.
 //!
 //! What it does that the reference doesn't: a run checks its table once, knows each unit's h and the order of its values, and trusts the packets that it wrote itself;
 //! nothing allocates once the run has begun; costs are read where they stand, a row of own values at a time; packets are read and written in
 //! place, those of one step from one template with one remainder each; a unit changes where it is.
-//! A delivery or a step alone is lent everything, so it checks everything, as the calls for C do.
+//! A delivery, an echo or a step alone is lent everything, so it checks everything, as the calls for C do.
 
-use crate::calls::{self, order_of, Input, Outcome};
+use crate::calls::{self, order_of, Event, Input, Outcome};
 use crate::reference::message::{CPA, ESTIMATE, REQUEST, SIZE, SOLUTION, STOP};
 use crate::reference::network::{Network, CELLS, POOL};
 use crate::reference::order::ValueOrder;
@@ -663,14 +663,62 @@ pub fn step_by(
     Ok((sent(&seat, &done) as u8, done.records))
 }
 
-/// What stands at the cell is taken out, and what is sent is added.
-fn carry<C: Costs>(seat: &Seat<C>, done: &Done, network: &mut Network, pool: &mut [u8], cell: usize) {
+/// What stands at the cell is taken out.
+fn take_out(network: &mut Network, pool: &mut [u8], cell: usize) {
     let end = SIZE * network.count as usize;
     pool.copy_within(SIZE * (cell + 1)..end, SIZE * cell);
-    network.count = network.count - 1 + sent(seat, done) as u64;
+    network.count -= 1;
+}
+
+/// What is sent is added, and all is counted.
+fn carry<C: Costs>(seat: &Seat<C>, done: &Done, network: &mut Network, pool: &mut [u8]) {
+    let end = SIZE * network.count as usize;
+    network.count += sent(seat, done) as u64;
     network.records = network.records.wrapping_add(done.records.into());
     network.deliveries = network.deliveries.wrapping_add(1);
-    send(seat, &network.units[seat.own], done, &mut pool[end - SIZE..]);
+    send(seat, &network.units[seat.own], done, &mut pool[end..]);
+}
+
+/// All that a delivery or an echo is lent beside its packet, checked: refusals 13, 5, 6, 7, 5, and 12 of unit 1.
+fn open_shed<'a>(order: ValueOrder, network: &Network, stream: &'a [u8], pool: &[u8]) -> Result<Layout<'a>, Refusal> {
+    if pool.len() < POOL {
+        return Err(13);
+    }
+    let layout = open(stream)?;
+    let good = |own: usize| in_range(&layout.seat(order, own, layout.costs), &network.units[own]);
+    if !(0..layout.n).all(good) || network.count > CELLS as u64 {
+        return Err(5);
+    }
+    if network.units[0].has_stopped() {
+        return Err(12);
+    }
+    Ok(layout)
+}
+
+/// The unit that the packet names hears it. Refusals 8, 10, 9, 12, 11, and 14 where what it sends doesn't fit behind the cells that stay; then
+/// it is as it was.
+fn hear<'a>(
+    order: ValueOrder,
+    layout: &Layout<'a>,
+    network: &mut Network,
+    packet: &[u8],
+    stay: u64,
+) -> Result<(Seat<&'a [u8]>, Done), Refusal> {
+    let named = packet.get(2).copied().unwrap_or(0);
+    let own = if named.wrapping_sub(1) < layout.n as u8 { named } else { 1 };
+    check_packet(layout.n, &layout.sizes, own, packet)?;
+    let seat = layout.seat(order, own as usize - 1, layout.costs);
+    let unit = &mut network.units[seat.own];
+    if unit.has_stopped() {
+        return Err(12);
+    }
+    let before = *unit;
+    let done = respond(&seat, unit, packet.try_into().unwrap())?;
+    if stay as usize + sent(&seat, &done) > CELLS {
+        *unit = before;
+        return Err(14);
+    }
+    Ok((seat, done))
 }
 
 /// One delivery, all that is lent checked. Refusals as the reference's.
@@ -681,36 +729,30 @@ pub fn deliver_by(
     pool: &mut [u8],
     cell: u64,
 ) -> Result<(), Refusal> {
-    if pool.len() < POOL {
-        return Err(13);
-    }
-    let layout = open(stream)?;
-    let (n, sizes) = (layout.n, layout.sizes);
-    let seat = |own: usize| layout.seat(order, own, layout.costs);
-    if (0..n).any(|own| !in_range(&seat(own), &network.units[own])) || network.count > CELLS as u64 {
-        return Err(5);
-    }
-    if network.units[0].has_stopped() {
-        return Err(12);
-    }
+    let layout = open_shed(order, network, stream, pool)?;
     if cell >= network.count {
         return Err(15);
     }
-    let cell = cell as usize;
+    let (cell, stay) = (cell as usize, network.count - 1);
     let packet: [u8; SIZE] = pool[SIZE * cell..SIZE * (cell + 1)].try_into().unwrap();
-    let own = if packet[2].wrapping_sub(1) < n as u8 { packet[2] } else { 1 };
-    check_packet(n, &sizes, own, &packet)?;
-    let seat = seat(own as usize - 1);
-    let before = network.units[seat.own];
-    if before.has_stopped() {
-        return Err(12);
-    }
-    let done = respond(&seat, &mut network.units[seat.own], &packet)?;
-    if network.count as usize - 1 + sent(&seat, &done) > CELLS {
-        network.units[seat.own] = before;
-        return Err(14);
-    }
-    carry(&seat, &done, network, pool, cell);
+    let (seat, done) = hear(order, &layout, network, &packet, stay)?;
+    take_out(network, pool, cell);
+    carry(&seat, &done, network, pool);
+    Ok(())
+}
+
+/// One echo, all that is lent checked. Refusals as the reference's.
+pub fn echo_by(
+    order: ValueOrder,
+    network: &mut Network,
+    stream: &[u8],
+    pool: &mut [u8],
+    packet: &[u8],
+) -> Result<(), Refusal> {
+    let layout = open_shed(order, network, stream, pool)?;
+    let stay = network.count;
+    let (seat, done) = hear(order, &layout, network, packet, stay)?;
+    carry(&seat, &done, network, pool);
     Ok(())
 }
 
@@ -738,12 +780,13 @@ pub fn settle_by(order: ValueOrder, stream: &[u8], pool: &mut [u8], most: u128) 
         if network.count as usize - 1 + sent(seat, &done) > CELLS {
             return Err(14);
         }
-        carry(seat, &done, &mut network, pool, 0);
+        take_out(&mut network, pool, 0);
+        carry(seat, &done, &mut network, pool);
     }
     Ok(network)
 }
 
-/// The outcome of settle, deliver and step here, of the other calls the reference's.
+/// The outcome of settle, deliver, echo and step here, of the other calls the reference's.
 pub fn tuned(input: Input) -> Outcome {
     match input {
         Input::Step { order, mut unit, own, n, sizes, costs, packet, mut out } => {
@@ -752,9 +795,13 @@ pub fn tuned(input: Input) -> Outcome {
             let (sent, records) = answer.unwrap_or((0, 0));
             calls::unit_outcome(&unit::Answer { refusal, unit, sent, records }, out)
         }
-        Input::Deliver { order, mut network, stream, mut pool, cell } => {
-            let delivered = deliver_by(order_of(order), &mut network, &stream, &mut pool, cell);
-            calls::network_outcome(delivered.err().unwrap_or(0), &network, pool)
+        Input::Deliver { order, mut network, stream, event, mut pool } => {
+            let order = order_of(order);
+            let heard = match event {
+                Event::Cell(cell) => deliver_by(order, &mut network, &stream, &mut pool, cell),
+                Event::Echo(packet) => echo_by(order, &mut network, &stream, &mut pool, &packet),
+            };
+            calls::network_outcome(heard.err().unwrap_or(0), &network, pool)
         }
         Input::Settle { order, stream, mut pool } => {
             calls::made_outcome(settle_by(order_of(order), &stream, &mut pool, u128::MAX), pool)

@@ -107,7 +107,7 @@ pub fn cases(call: Call) -> Vec<Case> {
         Call::InRange(_) => [&costs[..], &state, &[UnaryMissing]].concat(),
         Call::Step(_) => [&costs[..], &state, &[UnaryMissing, Decides, DearReply]].concat(),
         Call::MakeNetwork(_) => [&table[..], &[Largest, FirstPays, LeastOfOne]].concat(),
-        Call::Deliver(_) => [&table[..], &state, &[Decides, DearReply]].concat(),
+        Call::Deliver(_) | Call::Echo(_) => [&table[..], &state, &[Decides, DearReply]].concat(),
         Call::Settle(_) | Call::Search => [&table[..], &[Decides, LeastOfOne, LargestTotal]].concat(),
     }
 }

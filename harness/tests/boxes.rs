@@ -3,22 +3,22 @@
 
 use harness::boxes::problem::{beginnings, most_on_air, Problem};
 use harness::boxes::run::{run, Handed, Run, Schedule};
-use harness::boxes::{counted, try_tables, Library, REFERENCE};
+use harness::boxes::try_tables;
 use harness::calls::{self, Input, Outcome};
 use harness::generate;
 use harness::random::Random;
 use harness::reference::order::ValueOrder::{self, Ascending, CheapestFirst};
 use harness::reference::{message, table, NONE};
 use harness::sample;
+use harness::trials::{Library, REFERENCE};
 
 fn try_both_orders(libraries: &[Library], tables: u64) {
     for order in ValueOrder::BOTH {
         let report = try_tables(libraries, order, tables, 1);
-        println!("{order:?}: {}", counted(&report));
+        println!("{order:?}: {report}");
         assert_eq!(report.fault, None, "{order:?}");
-        for (case, times) in &report.cases {
-            assert!(*times > 0, "{order:?} never came to {case:?}");
-        }
+        let never: Vec<_> = report.never_reached().collect();
+        assert!(never.is_empty(), "{order:?} never came to {never:?}");
     }
 }
 

@@ -1,11 +1,12 @@
 //! The comparison finds a fault where there is one, and none where there is none.
 
-use harness::calls::{self, order_of, Call, Input, Outcome, CALLS};
+use harness::calls::{self, order_of, Call, Event, Input, Outcome, CALLS};
 use harness::cases;
 use harness::differential::{compare, describe, Difference};
 use harness::order::Change;
 use harness::reference::costs::View;
-use harness::reference::order::ValueOrder::{Ascending, CheapestFirst};
+use harness::reference::network::Network;
+use harness::reference::order::ValueOrder::{self, Ascending, CheapestFirst};
 use harness::reference::table::{self, Form};
 use harness::reference::unit::{self, Unit};
 use harness::reference::{convert, message, NONE};
@@ -296,9 +297,126 @@ fn another_default_is_found() {
             }
             calls::reference(input)
         };
-        let calls = [Call::Make, Call::InRange, Call::Step, Call::MakeNetwork, Call::Deliver, Call::Settle];
+        let calls = [Call::Make, Call::InRange, Call::Step, Call::MakeNetwork, Call::Deliver, Call::Echo, Call::Settle];
         for call in calls.map(|call| call(CheapestFirst)) {
             assert!(compare(call, 4_000, 1, fault).difference.is_some(), "{call:?}, {number:?}");
         }
     }
+}
+
+// Echoes
+
+/// An echo by the reference, of what it is lent changed first, or with its outcome changed; it is handed the bytes and the outcome.
+fn fault_in_echo(before: impl Fn(&mut Network, &mut Vec<u8>), after: impl Fn(&Input, &mut Outcome)) -> String {
+    let other = |mut input: Input| {
+        let lent = input.clone();
+        let Input::Deliver { network, event: Event::Echo(packet), .. } = &mut input else { unreachable!("an echo") };
+        before(network, packet);
+        let mut outcome = calls::reference(input);
+        after(&lent, &mut outcome);
+        outcome
+    };
+    let found = ValueOrder::BOTH.map(|order| compare(Call::Echo(order), 4_000, 1, other).difference);
+    let [ascending, _] = found.map(|difference| describe(&difference.expect("a difference")));
+    ascending
+}
+
+/// The outcome of a refusal, with all as it was lent.
+fn refused(lent: &Input, refusal: u8) -> Outcome {
+    let Input::Deliver { network, pool, .. } = lent else { unreachable!("an echo") };
+    calls::network_outcome(refusal, network, pool.clone())
+}
+
+fn used(lent: &Input) -> u64 {
+    let Input::Deliver { network, .. } = lent else { unreachable!("an echo") };
+    network.count
+}
+
+fn heard(lent: &Input) -> &[u8] {
+    let Input::Deliver { event: Event::Echo(packet), .. } = lent else { unreachable!("an echo") };
+    packet
+}
+
+#[test]
+fn an_echo_without_a_cell_that_is_refused_is_found() {
+    let empty = |lent: &Input, outcome: &mut Outcome| {
+        if outcome.refusal == 0 && used(lent) == 0 {
+            *outcome = refused(lent, 15);
+        }
+    };
+    assert!(fault_in_echo(|_, _| {}, empty).contains("refusal 0 by the reference, 15 by the other"));
+}
+
+/// 14 as in a delivery, which frees a cell: one packet more than fits, or one fewer.
+#[test]
+fn room_for_one_packet_more_or_fewer_is_found() {
+    let fewer = |lent: &Input, outcome: &mut Outcome| {
+        if outcome.refusal == 0 && used(lent) < 1_024 && outcome.numbers[0] == 1_024 {
+            *outcome = refused(lent, 14);
+        }
+    };
+    assert!(fault_in_echo(|_, _| {}, fewer).contains("refusal 0 by the reference, 14 by the other"));
+    let more = |lent: &Input, outcome: &mut Outcome| {
+        let mut freed = lent.clone();
+        let Input::Deliver { network, .. } = &mut freed else { unreachable!("an echo") };
+        network.count = network.count.saturating_sub(1);
+        let with_room = calls::reference(freed);
+        if outcome.refusal == 14 && with_room.refusal == 0 {
+            *outcome = with_room;
+        }
+    };
+    assert!(fault_in_echo(|_, _| {}, more).contains("refusal 14 by the reference, 0 by the other"));
+}
+
+/// An echo that takes the packet out of the pool, if it waits there; one that isn't counted; one that is added to the pool.
+#[test]
+fn an_echo_that_is_no_echo_is_found() {
+    let taken = |lent: &Input, outcome: &mut Outcome| {
+        let cell = outcome.lent.chunks_exact(64).take(used(lent) as usize).position(|cell| cell == heard(lent));
+        if let (0, Some(cell)) = (outcome.refusal, cell) {
+            outcome.lent.copy_within(64 * (cell + 1)..64 * outcome.numbers[0] as usize, 64 * cell);
+            outcome.numbers[0] -= 1;
+        }
+    };
+    assert!(fault_in_echo(|_, _| {}, taken).contains("numbers"));
+    let not_counted = |lent: &Input, outcome: &mut Outcome| {
+        let Input::Deliver { network, .. } = lent else { unreachable!("an echo") };
+        outcome.numbers[3] = network.deliveries as u64;
+    };
+    assert!(fault_in_echo(|_, _| {}, not_counted).contains("numbers"));
+    let kept = |_: &Input, outcome: &mut Outcome| outcome.numbers[0] += u64::from(outcome.refusal == 0);
+    assert!(fault_in_echo(|_, _| {}, kept).contains("numbers"));
+}
+
+/// The first 64 bytes alone are read; the length is looked at before all else.
+#[test]
+fn bytes_of_another_length_are_found() {
+    let cut = |_: &mut Network, packet: &mut Vec<u8>| packet.truncate(64);
+    assert!(fault_in_echo(cut, |_, _| {}).contains("refusal 8 by the reference"));
+    let length_first = |lent: &Input, outcome: &mut Outcome| {
+        if heard(lent).len() != 64 {
+            outcome.refusal = 8;
+        }
+    };
+    assert!(fault_in_echo(|_, _| {}, length_first).contains("8 by the other"));
+}
+
+/// The receiver's 12 before the packet is read, and unit 1's after.
+#[test]
+fn a_stop_looked_at_at_another_time_is_found() {
+    let before_reading = |lent: &Input, outcome: &mut Outcome| {
+        let Input::Deliver { network, .. } = lent else { unreachable!("an echo") };
+        let named = heard(lent).get(2).map_or(0, |own| *own as usize);
+        let stopped = (1..=16).contains(&named) && network.units[named - 1].has_stopped();
+        if matches!(outcome.refusal, 8..=10) && stopped {
+            outcome.refusal = 12;
+        }
+    };
+    assert!(fault_in_echo(|_, _| {}, before_reading).contains("12 by the other"));
+    let after_reading = |lent: &Input, outcome: &mut Outcome| {
+        if outcome.refusal == 12 && heard(lent).len() != 64 {
+            outcome.refusal = 8;
+        }
+    };
+    assert!(fault_in_echo(|_, _| {}, after_reading).contains("refusal 12 by the reference, 8 by the other"));
 }

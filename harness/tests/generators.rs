@@ -1,5 +1,5 @@
-//! The generators reach every refusal of every call in either order of values, and every case of forbidden pairs, of unary costs and of the
-//! order, and a refused call of the reference leaves what it was lent.
+//! The generators reach every refusal of every call in either order of values, and every case of forbidden pairs, of unary costs, of the
+//! order and of echoes, and a refused call of the reference leaves what it was lent.
 
 use harness::calls::{self, Call, Input, CALLS};
 use harness::cases;
@@ -8,7 +8,7 @@ use harness::random::Random;
 
 fn inputs(call: Call) -> u32 {
     match call {
-        Call::Deliver(_) | Call::Settle(_) | Call::Search => 4_000,
+        Call::Deliver(_) | Call::Echo(_) | Call::Settle(_) | Call::Search => 4_000,
         _ => 20_000,
     }
 }
@@ -51,7 +51,7 @@ fn every_refusal_is_reached_and_leaves_what_was_lent() {
             }
             match before {
                 Input::Step { unit, .. } => assert_eq!(outcome.units, [unit], "{name}"),
-                Input::Deliver { network, .. } => assert_eq!(outcome.units, network.units, "{name}"),
+                Input::Deliver { network, .. } => assert_eq!(calls::network_in(&outcome), *network, "{name}"),
                 _ => {}
             }
         }

@@ -29,8 +29,9 @@ fn every_sample_run() {
 #[test]
 fn any_call() {
     for order in ValueOrder::BOTH {
-        for (call, rounds) in [(Call::Step(order), 40_000), (Call::Deliver(order), 8_000), (Call::Settle(order), 3_000)]
-        {
+        let (step, settle) = ((Call::Step(order), 40_000), (Call::Settle(order), 3_000));
+        let (deliver, echo) = ((Call::Deliver(order), 8_000), (Call::Echo(order), 8_000));
+        for (call, rounds) in [step, deliver, echo, settle] {
             let report = compare(call, rounds, 7, tuned::tuned);
             assert!(report.difference.is_none(), "{call:?}: {}", describe(&report.difference.unwrap()));
         }

@@ -36,8 +36,7 @@ use Rattle.protocol.specs.Machine.{Msg, to}
 use Rattle.protocol.specs.Tests.{true-not-false}
 use Rattle.protocol.specs.Air.Run.{OnAir}
 use Rattle.protocol.specs.Air.Theorem.{kept-on-air, most-on-air-le}
-use Rattle.protocol.specs.Simulation.Relations.{Reads, ReadAll}
-use Rattle.protocol.specs.Simulation.Units.{read-to}
+use Rattle.protocol.specs.Simulation.Units.{read-to, read-as}
 use Rattle.protocol.specs.Simulation.First.{reports-first}
 use Rattle.protocol.specs.Simulation.Table.{laws}
 use Rattle.boxes.specs.Boxes.{numberOf, Boxes, boxesAfter, receiverIn, answerTo, hearAt, hear, hearAll, allMade, boxes}
@@ -46,23 +45,6 @@ use Rattle.boxes.specs.Invariant.{CutMap, cut-map, Invariant, answer-is,
 use Rattle.boxes.specs.Making.{make-accepted, made-kept}
 
 -- ---- members of the air
-
--- the packet that reads as a message
-pub record ReadAs (order : ValueOrder) (s : List ℕ) (ps : List Packet) (m : Msg) : Type 0 where
-  pub front : List Packet
-  pub packet : Packet
-  pub rest : List Packet
-  pub whole : ps ≡ front ++ (packet ∷ rest)
-  pub reads : Reads order (instanceOf s) packet m
-
-read-as : (order : ValueOrder) (s : List ℕ) (ps : List Packet) (ms : List Msg) (m : Msg) → ReadAll order (instanceOf s) ps ms → In m ms → ReadAs order s ps m
-read-as order s ps [] m h i = absurd (not-in-nil i)
-read-as order s [] (y ∷ ms) m h i = absurd h
-read-as order s (p ∷ ps) (y ∷ ms) m h i = go (in-cases i) (λ j. read-as order s ps ms m (h .1) j)
-  where
-    go : (m ≡ y) ⊎ In m ms → (In m ms → ReadAs order s ps m) → ReadAs order s (p ∷ ps) m
-    go (inl e) ih = record { front = []; packet = p; rest = ps; whole = refl; reads = subst (Reads order (instanceOf s) p) (sym e) (h .0) }
-    go (inr j) ih = let q = ih j in record { front = p ∷ q .front; packet = q .packet; rest = q .rest; whole = ap (λ l. p ∷ l) (q .whole); reads = q .reads }
 
 -- where a packet stands in the air
 position : {A : Type 0} (l : List A) (x : A) → In x l → (c : ℕ) × (behind : List A) × (drop c l ≡ x ∷ behind)
@@ -163,7 +145,7 @@ module _ (order : ValueOrder) (s : List ℕ) (ok : Accepted s) (B : Boxes) (i : 
   waiting off =
       let q = one-fails (stoppedAt B) (instanceOf s .n) off in
       let w = on-air .waits (q .0) (q .1) (sym (stop-is (q .0) (q .1)) ∙ q .2) in
-      let r = read-as order s (i .packets) (i .machine .pool) (w .0) (i .reads) (w .1 .0) in
+      let r = read-as order (instanceOf s) (i .packets) (i .machine .pool) (w .0) (i .reads) (w .1 .0) in
       let t = read-to order (instanceOf s) (r .packet) (w .0) (r .reads) in
       (packetBytes (r .packet), is-in-air (r .front) (r .packet) (r .rest) (r .whole), accepted-by (r .front) (r .packet) (r .rest) (r .whole) (runs (r .packet) (w .0) t (in-n (r .front) (r .packet) (r .rest) (r .whole)) (w .1 .1)))
 

@@ -1,4 +1,4 @@
--- The answers of the calls of document 01 in the structs that C is handed, kinds and orders of values by their numbers, and step and delivery on what C lends.
+-- The answers of the calls of document 01 in the structs that C is handed, kinds and orders of values by their numbers, and step, delivery and echo on what C lends.
 -- Assumes nothing.
 use Rattle.base.specs.Library.{ℕ, pred, cond, not, List, eqb, length}
 use Rattle.base.specs.Shape.{shapeGood}
@@ -7,7 +7,7 @@ use Rattle.message.specs.{declared.Message.Message, declared.Parsed.Parsed as R
 use Rattle.message.specs.declared.Read.the-variants.{Good, Refused}
 use Rattle.message.specs.Message.{kindCode, refusalOf, addressGood}
 use Rattle.rules.specs.{declared.Report.Report, Calls.outcomeOf, Calls.bytesOf, Calls.stepOut}
-use Rattle.runs.specs.Calls.{deliverOf}
+use Rattle.runs.specs.Calls.{deliverOf, echoOf}
 use Rattle.cabi.specs.{declared.LentAnswer.LentAnswer, declared.LentNetwork.LentNetwork, declared.LentOutcome.LentOutcome, declared.LentUnit.LentUnit, declared.Parsed.Parsed}
 use Rattle.cabi.specs.Lent.{unitFrom, outcomeBack, networkFrom, answerBack}
 pub mod Laws
@@ -53,10 +53,16 @@ steppedBytes order s own n sizes costs packet out = bytesOf n (pred own) out (st
 abbrev pub reportBy : LentOutcome → Report
 reportBy r = record { refusal = r .refusal; sent = r .sent; records = r .records }
 
--- ---- a delivery to a lent network: network's, on the network that is read
+-- ---- a delivery or an echo to a lent network: network's, on the network that is read
 
 unfoldable pub deliveredTo : ValueOrder → LentNetwork → List ℕ → List ℕ → ℕ → LentAnswer
 deliveredTo order s stream pool cell = answerBack s (deliverOf order (networkFrom s) stream pool cell .answer)
 
 unfoldable pub deliveredPool : ValueOrder → LentNetwork → List ℕ → List ℕ → ℕ → List ℕ
 deliveredPool order s stream pool cell = deliverOf order (networkFrom s) stream pool cell .pool
+
+unfoldable pub echoedTo : ValueOrder → LentNetwork → List ℕ → List ℕ → List ℕ → LentAnswer
+echoedTo order s stream pool packet = answerBack s (echoOf order (networkFrom s) stream pool packet .answer)
+
+unfoldable pub echoedPool : ValueOrder → LentNetwork → List ℕ → List ℕ → List ℕ → List ℕ
+echoedPool order s stream pool packet = echoOf order (networkFrom s) stream pool packet .pool

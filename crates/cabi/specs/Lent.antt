@@ -1,5 +1,5 @@
 -- A unit's state, and a network, as C lends them: the flag `stopped` is a byte there, and any byte can stand in it. One that is neither 0
--- nor 1 makes the state one out of range: refusal 5, at its place in the order of step and delivery.
+-- nor 1 makes the state one out of range: refusal 5, at its place in the order of step, delivery and echo.
 --     unitFrom, unitBack            a lent state read, and what stands there after the call
 --     networkFrom, answerBack       the same of a network
 -- Lent/Laws shows that such a state is out of range, and that what a call leaves alone comes back as lent. Assumes nothing.

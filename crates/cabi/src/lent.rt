@@ -147,7 +147,7 @@ pub(crate) fn network_from(s: LentNetwork) -> Network
     Network { core, used: s.used }
 }
 
-// What a delivery hands back.
+// What a delivery or an echo hands back.
 pub(crate) fn answer_back(s: LentNetwork, a: Answer) -> LentAnswer
     ensures { λ r. ⌜ r ≡ answerBack s a ⌝ }
 {

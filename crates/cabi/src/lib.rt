@@ -35,7 +35,7 @@ ghost use Rattle.runs.specs.Calls.{makeOf};
 ghost use Rattle.runs.specs.Settle.{settleOf};
 ghost use Rattle.search.specs.Search.{searchOf};
 ghost use Rattle.cabi.specs.Lent.{unitFrom};
-ghost use Rattle.cabi.specs.Calls.{codeOf, parsedOf, orderOf, writeAs, writtenAs, unknownKind, stepOf, steppedBytes, reportBy, deliveredTo, deliveredPool};
+ghost use Rattle.cabi.specs.Calls.{codeOf, parsedOf, orderOf, writeAs, writtenAs, unknownKind, stepOf, steppedBytes, reportBy, deliveredTo, deliveredPool, echoedTo, echoedPool};
 
 // The number of the order that is taken where none is named.
 const CHEAPEST_FIRST: u8 = 1;
@@ -414,6 +414,33 @@ pub extern "C" fn riksamoe_network_deliver_by(
 {
     let read = lent::network_from(net);
     let a = network::deliver_by(order_of(order), read, stream, pool, cell);
+    lent::answer_back(net, a)
+}
+
+#[no_mangle]
+pub extern "C" fn riksamoe_network_echo(
+    net: LentNetwork,
+    stream: &[u8],
+    pool: &mut [u8],
+    packet: &[u8],
+) -> LentAnswer
+    ensures { λ r. ⌜ (r ≡ echoedTo defaultOrder net (now (stream .entry)) (now (pool .entry)) (now (packet .entry))) × (now (pool .exit) ≡ echoedPool defaultOrder net (now (stream .entry)) (now (pool .entry)) (now (packet .entry))) ⌝ }
+{
+    riksamoe_network_echo_by(CHEAPEST_FIRST, net, stream, pool, packet)
+}
+
+#[no_mangle]
+pub extern "C" fn riksamoe_network_echo_by(
+    order: u8,
+    net: LentNetwork,
+    stream: &[u8],
+    pool: &mut [u8],
+    packet: &[u8],
+) -> LentAnswer
+    ensures { λ r. ⌜ (r ≡ echoedTo (orderOf order) net (now (stream .entry)) (now (pool .entry)) (now (packet .entry))) × (now (pool .exit) ≡ echoedPool (orderOf order) net (now (stream .entry)) (now (pool .entry)) (now (packet .entry))) ⌝ }
+{
+    let read = lent::network_from(net);
+    let a = network::echo_by(order_of(order), read, stream, pool, packet);
     lent::answer_back(net, a)
 }
 

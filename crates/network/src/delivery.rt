@@ -12,9 +12,9 @@ use unit::Outcome;
 use unit::Unit;
 ghost use mathlib.Core.Path.{_≡_};
 ghost use mathlib.Core.List.{List};
-ghost use Prim.Native.Nat.{ℕ, suc, pred, _≤_, _<_};
+ghost use Prim.Native.Nat.{ℕ, suc, pred, _+_, _*_, _-_, _≤_, _<_};
 ghost use lib.ListN.{length, getD};
-ghost use Rattle.base.specs.Limits.{poolCells, sendingSize};
+ghost use Rattle.base.specs.Limits.{messageSize, poolCells, sendingSize};
 ghost use Rattle.table.specs.Stream.{unitsOf, Accepted};
 ghost use Rattle.base.specs.Every.{every};
 ghost use Rattle.base.specs.Bytes.Laws.{AllBytes};
@@ -25,7 +25,8 @@ ghost use Rattle.costs.specs.Bounds.{costWith};
 ghost use Rattle.costs.specs.Order.{defaultOrder, placeTried};
 ghost use Rattle.rules.specs.State.{paidInRange};
 ghost use Rattle.rules.specs.Laws.Range.{SizedUnit};
-ghost use Rattle.runs.specs.Calls.{deliverRefusal, receiverOf, stepped, deliverBy, deliverOf};
+ghost use Rattle.runs.specs.Calls.{networkRefusal, deliverRefusal, receiverOf, networkAfter, deliverBy, deliverOf};
+ghost use Rattle.runs.specs.Pool.Laws.{closeGap};
 ghost use Rattle.runs.specs.Code.{unitInRange, Open, Stepping, Stepped, Storing, storedAnswer, storedPool};
 
 // The cells of the pool, as a number of places.
@@ -63,6 +64,20 @@ pub fn deliver_by(
 fn deliver_refusal(order: ValueOrder, net: Network, stream: &[u8], room: usize, cell: u64) -> u8
     ensures { λ r. ⌜ ((pool : List ℕ) → length pool ≡ room → r ≡ deliverRefusal order net (now (stream .entry)) pool cell) ⌝ }
 {
+    let refusal = network_refusal(order, net, stream, room);
+    if refusal != 0 {
+        return refusal;
+    }
+    if net.used <= cell {
+        return 15;
+    }
+    0
+}
+
+// What is asked whatever message is to be handed over: the first of 13, 5, 6, 7, 5, 12 that applies, or 0.
+pub(crate) fn network_refusal(order: ValueOrder, net: Network, stream: &[u8], room: usize) -> u8
+    ensures { λ r. ⌜ ((pool : List ℕ) → length pool ≡ room → r ≡ networkRefusal order net (now (stream .entry)) pool) ⌝ }
+{
     if room < base::POOL_SIZE {
         return 13;
     }
@@ -81,9 +96,6 @@ fn deliver_refusal(order: ValueOrder, net: Network, stream: &[u8], room: usize, 
     let first = units[0];
     if first.stopped {
         return 12;
-    }
-    if net.used <= cell {
-        return 15;
     }
     0
 }
@@ -187,7 +199,7 @@ pub(crate) fn receiver(n: u8, packet: &[u8]) -> u8
 }
 
 // The step of unit `own` on a packet, with the costs gathered from the stream.
-fn step(
+pub(crate) fn step(
     order: ValueOrder,
     u: Unit,
     stream: &[u8],
@@ -208,8 +220,8 @@ fn step(
 
 // The gap is closed, what was sent is added at the end, and the unit and the counts are put in place; or 14, and all stays.
 fn store(net: Network, pool: &mut [u8], cell: usize, own: u8, r: Outcome, out: &[u8]) -> Answer
-    requires { ⌜ Storing net cell own r (now pool) (now out) ⌝ }
-    ensures { λ x. ⌜ (x ≡ storedAnswer net own r) × (now (pool .exit) ≡ storedPool net cell r (now (out .entry)) (now (pool .entry))) ⌝ }
+    requires { ⌜ (cell < net .used) × (net .used ≤ poolCells) × Storing (net .used - 1) own r (now pool) (now out) ⌝ }
+    ensures { λ x. ⌜ (x ≡ storedAnswer net (net .used - 1) own r) × (now (pool .exit) ≡ storedPool (closeGap (now (pool .entry)) (messageSize * cell) (messageSize * net .used)) (net .used - 1) r (now (out .entry)) (now (pool .entry))) ⌝ }
 {
     let used = net.used as usize;
     let sent = r.sent as usize;
@@ -223,14 +235,14 @@ fn store(net: Network, pool: &mut [u8], cell: usize, own: u8, r: Outcome, out: &
     copy_in(pool, MESSAGE_SIZE * (used - 1), out, MESSAGE_SIZE * sent);
     Answer {
         refusal: 0,
-        network: advance(net, own, r),
+        network: advance(net, own, r, net.used - 1),
     }
 }
 
-// The network once unit `own` has stepped.
-fn advance(net: Network, own: u8, r: Outcome) -> Network
-    requires { ⌜ (1 ≤ own) × (own ≤ 16) × (1 ≤ net .used) × (net .used ≤ poolCells) ⌝ }
-    ensures { λ x. ⌜ x ≡ stepped net own (r .unit) (r .sent) (r .records) ⌝ }
+// The network once unit `own` has stepped, where `left` cells stay in use beside what it sent.
+pub(crate) fn advance(net: Network, own: u8, r: Outcome, left: u64) -> Network
+    requires { ⌜ (1 ≤ own) × (own ≤ 16) × (left ≤ poolCells) ⌝ }
+    ensures { λ x. ⌜ x ≡ networkAfter net own (r .unit) (left + r .sent) (r .records) ⌝ }
 {
     let mut core = net.core;
     let u = r.unit;
@@ -241,6 +253,6 @@ fn advance(net: Network, own: u8, r: Outcome) -> Network
     core.deliveries = plus(deliveries, 1);
     Network {
         core,
-        used: net.used - 1 + r.sent as u64,
+        used: left + r.sent as u64,
     }
 }

@@ -3,6 +3,7 @@
 mod counting; // a count in two words
 mod decimal; // a count in decimal digits
 mod delivery; // the message at a cell delivered
+mod echoing; // a packet heard again
 mod lending; // the costs of all units, gathered once
 mod making; // a network made of a stream
 mod pool; // cells moved and written
@@ -12,6 +13,8 @@ pub use costs::ValueOrder;
 pub use decimal::digits;
 pub use delivery::deliver;
 pub use delivery::deliver_by;
+pub use echoing::echo;
+pub use echoing::echo_by;
 pub use making::make;
 pub use making::make_by;
 pub use runs::Answer;

@@ -8,6 +8,7 @@ use mathlib.Core.List.{List, [], _∷_, map}
 use lib.Dec.{eqb}
 use lib.ListN.{length, getD, replicate}
 use Rattle.base.specs.Limits.{poolCells, NONE}
+use Rattle.base.specs.Members.{here, there}
 use Rattle.costs.specs.declared.ValueOrder.{ValueOrder}
 use Rattle.costs.specs.declared.ValueOrder.the-variants.{Ascending, CheapestFirst}
 use Rattle.costs.specs.declared.Cost.the-variants.{Of, Forbidden}
@@ -15,14 +16,17 @@ use Rattle.costs.specs.Instance.{Instance, viewBy}
 use Rattle.costs.specs.Bounds.{h}
 use Rattle.costs.specs.Order.{earlier, placeTried, valueAt}
 use Rattle.costs.specs.Laws.Tried.{valuesAt, problemBy}
-use Rattle.protocol.specs.Machine.{make, deliver, run}
+use Rattle.protocol.specs.Machine.{Msg, down, request, Network, make, deliver, run}
 use Rattle.protocol.specs.Demand3.{written, most}
+use Rattle.protocol.specs.Echo.Events.{Event, cell, echo, start, hearAll, Echoes}
 
--- what is seen of a run: whether unit 1 has stopped, its bound and best assignment (the last unit's value first), records, accepted deliveries
+-- what is seen of a network: whether unit 1 has stopped, its bound and best assignment (the last unit's value first), records, accepted deliveries
+abbrev shown : ValueOrder → Instance → Network → Bool × ℕ × List ℕ × ℕ × ℕ
+shown order I S = (S .units 0 .stopped, S .units 0 .bound, valuesAt order I (S .units 0 .best), length (written (S .units) (I .n)), S .accepted)
+
+-- after a run
 abbrev seen : ValueOrder → Instance → List ℕ → Bool × ℕ × List ℕ × ℕ × ℕ
-seen order I cells =
-    let S = run (problemBy order I) poolCells (make (problemBy order I)) cells in
-    (S .units 0 .stopped, S .units 0 .bound, valuesAt order I (S .units 0 .best), length (written (S .units) (I .n)), S .accepted)
+seen order I cells = shown order I (run (problemBy order I) poolCells (make (problemBy order I)) cells)
 
 -- values ascending
 abbrev after : Instance → List ℕ → Bool × ℕ × List ℕ × ℕ × ℕ
@@ -122,6 +126,38 @@ five = record { n = 2; dom = λ k. cond (eqb k 0) 5 1; unary = λ k v. 0; cost =
 pub order-of-five : map (valueAt (viewBy CheapestFirst five 0)) (0 ∷ 1 ∷ 2 ∷ 3 ∷ 4 ∷ 5 ∷ 6 ∷ []) ≡ 0 ∷ 3 ∷ 1 ∷ 4 ∷ 2 ∷ 5 ∷ 0 ∷ []
 unfolding h earlier placeTried valueAt
 order-of-five = refl
+
+-- ---- 02, job 2: echoes
+
+-- what making sends, of two units
+abbrev cpa : Msg
+cpa = down 1 1 (1 ∷ []) NONE []
+
+abbrev asked : Msg
+asked = request 1 0 1 (1 ∷ [])
+
+-- the CPA is heard before it is taken from its cell, and again after; the request is answered, and still waits
+abbrev echoes : List Event
+echoes = echo cpa ∷ cell 0 ∷ echo cpa ∷ echo asked ∷ cell 1 ∷ cell 3 ∷ cell 4 ∷ []
+
+pub echoes-were-sent : Echoes (problemBy Ascending T) poolCells (start (problemBy Ascending T)) echoes
+unfolding placeTried valueAt
+echoes-were-sent = (here refl, (tt, (here refl, (there (here refl), (tt, (tt, (tt, tt)))))))
+
+-- the same total and records
+pub heard-again : shown Ascending T (hearAll (problemBy Ascending T) poolCells (start (problemBy Ascending T)) echoes .network) ≡ (true, 2, 1 ∷ 2 ∷ [], 5, 7)
+unfolding placeTried valueAt
+heard-again = refl
+
+-- two units of one value each: more deliveries than a run without echoes may have
+abbrev two : Instance
+two = record { n = 2; dom = λ k. 1; unary = λ k v. 0; cost = λ i u j v. Of 7 }
+
+pub echoes-past-limit
+    : shown Ascending two (hearAll (problemBy Ascending two) poolCells (start (problemBy Ascending two)) (cell 0 ∷ echo cpa ∷ echo cpa ∷ echo cpa ∷ echo cpa ∷ cell 1 ∷ []) .network)
+    ≡ (true, 7, 1 ∷ 1 ∷ [], 2, 1 + most (problemBy Ascending two))
+unfolding placeTried valueAt
+echoes-past-limit = refl
 
 -- ---- a pool with too few cells
 

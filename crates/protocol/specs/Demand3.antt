@@ -21,6 +21,7 @@
 -- Progress                      messages whose step sends more than one are few, so the pool never refuses all
 -- Best                          for each bound there is one best, the first assignment with that total
 -- Theorem                       the five together
+-- Echo                          02, job 2: what of it holds where messages are heard twice
 -- Air                           beside demand 3: boxes on radio, where messages go on arriving after unit 1 has stopped
 -- Oldest                        delivered oldest first the pool is a queue, in rounds: each unit sends at most two CPAs in one
 -- Assumes nothing.

@@ -11,6 +11,7 @@ pub mod Count
 pub mod Progress
 pub mod Best
 pub mod Theorem
+pub mod Echo
 pub mod Air
 pub mod Oldest
 pub mod Cases

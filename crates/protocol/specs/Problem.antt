@@ -27,6 +27,11 @@ module _ (P : Problem) where
   valid-le-none l (inl h) = omega (arith, h .0)
   valid-le-none l (inr h) = omega (arith, h .0, h .1 .2)
 
+  -- a bound that no permitted assignment is below is at most any other that is valid
+  pub least-le : {B C : ℕ} (l m : List ℕ) → ValidBound B l → ((x : List ℕ) → Full P x → B ≤ P .cost x) → ValidBound C m → B ≤ C
+  least-le l m v least (inl h) = omega (arith, h .0, valid-le-none l v)
+  least-le l m v least (inr h) = omega (arith, h .0, least m (h .1))
+
   -- each smaller value at each place of l is closed at C: all before l, in the order tried, costs at least C
   abbrev pub Passed : List ℕ → ℕ → Type 0
   Passed [] C = Unit {0}

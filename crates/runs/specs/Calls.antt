@@ -1,14 +1,14 @@
--- The calls on bytes: making a network and a delivery, refusals in 01's order.
+-- The calls on bytes: making a network, a delivery and an echo (02, job 2), refusals in 01's order.
 -- 01: "Making .. a shed: 5, 6, 7, 13." "Delivery: 13, 5 (n, sizes), 6, 7, 5 (any unit's state, pool count), 12, 15, the step's from 8 on, 14." Assumes nothing.
 use Rattle.base.specs.Library.{ℕ, zero, suc, _+_, _-_, pred, Bool, cond, _&&_, List, ltb, leb, length, getD, set, replicate}
 use Rattle.base.specs.{Limits.poolSize, Limits.poolCells, Refusal.orElse, Every.every}
 use Rattle.table.specs.Stream.{unitsOf, streamRefusal}
 use Rattle.costs.specs.declared.ValueOrder.{ValueOrder}
 use Rattle.costs.specs.{Instance.viewBy, Instance.instanceOf, Gather.sizesIn}
-use Rattle.message.specs.{Message.isUnit, Decode.parseFor}
+use Rattle.message.specs.{Message.Packet, Message.isUnit, Decode.parseFor}
 use Rattle.rules.specs.{declared.Unit.Unit, State.noUnit, State.fresh, State.inRange, Send.packets, Send.laid, Calls.unlessRefused, Calls.onRead, Units.unitAt}
 use Rattle.rules.specs.Step.{Decision, refused, accepted, assign}
-use Rattle.runs.specs.{declared.Network.Network, declared.Answer.Answer, Count.zeroCount, Count.plus, Pool.cellOf, Pool.poolAfter}
+use Rattle.runs.specs.{declared.Network.Network, declared.Answer.Answer, Count.zeroCount, Count.plus, Pool.cellOf, Pool.poolAfter, Pool.poolWith}
 
 -- what a call gives: the answer, and the bytes of the lent pool
 pub record Result : Type 0 where
@@ -70,18 +70,22 @@ stepFrom8 order stream units own bytes =
 abbrev pub refusedDelivery : Network → List ℕ → ℕ → Result
 refusedDelivery net pool r = record { answer = record { refusal = r; network = net }; pool = pool }
 
--- the network once unit `own` has stepped, sent so many messages and written so many records
-abbrev pub stepped : Network → ℕ → Unit → ℕ → ℕ → Network
-stepped net own u sent records =
-    record { core = record { units = set (net .core .units) (pred own) u; records = plus records (net .core .records); deliveries = plus 1 (net .core .deliveries) }; used = net .used - 1 + sent }
+-- the network once unit `own` has stepped and written so many records, with so many cells in use
+abbrev pub networkAfter : Network → ℕ → Unit → ℕ → ℕ → Network
+networkAfter net own u used records =
+    record { core = record { units = set (net .core .units) (pred own) u; records = plus records (net .core .records); deliveries = plus 1 (net .core .deliveries) }; used = used }
 
-abbrev pub onOut : Network → List ℕ → ℕ → ℕ → ℕ → Decision → Result
-onOut net pool cell n own (refused r) = refusedDelivery net pool r
-onOut net pool cell n own (accepted u s ws) =
+-- What the step of unit `own` leaves, where so many cells stay in use beside what it sends, and `put` gives the pool with that in it; 01, refusal 14:
+-- "outgoing messages don't fit the pool".
+abbrev pub stored : Network → List ℕ → ℕ → (List Packet → List ℕ) → ℕ → ℕ → Decision → Result
+stored net pool left put n own (refused r) = refusedDelivery net pool r
+stored net pool left put n own (accepted u s ws) =
     let ps = packets n (pred own) s in
-    cond (leb (net .used - 1 + length ps) poolCells)
-    (record { answer = record { refusal = 0; network = stepped net own u (length ps) (length ws) }; pool = poolAfter (net .used) cell ps pool })
-    (refusedDelivery net pool 14)
+    cond (leb (left + length ps) poolCells) (record { answer = record { refusal = 0; network = networkAfter net own u (left + length ps) (length ws) }; pool = put ps }) (refusedDelivery net pool 14)
+
+-- the message at the cell leaves the pool
+abbrev pub onOut : Network → List ℕ → ℕ → ℕ → ℕ → Decision → Result
+onOut net pool cell n own o = stored net pool (net .used - 1) (λ (ps : List Packet). poolAfter (net .used) cell ps pool) n own o
 
 abbrev pub deliverBy : ValueOrder → ℕ → Network → List ℕ → List ℕ → ℕ → Result
 deliverBy order zero net stream pool cell =
@@ -91,3 +95,16 @@ deliverBy order (suc r) net stream pool cell = refusedDelivery net pool (suc r)
 
 unfoldable pub deliverOf : ValueOrder → Network → List ℕ → List ℕ → ℕ → Result
 deliverOf order net stream pool cell = deliverBy order (deliverRefusal order net stream pool cell) net stream pool cell
+
+-- ---- an echo. 02, job 2: "An echo is a call of its own: the 64 bytes are lent again, nothing leaves the pool, and 15 is left out; the rest, counts included,
+-- goes as in a delivery."
+
+abbrev pub echoBy : ValueOrder → ℕ → Network → List ℕ → List ℕ → List ℕ → Result
+echoBy order zero net stream pool bytes =
+    let own = receiverOf (unitsOf stream) bytes in
+    stored net pool (net .used) (λ (ps : List Packet). poolWith (net .used) ps pool) (unitsOf stream) own (stepFrom8 order stream (net .core .units) own bytes)
+echoBy order (suc r) net stream pool bytes = refusedDelivery net pool (suc r)
+
+-- 13, 5 (n, sizes), 6, 7, 5 (any unit's state, pool count), 12, the step's from 8 on, 14
+unfoldable pub echoOf : ValueOrder → Network → List ℕ → List ℕ → List ℕ → Result
+echoOf order net stream pool bytes = echoBy order (networkRefusal order net stream pool) net stream pool bytes

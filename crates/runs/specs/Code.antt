@@ -1,8 +1,9 @@
--- How the pieces of the code make up a delivery, in the order of its code: the checks, the step with the gathered costs, and what is stored; and making likewise.
---     unitInRange, range-of-paid, check-..     the checks, one at a time; `opened` says what they have passed
+-- How the pieces of the code make up a delivery and an echo, in the order of their code: the checks, the step with the gathered costs, and what is stored; and
+-- making likewise.
+--     unitInRange, range-of-paid, check-..     the checks, one at a time; `passing` and `opened` say what they have passed
 --     step-is, step-keeps                      the step of `unit` with the gathered costs is the definition's, and keeps its limits
 --     storedAnswer, storedPool                 what is stored, in terms of the step's outcome
---     deliver-refuses, deliver-stores          a delivery after its step; hand-refuses, hand-stores: by what its code has in hand
+--     step-refuses, step-stores                a call after its step; hand-.. of a delivery and hear-.. of an echo: by what its code has in hand
 --     make-checks, first-step, begins          making
 -- Each by the definitions' tests, and by the laws of `costs` and `unit` about gathered costs and steps. Assumes nothing.
 use Prim.Native.Nat.{ℕ, zero, suc, pred, _+_, _*_, _-_, _≤_, _<_}
@@ -53,9 +54,9 @@ use Rattle.rules.specs.Laws.Calls.{Passed}
 use Rattle.runs.specs.declared.Network.{Network}
 use Rattle.runs.specs.declared.Answer.{Answer}
 use Rattle.runs.specs.Count.{zeroCount, plus}
-use Rattle.runs.specs.Pool.{cellOf, poolAfter}
-use Rattle.runs.specs.Pool.Laws.{closeGap, sent-front, pool-stored}
-use Rattle.runs.specs.Calls.{Result, noNetwork, made, makingRefusal, makeOf, networkInRange, networkRefusal, deliverRefusal, receiverOf, stepFrom8, stepped, refusedDelivery, onOut, deliverBy, deliverOf}
+use Rattle.runs.specs.Pool.{cellOf, poolAfter, poolWith}
+use Rattle.runs.specs.Pool.Laws.{closeGap, sent-front, pool-stored, pool-added}
+use Rattle.runs.specs.Calls.{Result, noNetwork, made, makingRefusal, makeOf, networkInRange, networkRefusal, deliverRefusal, receiverOf, stepFrom8, refusedDelivery, networkAfter, stored, deliverBy, deliverOf, echoBy, echoOf}
 use Rattle.runs.specs.Pool.Stored.{encode-all-length}
 
 -- ---- the checks
@@ -78,51 +79,45 @@ if-not : (t : Bool) (r : ℕ) → cond t 0 (suc r) ≡ 0 → t ≡ true
 if-not true r e = refl
 if-not false r e = absurd (omega arith)
 
--- what they say together
-pub record Open (order : ValueOrder) (net : Network) (s pool : List ℕ) (cell : ℕ) : Type 0 where
+-- what they say together, before any message is looked at
+pub record Passing (order : ValueOrder) (net : Network) (s pool : List ℕ) : Type 0 where
   pub room : poolSize ≤ length pool
   pub table : Accepted s
   pub states : (k : ℕ) → k < unitsOf s → unitInRange order s (net .core .units) k ≡ true
   pub few : net .used ≤ poolCells
-  pub here : cell < net .used
 
-module _ (order : ValueOrder) (net : Network) (s pool : List ℕ) (cell : ℕ) where
-  pub check-room : length pool < poolSize → 13 ≡ deliverRefusal order net s pool cell
-  unfolding deliverRefusal networkRefusal
+module _ (order : ValueOrder) (net : Network) (s pool : List ℕ) where
+  pub check-room : length pool < poolSize → 13 ≡ networkRefusal order net s pool
+  unfolding networkRefusal
   check-room l = rw (lt-ltb (length pool) poolSize l)
 
   module _ (room : poolSize ≤ length pool) where
-    pub check-table : (r : ℕ) → r ≡ streamRefusal s → (r ≡ 0 → ⊥) → r ≡ deliverRefusal order net s pool cell
-    unfolding deliverRefusal networkRefusal
-    check-table r e z = rw (le-ltb (length pool) poolSize room, ← e, or-first r _ z, or-first r _ z)
+    pub check-table : (r : ℕ) → r ≡ streamRefusal s → (r ≡ 0 → ⊥) → r ≡ networkRefusal order net s pool
+    unfolding networkRefusal
+    check-table r e z = rw (le-ltb (length pool) poolSize room, ← e, or-first r _ z)
 
     module _ (table : streamRefusal s ≡ 0) where
-      pub check-states : every (unitInRange order s (net .core .units)) (unitsOf s) ≡ false → 5 ≡ deliverRefusal order net s pool cell
-      unfolding deliverRefusal networkRefusal networkInRange
+      pub check-states : every (unitInRange order s (net .core .units)) (unitsOf s) ≡ false → 5 ≡ networkRefusal order net s pool
+      unfolding networkRefusal networkInRange
       check-states e = rw (le-ltb (length pool) poolSize room, table, e)
 
       module _ (states : every (unitInRange order s (net .core .units)) (unitsOf s) ≡ true) where
-        pub check-count : poolCells < net .used → 5 ≡ deliverRefusal order net s pool cell
-        unfolding deliverRefusal networkRefusal networkInRange
+        pub check-count : poolCells < net .used → 5 ≡ networkRefusal order net s pool
+        unfolding networkRefusal networkInRange
         check-count l = rw (le-ltb (length pool) poolSize room, table, states, lt-leb (net .used) poolCells l)
 
         module _ (few : net .used ≤ poolCells) where
-          pub check-stopped : unitAt (net .core .units) 0 .stopped ≡ true → 12 ≡ deliverRefusal order net s pool cell
-          unfolding deliverRefusal networkRefusal networkInRange
+          pub check-stopped : unitAt (net .core .units) 0 .stopped ≡ true → 12 ≡ networkRefusal order net s pool
+          unfolding networkRefusal networkInRange
           check-stopped e = rw (le-ltb (length pool) poolSize room, table, states, le-leb (net .used) poolCells few, e)
 
-          pub check-cell : unitAt (net .core .units) 0 .stopped ≡ false → net .used ≤ cell → 15 ≡ deliverRefusal order net s pool cell
-          unfolding deliverRefusal networkRefusal networkInRange
-          check-cell e l = rw (le-ltb (length pool) poolSize room, table, states, le-leb (net .used) poolCells few, e, le-leb (net .used) cell l)
+          pub check-running : unitAt (net .core .units) 0 .stopped ≡ false → 0 ≡ networkRefusal order net s pool
+          unfolding networkRefusal networkInRange
+          check-running e = rw (le-ltb (length pool) poolSize room, table, states, le-leb (net .used) poolCells few, e)
 
-          pub check-none : unitAt (net .core .units) 0 .stopped ≡ false → cell < net .used → 0 ≡ deliverRefusal order net s pool cell
-          unfolding deliverRefusal networkRefusal networkInRange
-          check-none e l = rw (le-ltb (length pool) poolSize room, table, states, le-leb (net .used) poolCells few, e, lt-leb (net .used) cell l)
-
-  pub opened : deliverRefusal order net s pool cell ≡ 0 → Open order net s pool cell
-  unfolding deliverRefusal networkRefusal networkInRange Accepted
-  opened z =
-      let a = or-left (networkRefusal order net s pool) _ z in
+  pub passing : networkRefusal order net s pool ≡ 0 → Passing order net s pool
+  unfolding networkRefusal networkInRange Accepted
+  passing a =
       let b = or-right (cond (ltb (length pool) poolSize) 13 0) _ a in
       let c = if-not _ 4 (or-left (cond (every (unitInRange order s (net .core .units)) (unitsOf s) && leb (net .used) poolCells) 0 5) _ (or-right (streamRefusal s) _ b)) in
       record {
@@ -130,14 +125,55 @@ module _ (order : ValueOrder) (net : Network) (s pool : List ℕ) (cell : ℕ) w
         table = or-left (streamRefusal s) _ b;
         states = every-at (unitInRange order s (net .core .units)) (unitsOf s) (and-left _ _ c);
         few = leb-true (net .used) poolCells (and-right (every (unitInRange order s (net .core .units)) (unitsOf s)) _ c);
-        here = leb-false (net .used) cell (if-so _ 14 (or-right (networkRefusal order net s pool) _ z));
       }
 
-  -- a refusal ends a delivery, and without one it goes on
-  pub deliver-stops : (r : ℕ) → r ≡ deliverRefusal order net s pool cell → (r ≡ 0 → ⊥) → (record { refusal = r; network = net } ≡ deliverOf order net s pool cell .answer) × (pool ≡ deliverOf order net s pool cell .pool)
+  -- ---- of an echo: a refusal ends it, and without one it goes on
+
+  pub echo-refused : (bytes : List ℕ) (k : ℕ) → suc k ≡ networkRefusal order net s pool → echoOf order net s pool bytes ≡ refusedDelivery net pool (suc k)
+  unfolding echoOf
+  echo-refused bytes k e = ap (λ y. echoBy order y net s pool bytes) (sym e)
+
+  pub echo-stops : (bytes : List ℕ) (r : ℕ) → r ≡ networkRefusal order net s pool → (r ≡ 0 → ⊥) → (record { refusal = r; network = net } ≡ echoOf order net s pool bytes .answer) × (pool ≡ echoOf order net s pool bytes .pool)
+  echo-stops bytes zero e z = absurd (z refl)
+  echo-stops bytes (suc r) e z = rw (echo-refused bytes r e) (refl, refl)
+
+  pub echo-goes : (bytes : List ℕ) → networkRefusal order net s pool ≡ 0 → echoBy order 0 net s pool bytes ≡ echoOf order net s pool bytes
+  unfolding echoOf
+  echo-goes bytes e = rw e
+
+-- ---- of a delivery: a message is at the cell too
+
+pub record Open (order : ValueOrder) (net : Network) (s pool : List ℕ) (cell : ℕ) : Type 0 where
+  pub passed : Passing order net s pool
+  pub here : cell < net .used
+
+module _ (order : ValueOrder) (net : Network) (s pool : List ℕ) (cell : ℕ) where
+  pub check-network : (r : ℕ) → r ≡ networkRefusal order net s pool → (r ≡ 0 → ⊥) → r ≡ deliverRefusal order net s pool cell
+  unfolding deliverRefusal
+  check-network r e z = rw (← e, or-first r _ z)
+
+  pub check-cell : networkRefusal order net s pool ≡ 0 → net .used ≤ cell → 15 ≡ deliverRefusal order net s pool cell
+  unfolding deliverRefusal
+  check-cell e l = rw (e, le-leb (net .used) cell l)
+
+  pub check-none : networkRefusal order net s pool ≡ 0 → cell < net .used → 0 ≡ deliverRefusal order net s pool cell
+  unfolding deliverRefusal
+  check-none e l = rw (e, lt-leb (net .used) cell l)
+
+  pub opened : deliverRefusal order net s pool cell ≡ 0 → Open order net s pool cell
+  unfolding deliverRefusal
+  opened z = record {
+    passed = passing order net s pool (or-left (networkRefusal order net s pool) _ z);
+    here = leb-false (net .used) cell (if-so _ 14 (or-right (networkRefusal order net s pool) _ z));
+  }
+
+  pub deliver-refused : (k : ℕ) → suc k ≡ deliverRefusal order net s pool cell → deliverOf order net s pool cell ≡ refusedDelivery net pool (suc k)
   unfolding deliverOf
+  deliver-refused k e = ap (λ y. deliverBy order y net s pool cell) (sym e)
+
+  pub deliver-stops : (r : ℕ) → r ≡ deliverRefusal order net s pool cell → (r ≡ 0 → ⊥) → (record { refusal = r; network = net } ≡ deliverOf order net s pool cell .answer) × (pool ≡ deliverOf order net s pool cell .pool)
   deliver-stops zero e z = absurd (z refl)
-  deliver-stops (suc r) e z = rw (← e) (refl, refl)
+  deliver-stops (suc r) e z = rw (deliver-refused r e) (refl, refl)
 
   pub deliver-goes : deliverRefusal order net s pool cell ≡ 0 → deliverBy order 0 net s pool cell ≡ deliverOf order net s pool cell
   unfolding deliverOf
@@ -226,26 +262,23 @@ step-told order s own u g n sizes costs bytes before after r units array lent fi
 
 -- ---- what is stored
 
--- what storing asks: the message is there, and what was sent stands in front of the buffer
-pub record Storing (net : Network) (cell own : ℕ) (r : Outcome) (pool out : List ℕ) : Type 0 where
-  pub here : cell < net .used
-  pub few : net .used ≤ poolCells
+-- what storing asks: so many cells stay in use, what was sent stands in front of the buffer, and the unit is one of 16
+pub record Storing (left own : ℕ) (r : Outcome) (pool out : List ℕ) : Type 0 where
+  pub few : left ≤ poolCells
   pub room : poolSize ≤ length pool
   pub first : 1 ≤ own
   pub last : own ≤ 16
   pub sent : r .sent ≤ 16
   pub buffer : sendingSize ≤ length out
 
--- the answer and the pool's bytes, by the outcome r of the step and the bytes it sent
-abbrev pub storedAnswer : Network → ℕ → Outcome → Answer
-storedAnswer net own r =
-    cond (leb (net .used - 1 + r .sent) poolCells) (record { refusal = 0; network = stepped net own (r .unit) (r .sent) (r .records) }) (record { refusal = 14; network = net })
+-- the answer and the pool's bytes, by the outcome r of the step and the bytes it sent; `cleared` is the pool with the cells that stay in use in front
+abbrev pub storedAnswer : Network → ℕ → ℕ → Outcome → Answer
+storedAnswer net left own r = cond (leb (left + r .sent) poolCells) (record { refusal = 0; network = networkAfter net own (r .unit) (left + r .sent) (r .records) }) (record { refusal = 14; network = net })
 
-abbrev pub storedPool : Network → ℕ → Outcome → List ℕ → List ℕ → List ℕ
-storedPool net cell r out pool =
-    cond (leb (net .used - 1 + r .sent) poolCells) (paste (closeGap pool (messageSize * cell) (messageSize * net .used)) (messageSize * (net .used - 1)) out (messageSize * r .sent)) pool
+abbrev pub storedPool : List ℕ → ℕ → Outcome → List ℕ → List ℕ → List ℕ
+storedPool cleared left r out pool = cond (leb (left + r .sent) poolCells) (paste cleared (messageSize * left) out (messageSize * r .sent)) pool
 
-module _ (order : ValueOrder) (net : Network) (s pool : List ℕ) (cell own : ℕ) (was : UnitState) (o : Decision) (r : Outcome) (told : r ≡ outcomeOf (unitsOf s) (pred own) was o) where
+module _ (order : ValueOrder) (net : Network) (s pool : List ℕ) (own : ℕ) (was : UnitState) (o : Decision) (r : Outcome) (told : r ≡ outcomeOf (unitsOf s) (pred own) was o) where
   -- a step never sends more than 16 packets
   pub few-sent : Whenever (GoodDecision (unitsOf s) (sizesIn s) (viewBy order (instanceOf s) (pred own)) 16) o → r .sent ≤ 16
   few-sent k = go o told k
@@ -254,56 +287,53 @@ module _ (order : ValueOrder) (net : Network) (s pool : List ℕ) (cell own : �
       go (U.refused x) e k = rw e (omega arith)
       go (U.accepted u m ws) e k = rw e (k .few)
 
-  pub deliver-refuses : (r .refusal ≡ 0 → ⊥)
-      → (record { refusal = r .refusal; network = net } ≡ onOut net pool cell (unitsOf s) own o .answer) × (pool ≡ onOut net pool cell (unitsOf s) own o .pool)
-  deliver-refuses z = go o told
-    where
-      go : (o : Decision) → r ≡ outcomeOf (unitsOf s) (pred own) was o
-          → (record { refusal = r .refusal; network = net } ≡ onOut net pool cell (unitsOf s) own o .answer) × (pool ≡ onOut net pool cell (unitsOf s) own o .pool)
-      go (U.refused x) e = (rw e, refl)
-      go (U.accepted u m ws) e = absurd (z (rw e))
+  module _ (left : ℕ) (put : List Packet → List ℕ) where
+    pub step-refuses : (r .refusal ≡ 0 → ⊥) → (record { refusal = r .refusal; network = net } ≡ stored net pool left put (unitsOf s) own o .answer) × (pool ≡ stored net pool left put (unitsOf s) own o .pool)
+    step-refuses z = go o told
+      where
+        go : (o : Decision) → r ≡ outcomeOf (unitsOf s) (pred own) was o
+            → (record { refusal = r .refusal; network = net } ≡ stored net pool left put (unitsOf s) own o .answer) × (pool ≡ stored net pool left put (unitsOf s) own o .pool)
+        go (U.refused x) e = (rw e, refl)
+        go (U.accepted u m ws) e = absurd (z (rw e))
 
-  pub deliver-stores : r .refusal ≡ 0 → Numbered o → Whenever (GoodDecision (unitsOf s) (sizesIn s) (viewBy order (instanceOf s) (pred own)) 16) o → cell < net .used → messageSize * net .used ≤ length pool
-      → (out was-out : List ℕ) → out ≡ bytesOf (unitsOf s) (pred own) was-out o
-      → (storedAnswer net own r ≡ onOut net pool cell (unitsOf s) own o .answer) × (storedPool net cell r out pool ≡ onOut net pool cell (unitsOf s) own o .pool)
-  deliver-stores z number k inside fits out was-out sent = go o told number k sent
-    where
-      go : (o : Decision) → r ≡ outcomeOf (unitsOf s) (pred own) was o → Numbered o → Whenever (GoodDecision (unitsOf s) (sizesIn s) (viewBy order (instanceOf s) (pred own)) 16) o → out ≡ bytesOf (unitsOf s) (pred own) was-out o
-          → (storedAnswer net own r ≡ onOut net pool cell (unitsOf s) own o .answer) × (storedPool net cell r out pool ≡ onOut net pool cell (unitsOf s) own o .pool)
-      go (U.refused x) e number k sent = let q : x ≡ 0 = sym (ap (λ (y : Outcome). y .refusal) e) ∙ z in absurd (omega arith)
-      go (U.accepted u m ws) e number k sent = rw e (by-room (leb (net .used - 1 + length (packets (unitsOf s) (pred own) m)) poolCells))
-        where
-          ps : List Packet
-          ps = packets (unitsOf s) (pred own) m
+    pub step-stores : r .refusal ≡ 0 → Numbered o → Whenever (GoodDecision (unitsOf s) (sizesIn s) (viewBy order (instanceOf s) (pred own)) 16) o → (cleared out was-out : List ℕ) → out ≡ bytesOf (unitsOf s) (pred own) was-out o
+        → ((ps : List Packet) → take (messageSize * length ps) out ≡ encodeAll ps → paste cleared (messageSize * left) out (messageSize * length ps) ≡ put ps)
+        → (storedAnswer net left own r ≡ stored net pool left put (unitsOf s) own o .answer) × (storedPool cleared left r out pool ≡ stored net pool left put (unitsOf s) own o .pool)
+    step-stores z number k cleared out was-out sent puts = go o told number k sent
+      where
+        go : (o : Decision) → r ≡ outcomeOf (unitsOf s) (pred own) was o → Numbered o → Whenever (GoodDecision (unitsOf s) (sizesIn s) (viewBy order (instanceOf s) (pred own)) 16) o → out ≡ bytesOf (unitsOf s) (pred own) was-out o
+            → (storedAnswer net left own r ≡ stored net pool left put (unitsOf s) own o .answer) × (storedPool cleared left r out pool ≡ stored net pool left put (unitsOf s) own o .pool)
+        go (U.refused x) e number k sent = let q : x ≡ 0 = sym (ap (λ (y : Outcome). y .refusal) e) ∙ z in absurd (omega arith)
+        go (U.accepted u m ws) e number k sent = rw e (by-room (leb (left + length (packets (unitsOf s) (pred own) m)) poolCells))
+          where
+            bytes : take (messageSize * length (packets (unitsOf s) (pred own) m)) out ≡ encodeAll (packets (unitsOf s) (pred own) m)
+            bytes =
+                ap (take (messageSize * length (packets (unitsOf s) (pred own) m))) sent
+                ∙ sent-front (packets (unitsOf s) (pred own) m) was-out (encode-all-length (packets (unitsOf s) (pred own) m) (λ p i. k .sent p i .arrays))
 
-          bytes : take (messageSize * length (packets (unitsOf s) (pred own) m)) out ≡ encodeAll (packets (unitsOf s) (pred own) m)
-          bytes =
-              ap (take (messageSize * length (packets (unitsOf s) (pred own) m))) sent
-              ∙ sent-front (packets (unitsOf s) (pred own) m) was-out (encode-all-length (packets (unitsOf s) (pred own) m) (λ p i. k .sent p i .arrays))
+            next : Result
+            next = record {
+              answer = record { refusal = 0; network = networkAfter net own u (left + length (packets (unitsOf s) (pred own) m)) (length ws) };
+              pool = put (packets (unitsOf s) (pred own) m);
+            }
 
-          next : Result
-          next = record {
-            answer = record { refusal = 0; network = stepped net own u (length (packets (unitsOf s) (pred own) m)) (length ws) };
-            pool = poolAfter (net .used) cell (packets (unitsOf s) (pred own) m) pool;
-          }
+            by-room : (t : Bool)
+                → (cond t (record { refusal = 0; network = networkAfter net own u (left + length (packets (unitsOf s) (pred own) m)) (length ws) }) (record { refusal = 14; network = net }) ≡ cond t next (refusedDelivery net pool 14) .answer)
+                × (cond t (paste cleared (messageSize * left) out (messageSize * length (packets (unitsOf s) (pred own) m))) pool ≡ cond t next (refusedDelivery net pool 14) .pool)
+            by-room true = (refl, puts (packets (unitsOf s) (pred own) m) bytes)
+            by-room false = (refl, refl)
 
-          by-room : (t : Bool)
-              → (cond t (record { refusal = 0; network = stepped net own u (length (packets (unitsOf s) (pred own) m)) (length ws) }) (record { refusal = 14; network = net }) ≡ cond t next (refusedDelivery net pool 14) .answer)
-              × (cond t (paste (closeGap pool (messageSize * cell) (messageSize * net .used)) (messageSize * (net .used - 1)) out (messageSize * length (packets (unitsOf s) (pred own) m))) pool ≡ cond t next (refusedDelivery net pool 14) .pool)
-          by-room true = (refl, pool-stored pool (net .used) cell inside fits (packets (unitsOf s) (pred own) m) out bytes)
-          by-room false = (refl, refl)
+-- ---- a packet goes to its unit, once the checks have passed: n and own as the code has them, and the packet's bytes
 
--- ---- a delivery whose checks have passed: n and own as its code has them, and the cell's m bytes
-
-module _ (order : ValueOrder) (net : Network) (s pool : List ℕ) (cell : ℕ) (checks : Open order net s pool cell) (n own m : ℕ) (units : n ≡ unitsOf s) (size : m ≡ messageSize) (named : own ≡ receiverOf n (take m (drop (messageSize * cell) pool))) where
-  own-is : own ≡ receiverOf (unitsOf s) (cellOf pool cell)
-  own-is = named ∙ rw (units, size)
+module _ (order : ValueOrder) (net : Network) (s pool : List ℕ) (checks : Passing order net s pool) (n own : ℕ) (bytes : List ℕ) (units : n ≡ unitsOf s) (named : own ≡ receiverOf n bytes) where
+  own-is : own ≡ receiverOf (unitsOf s) bytes
+  own-is = named ∙ rw units
 
   pub own-first : 1 ≤ own
-  own-first = rw own-is (receiver-range (unitsOf s) (cellOf pool cell) (accepted-units s (checks .table) .0) .0)
+  own-first = rw own-is (receiver-range (unitsOf s) bytes (accepted-units s (checks .table) .0) .0)
 
   pub own-last : own ≤ unitsOf s
-  own-last = rw own-is (receiver-range (unitsOf s) (cellOf pool cell) (accepted-units s (checks .table) .0) .1)
+  own-last = rw own-is (receiver-range (unitsOf s) bytes (accepted-units s (checks .table) .0) .1)
 
   pub own-most : own ≤ 16
   own-most = omega (arith, own-last, accepted-units s (checks .table) .1)
@@ -318,31 +348,45 @@ module _ (order : ValueOrder) (net : Network) (s pool : List ℕ) (cell : ℕ) (
     pub stepping : Stepping order s own u
     stepping = record { table = checks .table; first = own-first; last = own-last; state = rw at-place at in-range }
 
-    module _ (before out : List ℕ) (r : Outcome) (told : Stepped order s own u (take m (drop (messageSize * cell) pool)) before r out) (arrays : SizedUnit u) (all : AllBytes (take m (drop (messageSize * cell) pool))) where
+    module _ (before out : List ℕ) (r : Outcome) (told : Stepped order s own u bytes before r out) (arrays : SizedUnit u) (all : AllBytes bytes) where
       abbrev o : Decision
-      o = stepFrom8 order s (net .core .units) own (cellOf pool cell)
+      o = stepFrom8 order s (net .core .units) own bytes
 
-      gives : r ≡ outcomeOf (unitsOf s) (pred own) u (stepFrom8 order s (net .core .units) own (cellOf pool cell))
-      gives = rw size at (told .outcome (net .core .units) at-place)
+      gives : r ≡ outcomeOf (unitsOf s) (pred own) u (stepFrom8 order s (net .core .units) own bytes)
+      gives = told .outcome (net .core .units) at-place
 
-      leaves : out ≡ bytesOf (unitsOf s) (pred own) before (stepFrom8 order s (net .core .units) own (cellOf pool cell))
-      leaves = rw size at (told .buffer (net .core .units) at-place)
-
-      keeps : Whenever (GoodDecision (unitsOf s) (sizesIn s) (viewBy order (instanceOf s) (pred own)) 16) (stepFrom8 order s (net .core .units) own (cellOf pool cell))
-      keeps =
-          step-keeps order s (checks .table) (net .core .units) own own-first own-last in-range (cellOf pool cell) sendingSize (omega arith) (subst (λ (x : UnitState). SizedUnit x) (sym at-place) arrays)
-          (rw size at all)
+      keeps : Whenever (GoodDecision (unitsOf s) (sizesIn s) (viewBy order (instanceOf s) (pred own)) 16) (stepFrom8 order s (net .core .units) own bytes)
+      keeps = step-keeps order s (checks .table) (net .core .units) own own-first own-last in-range bytes sendingSize (omega arith) (subst (λ (x : UnitState). SizedUnit x) (sym at-place) arrays) all
 
       pub hand-sent : r .sent ≤ 16
-      hand-sent = few-sent order net s pool cell own u o r gives keeps
+      hand-sent = few-sent order net s pool own u o r gives keeps
 
-      pub hand-refuses : (r .refusal ≡ 0 → ⊥) → (record { refusal = r .refusal; network = net } ≡ deliverBy order 0 net s pool cell .answer) × (pool ≡ deliverBy order 0 net s pool cell .pool)
-      hand-refuses z = rw (← own-is) (deliver-refuses order net s pool cell own u o r gives z)
+      module _ (left : ℕ) (put : List Packet → List ℕ) where
+        refuses : (r .refusal ≡ 0 → ⊥) → (record { refusal = r .refusal; network = net } ≡ stored net pool left put (unitsOf s) own o .answer) × (pool ≡ stored net pool left put (unitsOf s) own o .pool)
+        refuses z = step-refuses order net s pool own u o r gives left put z
 
-      pub hand-stores : r .refusal ≡ 0 → (storedAnswer net own r ≡ deliverBy order 0 net s pool cell .answer) × (storedPool net cell r out pool ≡ deliverBy order 0 net s pool cell .pool)
-      hand-stores z =
-          rw (← own-is)
-          (deliver-stores order net s pool cell own u o r gives z (step-numbered order s (net .core .units) own (cellOf pool cell)) keeps (checks .here) (omega (arith, checks .room, checks .few)) out before leaves)
+        stores : r .refusal ≡ 0 → (cleared : List ℕ) → ((ps : List Packet) → take (messageSize * length ps) out ≡ encodeAll ps → paste cleared (messageSize * left) out (messageSize * length ps) ≡ put ps)
+            → (storedAnswer net left own r ≡ stored net pool left put (unitsOf s) own o .answer) × (storedPool cleared left r out pool ≡ stored net pool left put (unitsOf s) own o .pool)
+        stores z cleared puts = step-stores order net s pool own u o r gives left put z (step-numbered order s (net .core .units) own bytes) keeps cleared out before (told .buffer (net .core .units) at-place) puts
+
+      -- of an echo
+      pub hear-refuses : (r .refusal ≡ 0 → ⊥) → (record { refusal = r .refusal; network = net } ≡ echoBy order 0 net s pool bytes .answer) × (pool ≡ echoBy order 0 net s pool bytes .pool)
+      hear-refuses z = rw (← own-is) (refuses (net .used) (λ (ps : List Packet). poolWith (net .used) ps pool) z)
+
+      pub hear-stores : r .refusal ≡ 0 → (storedAnswer net (net .used) own r ≡ echoBy order 0 net s pool bytes .answer) × (storedPool pool (net .used) r out pool ≡ echoBy order 0 net s pool bytes .pool)
+      hear-stores z = rw (← own-is) (stores (net .used) (λ (ps : List Packet). poolWith (net .used) ps pool) z pool (λ ps e. pool-added pool (net .used) ps out e))
+
+      -- of a delivery, from a cell that holds these bytes
+      module _ (cell : ℕ) (here : cell < net .used) (stands : bytes ≡ cellOf pool cell) where
+        pub hand-refuses : (r .refusal ≡ 0 → ⊥) → (record { refusal = r .refusal; network = net } ≡ deliverBy order 0 net s pool cell .answer) × (pool ≡ deliverBy order 0 net s pool cell .pool)
+        hand-refuses z = rw (← stands, ← own-is) (refuses (net .used - 1) (λ (ps : List Packet). poolAfter (net .used) cell ps pool) z)
+
+        pub hand-stores : r .refusal ≡ 0 → (storedAnswer net (net .used - 1) own r ≡ deliverBy order 0 net s pool cell .answer)
+            × (storedPool (closeGap pool (messageSize * cell) (messageSize * net .used)) (net .used - 1) r out pool ≡ deliverBy order 0 net s pool cell .pool)
+        hand-stores z =
+            rw (← stands, ← own-is)
+            (stores (net .used - 1) (λ (ps : List Packet). poolAfter (net .used) cell ps pool) z (closeGap pool (messageSize * cell) (messageSize * net .used))
+            (λ ps e. pool-stored pool (net .used) cell here (omega (arith, checks .room, checks .few)) ps out e))
 
 -- ---- making
 

@@ -1,4 +1,5 @@
--- A network of units. The statement: counts, the run over messages, the calls on bytes, demand 3. The pool. The proof; and how the code of network does what the calls say.
+-- A network of units. The statement: counts, the run over messages, the calls on bytes, demand 3. The pool. The proof; packets heard twice; and how the code of network does
+-- what the calls say.
 pub mod Count
 pub mod Digits
 pub mod Run
@@ -7,6 +8,7 @@ pub mod Demand3
 pub mod Pool
 pub mod Proof
 pub mod Theorem
+pub mod Echo
 pub mod Lending
 pub mod Settle
 pub mod Code

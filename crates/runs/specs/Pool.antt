@@ -13,3 +13,7 @@ cellOf pool cell = take messageSize (drop (messageSize * cell) pool)
 -- 01: "closes the gap by moving later cells down one, and adds what the step sends at the end; bytes past the last cell then in use stay"
 unfoldable pub poolAfter : ℕ → ℕ → List Packet → List ℕ → List ℕ
 poolAfter used cell ps pool = take (messageSize * cell) pool ++ take (messageSize * (used - suc cell)) (drop (messageSize * suc cell) pool) ++ encodeAll ps ++ drop (messageSize * (used - 1 + length ps)) pool
+
+-- 02, job 2: "nothing leaves the pool"; what the step sends is added at the end
+unfoldable pub poolWith : ℕ → List Packet → List ℕ → List ℕ
+poolWith used ps pool = take (messageSize * used) pool ++ encodeAll ps ++ drop (messageSize * (used + length ps)) pool

@@ -41,9 +41,10 @@ use Rattle.runs.specs.Run as R
 use Rattle.runs.specs.Run.{History, DeliveryOf, stopped, onward, handOver, runFrom, run}
 use Rattle.runs.specs.Calls.{deliverOf}
 use Rattle.runs.specs.Demand3.{Shed, shedOf, shedMade, shedAfter, deliverAll, runBytes, refusalAt, acceptedIn, handedIn, Made, over, reportOf, most, Honest, Served, Demand3}
-use Rattle.runs.specs.Proof.Invariant.{Invariant}
+use Rattle.runs.specs.Proof.Stands.{numberOf}
+use Rattle.runs.specs.Proof.Invariant.{Invariant, deliveries-exact}
 use Rattle.runs.specs.Proof.Making.{none-handed, accepted-table, make-invariant}
-use Rattle.runs.specs.Proof.Delivery.{numberOf, HonestDelivery, Delivers, after-stop, delivers}
+use Rattle.runs.specs.Proof.Delivery.{HonestDelivery, Delivers, after-stop, delivers}
 
 -- ---- a list of deliveries, from any point of a run
 
@@ -108,10 +109,10 @@ module _ (order : ValueOrder) (s pool : List ℕ) (made : Made order s pool) whe
   -- ---- unit 1, on bytes, over messages and in the machine
 
   unit-is : (cs : List ℕ) → unitAt (runBytes order s pool cs .network .core .units) 0 ≡ unitAt (run order (instanceOf s) cs .units) 0
-  unit-is cs = ap (λ us. unitAt us 0) (invariant cs .core .same)
+  unit-is cs = ap (λ us. unitAt us 0) (invariant cs .stands .core .same)
 
   over-is : (cs : List ℕ) → over (runBytes order s pool cs) ≡ machine cs .units 0 .stopped
-  over-is cs = ap (λ (u : UnitState). u .stopped) (unit-is cs) ∙ invariant cs .core .matches .units 0 (sound-of s ok .n1) .common .stopped-is
+  over-is cs = ap (λ (u : UnitState). u .stopped) (unit-is cs) ∙ invariant cs .stands .core .matches .units 0 (sound-of s ok .n1) .common .stopped-is
 
   -- ---- what a delivery then gives
 
@@ -143,8 +144,8 @@ module _ (order : ValueOrder) (s pool : List ℕ) (made : Made order s pool) whe
       let one = ap (λ t. length (h ++ cond t (cellOf (runBytes order s pool cs .pool) c ∷ []) [])) (sym (eq-eqb (refusalAt order s (runBytes order s pool cs) c) 0 e)) ∙ ap length (x .bytes) in
       omega (
         arith,
-        x .next .core .deliveries,
-        invariant cs .core .deliveries,
+        deliveries-exact order s ok _ _ _ (x .next),
+        deliveries-exact order s ok _ _ _ (invariant cs),
         one,
         length-append h (cellOf (runBytes order s pool cs .pool) c ∷ []),
         length-map (run order (instanceOf s) cs .handed) packetBytes,
@@ -160,8 +161,8 @@ module _ (order : ValueOrder) (s pool : List ℕ) (made : Made order s pool) whe
   pub served : (cs : List ℕ) → Served order s pool cs
   served cs =
       record {
-        follows = record { units = i .core .same; used = i .stored .count; cells = i .stored .front };
-        distinct = i .core .matches .distinct;
+        follows = record { units = i .stands .core .same; used = i .stands .stored .count; cells = i .stands .stored .front };
+        distinct = i .stands .core .matches .distinct;
         bounded = omega (arith, counted cs, i .accepted, d .bounded);
         ends = λ e. over-is cs ∙ d .ends (sym (i .accepted) ∙ sym (counted cs) ∙ e);
         waits = λ e. some-wait (d .waits (sym (over-is cs) ∙ e) .0) (d .waits (sym (over-is cs) ∙ e) .1);
@@ -172,8 +173,8 @@ module _ (order : ValueOrder) (s pool : List ℕ) (made : Made order s pool) whe
         lotting = lotting;
         handed = i .balanced;
         taken = taken cs;
-        records = i .core .records;
-        deliveries = i .core .deliveries ∙ sym (counted cs);
+        records = i .stands .core .records;
+        deliveries = deliveries-exact order s ok _ _ _ i ∙ sym (counted cs);
         accepted = counted cs;
         honest = honest-next cs;
       }
@@ -185,7 +186,7 @@ module _ (order : ValueOrder) (s pool : List ℕ) (made : Made order s pool) whe
       d = T.kept-demand3 (problemBy order (instanceOf s)) (laws order s ok) (sound-of s ok .n1) (machine cs) (invariant cs .kept)
 
       some-wait : (m : M.Msg) → In m (machine cs .pool) → 1 ≤ runBytes order s pool cs .network .used
-      some-wait m j = omega (arith, i .stored .count, read-length order (instanceOf s) (run order (instanceOf s) cs .waiting) (machine cs .pool) (i .reads), not-empty (machine cs .pool) m j)
+      some-wait m j = omega (arith, i .stands .stored .count, read-length order (instanceOf s) (run order (instanceOf s) cs .waiting) (machine cs .pool) (i .reads), not-empty (machine cs .pool) m j)
         where
           not-empty : (l : List M.Msg) (m : M.Msg) → In m l → 1 ≤ length l
           not-empty [] m j = absurd (not-in-nil j)
@@ -195,9 +196,9 @@ module _ (order : ValueOrder) (s pool : List ℕ) (made : Made order s pool) whe
           × Padded (instanceOf s .n) (reportOf (runBytes order s pool cs) .assignment)
       lotting e =
           subst (λ (u : UnitState). LeastFirst order (instanceOf s) (u .bound) (u .best) × Padded (instanceOf s .n) (u .best)) (sym (unit-is cs)) (
-            reports-first order (instanceOf s) (sound-of s ok) 0 (unitAt (run order (instanceOf s) cs .units) 0) (machine cs .units 0) (i .core .matches .units 0 (sound-of s ok .n1)) (d .report (sym (over-is cs) ∙ e))
+            reports-first order (instanceOf s) (sound-of s ok) 0 (unitAt (run order (instanceOf s) cs .units) 0) (machine cs .units 0) (i .stands .core .matches .units 0 (sound-of s ok .n1)) (d .report (sym (over-is cs) ∙ e))
                 (i .kept .network .safe 0 (sound-of s ok .n1) .stop refl (sym (over-is cs) ∙ e)) (d .first (sym (over-is cs) ∙ e)),
-            best-padded order (instanceOf s) (sizesIn s) (run order (instanceOf s) cs .units) (i .core .units) 0 (sound-of s ok .n1),
+            best-padded order (instanceOf s) (sizesIn s) (run order (instanceOf s) cs .units) (i .stands .core .units) 0 (sound-of s ok .n1),
           )
 
   -- ---- its end

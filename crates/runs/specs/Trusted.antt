@@ -34,7 +34,7 @@ use Rattle.runs.specs.declared.Network.{Network}
 use Rattle.runs.specs.declared.Answer.{Answer}
 use Rattle.runs.specs.Pool.{cellOf}
 use Rattle.runs.specs.Pool.Laws.{closeGap}
-use Rattle.runs.specs.Calls.{Result, deliverRefusal, receiverOf, stepFrom8, stepped, onOut, deliverBy, deliverOf}
+use Rattle.runs.specs.Calls.{Result, deliverRefusal, receiverOf, stepFrom8, networkAfter, onOut, deliverBy, deliverOf}
 use Rattle.runs.specs.Code.{Open, opened, deliver-goes, Stepping, Stepped, passes, step-told, stepping, hand-sent, hand-refuses, hand-stores, storedAnswer, storedPool, pred-sub}
 
 -- the step that trusts, lent what the stream says
@@ -91,39 +91,43 @@ module _ (order : ValueOrder) (net : Network) (s pool : List ℕ) (cell : ℕ) (
     named-is : own ≡ receiverOf (unitsOf s) (cellOf pool cell)
     named-is = named ∙ rw (units, size)
 
+    cell-is : take m (drop (messageSize * cell) pool) ≡ cellOf pool cell
+    cell-is = rw size
+
     good : (k : Kind) × (parseFor (unitsOf s) (sizesIn s) own (take m (drop (messageSize * cell) pool)) .answer ≡ Good k)
     good = rw size (reads own named-is)
 
     steps : Stepped order s own u (take m (drop (messageSize * cell) pool)) before r out
     steps =
-        trusted-told order s own u (net .core .units) (ap (λ (k : ℕ). unitAt (net .core .units) k) (pred-sub own) ∙ sym at) (stepping order net s pool cell checks n own m units size named u at) n sizes costs (take m (drop (messageSize * cell) pool))
+        trusted-told order s own u (net .core .units) (ap (λ (k : ℕ). unitAt (net .core .units) k) (pred-sub own) ∙ sym at) (stepping order net s pool (checks .passed) n own (take m (drop (messageSize * cell) pool)) units named u at) n sizes costs (take m (drop (messageSize * cell) pool))
         before out r units array lent fits (good .0) (good .1) told left
 
     pub trusted-sent : r .sent ≤ 16
-    trusted-sent = hand-sent order net s pool cell checks n own m units size named u at before out r steps arrays all
+    trusted-sent = hand-sent order net s pool (checks .passed) n own (take m (drop (messageSize * cell) pool)) units named u at before out r steps arrays all
 
     unrefused-step : r .refusal ≡ 0
     unrefused-step = go (eqb (r .refusal) 0) refl
       where
         go : (t : Bool) → eqb (r .refusal) 0 ≡ t → r .refusal ≡ 0
         go true e = eqb-true (r .refusal) 0 e
-        go false e = ap (λ (x : Answer). x .refusal) (hand-refuses order net s pool cell checks n own m units size named u at before out r steps arrays all (eqb-false (r .refusal) 0 e) .0) ∙ goes
+        go false e = ap (λ (x : Answer). x .refusal) (hand-refuses order net s pool (checks .passed) n own (take m (drop (messageSize * cell) pool)) units named u at before out r steps arrays all cell (checks .here) cell-is (eqb-false (r .refusal) 0 e) .0) ∙ goes
 
-    stores : (storedAnswer net own r ≡ deliverBy order 0 net s pool cell .answer) × (storedPool net cell r out pool ≡ deliverBy order 0 net s pool cell .pool)
-    stores = hand-stores order net s pool cell checks n own m units size named u at before out r steps arrays all unrefused-step
+    stores : (storedAnswer net (net .used - 1) own r ≡ deliverBy order 0 net s pool cell .answer)
+        × (storedPool (closeGap pool (messageSize * cell) (messageSize * net .used)) (net .used - 1) r out pool ≡ deliverBy order 0 net s pool cell .pool)
+    stores = hand-stores order net s pool (checks .passed) n own (take m (drop (messageSize * cell) pool)) units named u at before out r steps arrays all cell (checks .here) cell-is unrefused-step
 
     -- all that it sends fits
     room : leb (net .used - 1 + r .sent) poolCells ≡ true
     room = go (leb (net .used - 1 + r .sent) poolCells) (ap (λ (x : Answer). x .refusal) (stores .0) ∙ goes)
       where
-        go : (t : Bool) → cond {A = Answer} t (record { refusal = 0; network = stepped net own (r .unit) (r .sent) (r .records) }) (record { refusal = 14; network = net }) .refusal ≡ 0 → t ≡ true
+        go : (t : Bool) → cond {A = Answer} t (record { refusal = 0; network = networkAfter net own (r .unit) (net .used - 1 + r .sent) (r .records) }) (record { refusal = 14; network = net }) .refusal ≡ 0 → t ≡ true
         go true e = refl
         go false e = absurd (omega arith)
 
     pub trusted-room : net .used - 1 + r .sent ≤ poolCells
     trusted-room = leb-true (net .used - 1 + r .sent) poolCells room
 
-    pub trusted-gives : (record { refusal = 0; network = stepped net own (r .unit) (r .sent) (r .records) } ≡ deliverOf order net s pool cell .answer)
+    pub trusted-gives : (record { refusal = 0; network = networkAfter net own (r .unit) (net .used - 1 + r .sent) (r .records) } ≡ deliverOf order net s pool cell .answer)
         × (paste (closeGap pool (messageSize * cell) (messageSize * net .used)) (messageSize * (net .used - 1)) out (messageSize * r .sent) ≡ deliverOf order net s pool cell .pool)
     trusted-gives =
         let e = deliver-goes order net s pool cell unrefused in
@@ -147,7 +151,7 @@ pub record Oldest (order : ValueOrder) (u : UnitState) (own n : ℕ) (sizes cost
 -- it is handed over: r is what its unit gave, and `after` the pool then
 abbrev pub Handed : {order : ValueOrder} {u : UnitState} {own n : ℕ} {sizes costs pool : List ℕ} {used : ℕ} → Oldest order u own n sizes costs pool used → Outcome → List ℕ → Type 0
 Handed {order} {u} {own} {n} {sizes} {costs} {pool} {used} t r after =
-    (record { refusal = 0; network = stepped (t .net) own (r .unit) (r .sent) (r .records) } ≡ deliverOf order (t .net) (t .stream) pool 0 .answer)
+    (record { refusal = 0; network = networkAfter (t .net) own (r .unit) (t .net .used - 1 + r .sent) (r .records) } ≡ deliverOf order (t .net) (t .stream) pool 0 .answer)
     × (after ≡ deliverOf order (t .net) (t .stream) pool 0 .pool) × (used - 1 + r .sent ≤ poolCells)
 
 module _ {order : ValueOrder} {u : UnitState} {own n : ℕ} {sizes costs pool : List ℕ} {used : ℕ} (t : Oldest order u own n sizes costs pool used) (before out : List ℕ) (fits : sendingSize ≤ length before) (r : Outcome)

@@ -8,11 +8,12 @@
 //! Then `boxes`, in either order: a tenth as many tables, run on the air, in the shed and on the bench by both, as src/boxes.rs says. Prints how many
 //! packets were accepted, how many refused by 12, and how often each case came; a run that isn't what it must be is a fault, too.
 
-use harness::boxes::{self, Library};
+use harness::boxes;
 use harness::calls::{Call, CALLS};
 use harness::differential;
 use harness::linked;
 use harness::reference::order::ValueOrder;
+use harness::trials::{Library, REFERENCE};
 use std::process::exit;
 
 const BOXES: [(ValueOrder, &str); 2] =
@@ -20,16 +21,15 @@ const BOXES: [(ValueOrder, &str); 2] =
 
 /// Boxes on the air, their sheds and the bench, in one order of values: runs and faults.
 fn try_boxes(order: ValueOrder, name: &str, tables: u64, seed: u64) -> (u64, u64) {
-    let libraries = [boxes::REFERENCE, Library { name: "the library", call: &linked::linked }];
+    let libraries = [REFERENCE, Library { name: "the library", call: &linked::linked }];
     let report = boxes::try_tables(&libraries, order, tables, seed);
-    println!("{name}: {}", boxes::counted(&report));
+    println!("{name}: {report}");
     if let Some(fault) = report.fault {
         println!("  {fault}");
         return (report.runs, 1);
     }
-    let missing: Vec<_> = report.cases.iter().filter(|(_, times)| *times == 0).collect();
-    missing.iter().for_each(|(case, _)| println!("  {case:?} was never reached"));
-    (report.runs, missing.len() as u64)
+    report.never_reached().for_each(|case| println!("  {case:?} was never reached"));
+    (report.runs, report.never_reached().count() as u64)
 }
 
 fn main() {
@@ -40,7 +40,9 @@ fn main() {
     println!("seed {seed}, {rounds} inputs for each call, a fifth for deliver, settle and search, a tenth as many tables for boxes");
     let mut compared = 0;
     let mut faults = 0;
-    for (call, name, refusals) in CALLS.into_iter().filter(|(_, name, _)| name.contains(&word)) {
+    // echoes are not linked yet
+    let linked = |call: &Call| !matches!(call, Call::Echo(_));
+    for (call, name, refusals) in CALLS.into_iter().filter(|(call, name, _)| linked(call) && name.contains(&word)) {
         let rounds = match call {
             Call::Deliver(_) | Call::Settle(_) | Call::Search => rounds.div_ceil(5),
             _ => rounds,

@@ -1,11 +1,12 @@
 //! What runs of a table must come to, worked out from the table alone, and whether a run on the air did.
 
 use super::run::{Handed, Run};
-use crate::cases::Seat;
+use crate::calls::Input;
+use crate::cases::{costs_in, Seat};
 use crate::reference::costs::{self, Cost};
 use crate::reference::order::ValueOrder;
 use crate::reference::unit::Unit;
-use crate::reference::{table, Places, NONE};
+use crate::reference::{table, Places, FORBIDDEN_PAIR, NONE};
 use std::collections::HashSet;
 
 /// d(1), d(1) × d(2), .. up to d(1) × .. × d(n-1): how many beginnings of 1, 2, .. units there are. 01's N is their sum.
@@ -79,6 +80,31 @@ impl Problem<'_> {
         table::head(self.stream).0
     }
 
+    /// More than one assignment has the least total.
+    pub fn has_ties(&self) -> bool {
+        !self.ties.is_empty()
+    }
+
+    /// The first of them is another one in the other order.
+    pub fn order_decides(&self) -> bool {
+        Problem::new(self.order.other(), self.stream).best != self.best
+    }
+
+    /// A pair is forbidden, and an assignment is permitted.
+    pub fn has_forbidden(&self) -> bool {
+        self.total != NONE && self.costs().1.contains(&FORBIDDEN_PAIR)
+    }
+
+    /// A unary cost is above 0.
+    pub fn has_unary(&self) -> bool {
+        self.costs().0.iter().any(|cost| *cost > 0)
+    }
+
+    /// Unary, pairs.
+    fn costs(&self) -> (Vec<u16>, Vec<u16>) {
+        costs_in(&Input::Search { stream: self.stream.to_vec() })
+    }
+
     /// What is wrong with a run on the air, if anything is.
     pub fn check(&self, run: &Run) -> Result<(), String> {
         for (k, handed) in (1..).zip(&run.handed) {
@@ -89,7 +115,7 @@ impl Problem<'_> {
         }
         (1..).zip(&run.boxes).try_for_each(|(own, unit)| check_stopped(own, unit))?;
         (1..).zip(&run.boxes).try_for_each(|(own, unit)| self.check_report(own, unit))?;
-        check_written(run)
+        check_written(run.records.into(), &run.written)
     }
 
     /// What a box that has stopped holds.
@@ -118,12 +144,12 @@ fn check_handed(handed: &Handed) -> Result<(), String> {
 }
 
 /// No beginning is written twice, and each is a record.
-fn check_written(run: &Run) -> Result<(), String> {
-    if run.records != run.written.len() as u64 {
-        return Err(format!("{} records are counted, {} beginnings are written", run.records, run.written.len()));
+pub fn check_written(records: u128, written: &[Places]) -> Result<(), String> {
+    if records != written.len() as u128 {
+        return Err(format!("{records} records are counted, {} beginnings are written", written.len()));
     }
     let mut seen = HashSet::new();
-    match run.written.iter().find(|beginning| !seen.insert(**beginning)) {
+    match written.iter().find(|beginning| !seen.insert(**beginning)) {
         Some(twice) => Err(format!("the beginning {twice:?} is written twice")),
         None => Ok(()),
     }

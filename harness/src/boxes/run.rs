@@ -1,13 +1,13 @@
 //! One run on the air, by any implementation: what was handed to whom, and what came of it.
 
 use super::problem::Problem;
-use super::Library;
 use crate::calls::Input;
 use crate::cases::Seat;
 use crate::random::Random;
 use crate::reference::message::{self, SIZE};
 use crate::reference::unit::{self, Unit};
 use crate::reference::Places;
+use crate::trials::Library;
 
 pub type Packet = [u8; SIZE];
 
@@ -39,7 +39,7 @@ impl Schedule {
     }
 
     /// The places of all packets in the air, the one to be handed over first in front.
-    fn places(self, random: &mut Random, air: &[Packet]) -> Vec<usize> {
+    pub fn places(self, random: &mut Random, air: &[Packet]) -> Vec<usize> {
         let mut places: Vec<usize> = (0..air.len()).collect();
         match self {
             Schedule::OldestFirst => {}

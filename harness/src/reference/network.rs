@@ -55,32 +55,36 @@ pub fn deliver_by(
     pool: &mut [u8],
     cell: u64,
 ) -> Result<(), Refusal> {
-    if pool.len() < POOL {
-        return Err(13);
-    }
-    table::check_stream(stream)?;
-    let (n, sizes) = table::head(stream);
-    check_states(order, network, stream)?;
-    if network.units[0].has_stopped() {
-        return Err(12);
-    }
+    check_shed(order, network, stream, pool)?;
     if cell >= network.count {
         return Err(15);
     }
     let cell = cell as usize;
     let packet = &pool[SIZE * cell..SIZE * (cell + 1)];
-    let own = receiver_of(packet, n);
-    let costs = costs::of_unit(stream, own);
-    let view = View::new_by(order, own, n as usize, &sizes, &costs);
-    let decision = unit::step_packet(&view, &network.units[own - 1], packet)?;
-    if network.count as usize - 1 + decision.sent.len() > CELLS {
-        return Err(14);
-    }
-    network.units[own - 1] = decision.unit;
-    network.records = network.records.wrapping_add(u128::from(decision.records()));
-    network.deliveries = network.deliveries.wrapping_add(1);
+    let (own, decision) = step(order, network, stream, packet)?;
+    check_room(network.count - 1, &decision)?;
     take(network, pool, cell);
-    append(network, pool, &decision.sent);
+    accept(network, pool, own, decision);
+    Ok(())
+}
+
+/// 02's job 2: "the 64 bytes are lent again, nothing leaves the pool, and 15 is left out; the rest, counts included, goes as in a delivery".
+/// Refusals 13, 5, 6, 7, 5 (states, pool count), 12, the step's from 8 on, 14. Refused: nothing changes.
+pub fn echo(network: &mut Network, stream: &[u8], pool: &mut [u8], packet: &[u8]) -> Result<(), Refusal> {
+    echo_by(ValueOrder::default(), network, stream, pool, packet)
+}
+
+pub fn echo_by(
+    order: ValueOrder,
+    network: &mut Network,
+    stream: &[u8],
+    pool: &mut [u8],
+    packet: &[u8],
+) -> Result<(), Refusal> {
+    check_shed(order, network, stream, pool)?;
+    let (own, decision) = step(order, network, stream, packet)?;
+    check_room(network.count, &decision)?;
+    accept(network, pool, own, decision);
     Ok(())
 }
 
@@ -97,6 +101,21 @@ pub fn settle_by(order: ValueOrder, stream: &[u8], pool: &mut [u8]) -> Result<Ne
     Ok(network)
 }
 
+// What a delivery and an echo share
+
+/// Refusals 13, 5, 6, 7, 5 (states, pool count), and 12 for unit 1.
+fn check_shed(order: ValueOrder, network: &Network, stream: &[u8], pool: &[u8]) -> Result<(), Refusal> {
+    if pool.len() < POOL {
+        return Err(13);
+    }
+    table::check_stream(stream)?;
+    check_states(order, network, stream)?;
+    if network.units[0].has_stopped() {
+        return Err(12);
+    }
+    Ok(())
+}
+
 /// Refusal 5 for any unit's state or the pool count.
 fn check_states(order: ValueOrder, network: &Network, stream: &[u8]) -> Result<(), Refusal> {
     let (n, sizes) = table::head(stream);
@@ -110,13 +129,43 @@ fn check_states(order: ValueOrder, network: &Network, stream: &[u8]) -> Result<(
     Ok(())
 }
 
+/// The unit that a packet goes to, and what it does with it: the step's refusals from 8 on.
+fn step(
+    order: ValueOrder,
+    network: &Network,
+    stream: &[u8],
+    packet: &[u8],
+) -> Result<(usize, unit::Decision), Refusal> {
+    let (n, sizes) = table::head(stream);
+    let own = receiver_of(packet, n);
+    let costs = costs::of_unit(stream, own);
+    let view = View::new_by(order, own, n as usize, &sizes, &costs);
+    let decision = unit::step_packet(&view, &network.units[own - 1], packet)?;
+    Ok((own, decision))
+}
+
 /// The unit that a packet names as its receiver; unit 1 where it names none, whose step then refuses it by 8 or 10.
 fn receiver_of(packet: &[u8], n: u8) -> usize {
-    if (1..=n).contains(&packet[2]) {
-        packet[2] as usize
-    } else {
-        1
+    match packet.get(2) {
+        Some(own) if (1..=n).contains(own) => *own as usize,
+        _ => 1,
     }
+}
+
+/// Refusal 14: what is sent doesn't fit behind the cells that stay in use.
+fn check_room(stay: u64, decision: &unit::Decision) -> Result<(), Refusal> {
+    if stay as usize + decision.sent.len() > CELLS {
+        return Err(14);
+    }
+    Ok(())
+}
+
+/// 01: "The shed counts records and accepted deliveries, stale ones included, .. modulo 2^128".
+fn accept(network: &mut Network, pool: &mut [u8], own: usize, decision: unit::Decision) {
+    network.units[own - 1] = decision.unit;
+    network.records = network.records.wrapping_add(u128::from(decision.records()));
+    network.deliveries = network.deliveries.wrapping_add(1);
+    append(network, pool, &decision.sent);
 }
 
 /// 01: "closes the gap by moving later cells down one".

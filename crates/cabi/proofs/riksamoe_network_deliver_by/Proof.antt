@@ -13,7 +13,7 @@ returns c =
     let d = c .before .before .before .deliver-by in
     let o = c .before .before .before .before .before .order-of in
     let t = c .before .before .before .before .before .before .network-from in
-    delivery-is (orderOf (a .order)) (a .net) (a .stream .now) (a .pool .now) (a .cell) (t .result) (d .result) (c .answer-back .result) _ (t .ensures) (d .ensures .0 ∙ rw (o .ensures), d .ensures .1 ∙ rw (o .ensures)) (c .answer-back .ensures)
+    delivery-is (a .net) (t .result) (d .result) (c .answer-back .result) _ (t .ensures) (c .answer-back .ensures) (orderOf (a .order)) (a .stream .now) (a .pool .now) (a .cell) (d .ensures .0 ∙ rw (o .ensures), d .ensures .1 ∙ rw (o .ensures))
 
 pub riksamoe-network-deliver-by-spec : {M : Type 1} → statement M
 riksamoe-network-deliver-by-spec = tie.close (tie.spec (λ c κs. search needs) (λ c κs. search needs) (λ c κs. search needs) (λ c κs. search needs) (λ c. search needs) returns)

@@ -1,4 +1,4 @@
--- What the steps of the calls for C come to: reading, writing by number, a step on a lent state, a delivery to a lent network. Assumes nothing.
+-- What the steps of the calls for C come to: reading, writing by number, a step on a lent state, a delivery or an echo to a lent network. Assumes nothing.
 use Prim.Native.Nat.{ℕ, pred}
 use mathlib.Core.Path.{_≡_, ap, _∙_}
 use mathlib.Core.List.{List}
@@ -15,13 +15,13 @@ use Rattle.rules.specs.declared.Unit.{Unit}
 use Rattle.rules.specs.Calls.{outcomeOf, bytesOf, stepOut}
 use Rattle.runs.specs.declared.Network.{Network}
 use Rattle.runs.specs.declared.Answer.{Answer}
-use Rattle.runs.specs.Calls.{deliverOf}
+use Rattle.runs.specs.Calls.{Result, deliverOf, echoOf}
 use Rattle.cabi.specs.declared.LentAnswer.{LentAnswer}
 use Rattle.cabi.specs.declared.LentNetwork.{LentNetwork}
 use Rattle.cabi.specs.declared.LentOutcome.{LentOutcome}
 use Rattle.cabi.specs.declared.LentUnit.{LentUnit}
 use Rattle.cabi.specs.Lent.{unitFrom, outcomeBack, networkFrom, answerBack}
-use Rattle.cabi.specs.Calls.{codeOf, parsedOf, unknownKind, writeAs, writtenAs, stepOf, steppedBytes, deliveredTo, deliveredPool}
+use Rattle.cabi.specs.Calls.{codeOf, parsedOf, unknownKind, writeAs, writtenAs, stepOf, steppedBytes, deliveredTo, deliveredPool, echoedTo, echoedPool}
 
 -- what reading comes to
 pub parsed-is : (p q : Reading) (r k : ℕ) → r ≡ refusalOf (p .answer) → k ≡ codeOf (p .answer) → p ≡ q → record { refusal = r; kind = k; message = p .message } ≡ parsedOf q
@@ -55,8 +55,16 @@ module _ (order : ValueOrder) (s : LentUnit) (own n : ℕ) (sizes costs packet :
   unfolding steppedBytes
   stepped-is out l e = e ∙ rw read
 
--- a delivery
-pub delivery-is : (order : ValueOrder) (s : LentNetwork) (stream pool : List ℕ) (cell : ℕ) (t : Network) (a : Answer) (x : LentAnswer) (l : List ℕ)
-    → t ≡ networkFrom s → (a ≡ deliverOf order t stream pool cell .answer) × (l ≡ deliverOf order t stream pool cell .pool) → x ≡ answerBack s a → (x ≡ deliveredTo order s stream pool cell) × (l ≡ deliveredPool order s stream pool cell)
-unfolding deliveredTo deliveredPool
-delivery-is order s stream pool cell t a x l read e f = (f ∙ rw (e .0, read), e .1 ∙ rw read)
+-- a call of a network, by what it does with the network that is read
+module _ (s : LentNetwork) (t : Network) (a : Answer) (x : LentAnswer) (l : List ℕ) (read : t ≡ networkFrom s) (back : x ≡ answerBack s a) where
+  call-is : (f : Network → Result) → (a ≡ f t .answer) × (l ≡ f t .pool) → (x ≡ answerBack s (f (networkFrom s) .answer)) × (l ≡ f (networkFrom s) .pool)
+  call-is f e = (back ∙ rw (e .0, read), e .1 ∙ rw read)
+
+  module _ (order : ValueOrder) (stream pool : List ℕ) where
+    pub delivery-is : (cell : ℕ) → (a ≡ deliverOf order t stream pool cell .answer) × (l ≡ deliverOf order t stream pool cell .pool) → (x ≡ deliveredTo order s stream pool cell) × (l ≡ deliveredPool order s stream pool cell)
+    unfolding deliveredTo deliveredPool
+    delivery-is cell e = call-is (λ (t : Network). deliverOf order t stream pool cell) e
+
+    pub echo-is : (packet : List ℕ) → (a ≡ echoOf order t stream pool packet .answer) × (l ≡ echoOf order t stream pool packet .pool) → (x ≡ echoedTo order s stream pool packet) × (l ≡ echoedPool order s stream pool packet)
+    unfolding echoedTo echoedPool
+    echo-is packet e = call-is (λ (t : Network). echoOf order t stream pool packet) e

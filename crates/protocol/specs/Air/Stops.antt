@@ -14,14 +14,14 @@ use native.Mathlib.Nat.{le-antisymm}
 use lib.Dec.{eqb}
 use borrow.Author.Tests.{eqb-true, eqb-false}
 use Rattle.base.specs.Members.{In, here, there, Every}
-use Rattle.base.specs.Members.Laws.{in-append, in-left, in-right, in-more, every-nil}
-use Rattle.protocol.specs.Problem.{Problem, Laws, closed-least, ValidBound, valid-le-none, NONE}
+use Rattle.base.specs.Members.Laws.{in-append, in-left, in-right, every-nil}
+use Rattle.protocol.specs.Problem.{Problem, Laws, closed-least, least-le, NONE}
 use Rattle.protocol.specs.Machine.{Msg, down, back, request, estimate, solution, stop, to, toEach, Agent, fresh, Result, refused, done, halt, counted, assign, step, Network, put, made, make}
 use Rattle.protocol.specs.Tests.{true-not-false}
 use Rattle.protocol.specs.Walk.{take-bound-cases}
 use Rattle.protocol.specs.Safety.Logs.{Safe}
 use Rattle.protocol.specs.Safety.Network.{put-all, put-other, SafeNetwork}
-use Rattle.protocol.specs.Safety.Run.{in-pool}
+use Rattle.protocol.specs.Safety.Run.{Among, taken}
 use Rattle.protocol.specs.Liveness.Run.{taken-waits}
 use Rattle.protocol.specs.Count.Stops.{NotStop, JustStopped, Ending, try-ends, step-ends}
 use Rattle.protocol.specs.Count.Tally.{Running, put-running, accept-running}
@@ -62,11 +62,7 @@ Ends P S = Running S ⊎ Stopping P S
 
 -- ---- unit 1 has stopped: no unit's bound is lower
 no-lower : (P : Problem) (us : ℕ → Agent) → Safe P us → 0 < P .n → us 0 .stopped ≡ true → (k : ℕ) → k < P .n → us 0 .bound ≤ us k .bound
-no-lower P us safe n1 st k lt = go (safe k lt .valid)
-  where
-    go : ValidBound P (us k .bound) (us k .best) → us 0 .bound ≤ us k .bound
-    go (inl q) = omega (arith, q .0, valid-le-none P (us 0 .best) (safe 0 n1 .valid))
-    go (inr q) = omega (arith, q .0, closed-least P (us 0 .bound) (safe 0 n1 .stop refl st) (us k .best) (q .1))
+no-lower P us safe n1 st k lt = least-le P _ _ (safe 0 n1 .valid) (closed-least P (us 0 .bound) (safe 0 n1 .stop refl st)) (safe k lt .valid)
 
 -- ---- unit 1 stops: it becomes w and sends ms, with the messages `rest`, none a stop, still in the air
 first-stops : (P : Problem) (us : ℕ → Agent) → ((k : ℕ) → us k .stopped ≡ false) → (w : Agent) (rest ms : List Msg) → Every NotStop rest → Every (Copies w) ms → JustStopped P 0 w ms → (count : ℕ)
@@ -91,17 +87,17 @@ module _ (P : Problem) (laws : Laws P) (n1 : 0 < P .n) (S : Network) (r : SafeNe
   abbrev S′ : Network
   S′ = record { units = put (S .units) (to m) u; pool = (b ++ a) ++ ms; accepted = suc (S .accepted) }
 
-  t : PairStep P S (to m) u ms
-  t = accept-steps P laws S r b a m u ms e d
+  w : Among (S .pool) m (b ++ a)
+  w = taken b a m e
 
-  still : (x : Msg) → In x (b ++ a) → In x (S .pool)
-  still x i = subst (λ p. In x p) (sym e) (in-more b m a i)
+  t : PairStep P S (to m) u ms
+  t = accept-steps P laws S r m (w .waits) u ms d
 
   -- no unit has stopped before
   running : Running S → JustStopped P (to m) u ms ⊎ Running S′ → Ends P S′
   running h (inl js) =
       inr (subst (λ i. Stopping P (record { units = put (S .units) i u; pool = (b ++ a) ++ ms; accepted = suc (S .accepted) })) (sym (js .0))
-      (first-stops P (S .units) (h .1) u (b ++ a) ms (λ x i. h .0 x (still x i)) (t .copies) (refl, js .1, js .2) (suc (S .accepted))))
+      (first-stops P (S .units) (h .1) u (b ++ a) ms (λ x i. h .0 x (w .still x i)) (t .copies) (refl, js .1, js .2) (suc (S .accepted))))
   running h (inr h′) = inl h′
 
   -- unit 1 has stopped before: it is not the receiver
@@ -126,11 +122,11 @@ module _ (P : Problem) (laws : Laws P) (n1 : 0 < P .n) (S : Network) (r : SafeNe
         }
       where
         stops : (k B : ℕ) (l : List ℕ) → In (stop k B l) (b ++ a) ⊎ In (stop k B l) ms → Has (S .units 0) B l
-        stops k B l (inl i) = h .stops k B l (still (stop k B l) i)
+        stops k B l (inl i) = h .stops k B l (w .still (stop k B l) i)
         stops k B l (inr i) = absurd (ns (stop k B l) i)
 
         stays : (i : ℕ) → StopOf (S .units 0) i ≢ m → In (StopOf (S .units 0) i) (S .pool) → In (StopOf (S .units 0) i) ((b ++ a) ++ ms)
-        stays i ne j = taken-waits b a m ms (S .pool) e (StopOf (S .units 0) i) ne j
+        stays i ne j = in-left ms (taken-waits b a m (S .pool) e (StopOf (S .units 0) i) ne j)
 
         at : (u .stopped ≡ true) ⊎ (NotStop m × (u .stopped ≡ false)) → (S .units (to m) .stopped ≡ true) ⊎ In (StopOf (S .units 0) (to m)) (S .pool)
             → (u .stopped ≡ true) ⊎ In (StopOf (S .units 0) (to m)) ((b ++ a) ++ ms)
@@ -151,7 +147,7 @@ module _ (P : Problem) (laws : Laws P) (n1 : 0 < P .n) (S : Network) (r : SafeNe
     comes k B l em = stopping (has .2) (λ z. has .1) (inl (has .0))
       where
         its : Has (S .units 0) B l
-        its = h .stops k B l (subst (λ x. In x (S .pool)) em (in-pool b a m e))
+        its = h .stops k B l (subst (λ x. In x (S .pool)) em (w .waits))
 
         Halted : Result → Type 0
         Halted refused = Unit {0}
@@ -168,7 +164,7 @@ module _ (P : Problem) (laws : Laws P) (n1 : 0 < P .n) (S : Network) (r : SafeNe
         halted : Halted (step P (S .units (to m)) (stop k B l))
         halted =
             take-bound-cases Both (λ w. Halted (done (halt w) [])) B l (S .units (to m)) (inl (to m, t .lt, (refl, refl)), no-lower P (S .units) (r .safe) n1 (h .first) (to m) (t .lt))
-            (inr (m, in-pool b a m e, subst (λ x. Carries x B l) (sym em) (refl, refl)), omega (arith, its .0))
+            (inr (m, w .waits, subst (λ x. Carries x B l) (sym em) (refl, refl)), omega (arith, its .0))
             (λ C c le₁ le₂ bo. (refl, got C c le₂ bo, every-nil _))
 
         has : (u .stopped ≡ true) × Has (S .units 0) (u .bound) (u .best) × Every NotStop ms
@@ -179,7 +175,7 @@ module _ (P : Problem) (laws : Laws P) (n1 : 0 < P .n) (S : Network) (r : SafeNe
   kind h (inr q) = comes h (q .0) (q .1) (q .2) (q .3)
 
   pub accept-ends : Ends P S → Ends P S′
-  accept-ends (inl h) = running h (accept-running P S b a m u ms e d h)
+  accept-ends (inl h) = running h (accept-running P S m (b ++ a) w u ms d h)
   accept-ends (inr h) = inr (kind h (stop-or-not m))
 
 -- ---- making

@@ -12,7 +12,7 @@ use mathlib.Core.List.{List, [], _∷_, _++_}
 use native.Mathlib.Omega.{arith}
 use lib.ListN.{length}
 use Rattle.base.specs.Members.{In}
-use Rattle.base.specs.Members.Laws.{in-cases, not-in-nil, in-append, in-more}
+use Rattle.base.specs.Members.Laws.{in-cases, not-in-nil, in-append}
 use Rattle.protocol.specs.Problem.{Problem, Closed, Laws, closed-mono, closed-full, NONE, valid-le-none, Passed, passed-mono, cost-below}
 use Rattle.protocol.specs.Machine.{Msg, down, back, request, estimate, solution, stop, to, Record, valuesOf, Agent, recordOf, values, fresh, withBound, Result, refused, done, skip, write, counted, received, halt, solved, tryFrom, assign, resume, step, Network, put, made, make}
 use Rattle.protocol.specs.Walk.{take-bound-cases, try-walk, resume-cases, down-walk, request-walk}
@@ -20,7 +20,7 @@ use Rattle.protocol.specs.Safety.Facts.{History, ValidMsg, CpaOut, Good}
 use Rattle.protocol.specs.Safety.Assign.{closed-one-more}
 use Rattle.protocol.specs.Safety.Logs.{Added, Grown, try-grown, step-grown, logs, Recorded, peak}
 use Rattle.protocol.specs.Safety.Network.{before, put-all, put-at, put-other, SafeNetwork, make-safe}
-use Rattle.protocol.specs.Safety.Run.{in-pool, accept-safe}
+use Rattle.protocol.specs.Safety.Run.{Among, accept-safe}
 use Rattle.protocol.specs.Best.Told.{Carries, Has, Told, assign-told}
 use Rattle.protocol.specs.Best.Pairs.{Seen, OneBest, Known, PairStep, last-falls, old-or-new, accept-steps, accept-pairs, make-steps, make-pairs}
 
@@ -160,26 +160,26 @@ module _ (P : Problem) (S : Network) (k : ℕ) (u : Agent) (ms : List Msg) (t : 
 -- ---- a message that is accepted
 
 module _ (P : Problem) (laws : Laws P) where
-  pub accept-first : (S : Network) → SafeNetwork P S → OneBest P S → First P S → (b a : List Msg) (m : Msg) (u : Agent) (ms : List Msg) → S .pool ≡ b ++ (m ∷ a)
-      → step P (S .units (to m)) m ≡ done u ms → First P (record { units = put (S .units) (to m) u; pool = (b ++ a) ++ ms; accepted = suc (S .accepted) })
-  accept-first S r g f b a m u ms e d =
-      put-first P S (to m) u ms t (b ++ a) (λ x i. subst (λ p. In x p) (sym e) (in-more b m a i)) (suc (S .accepted)) (own-pair (t .known))
-      (subst (Grown P (to m) (S .units (to m) .log)) d (step-grown P (S .units (to m)) m)) (accept-safe P laws S r b a m u ms e d) (accept-pairs P laws S r g b a m u ms e d) f
+  pub accept-first : (S : Network) → SafeNetwork P S → OneBest P S → First P S → (m : Msg) (rest : List Msg) → Among (S .pool) m rest → (u : Agent) (ms : List Msg)
+      → step P (S .units (to m)) m ≡ done u ms → First P (record { units = put (S .units) (to m) u; pool = rest ++ ms; accepted = suc (S .accepted) })
+  accept-first S r g f m rest w u ms d =
+      put-first P S (to m) u ms t rest (w .still) (suc (S .accepted)) (own-pair (t .known))
+      (subst (Grown P (to m) (S .units (to m) .log)) d (step-grown P (S .units (to m)) m)) (accept-safe P laws S r m rest w u ms d) (accept-pairs P laws S r g m rest w u ms d) f
     where
       t : PairStep P S (to m) u ms
-      t = accept-steps P laws S r b a m u ms e d
+      t = accept-steps P laws S r m (w .waits) u ms d
 
       own-pair : Known P S (to m) u → Passed P (u .best) (suc (u .bound))
       own-pair (inl s) = f .pairs (u .bound) (u .best) s
       own-pair (inr q) =
           let i : pred (P .n) ≡ to m = omega (arith, q .0) in
           subst (Fresh P) d
-          (last-fresh P laws (Recorded (logs (S .units))) (S .units (to m)) (valid-le-none P (S .units (to m) .best) (r .safe (to m) (t .lt) .valid)) m (q .0) (r .msgs m (in-pool b a m e))
+          (last-fresh P laws (Recorded (logs (S .units))) (S .units (to m)) (valid-le-none P (S .units (to m) .best) (r .safe (to m) (t .lt) .valid)) m (q .0) (r .msgs m (w .waits))
           (λ s c h. (
             before P (S .units) (r .safe) (to m) (omega (arith, t .lt)) .len s c h,
             subst (λ j. Passed P c (S .units j .bound)) i (recorded-passed P (logs (S .units)) (S .units (pred (P .n)) .bound) (to m) s c (λ j z. f .records j (omega (arith, z, t .lt))) h),
           ))
-          (f .pairs _ _ (inl (to m, t .lt, (refl, refl)))) (λ C c h. f .pairs C c (inr (m, in-pool b a m e, h))))
+          (f .pairs _ _ (inl (to m, t .lt, (refl, refl)))) (λ C c h. f .pairs C c (inr (m, w .waits, h))))
 
   -- ---- making
 

@@ -6,14 +6,14 @@
 use Prim.Native.Nat.{ℕ, suc, _≤_, _<_, pred}
 use mathlib.Core.Path.{_≡_, sym, ap, _∙_, subst}
 use mathlib.Core.Logic.{_⊎_, inl, inr}
-use mathlib.Core.List.{List, [], _∷_, _++_}
+use mathlib.Core.List.{List, [], _++_}
 use native.Mathlib.Omega.{arith}
 use Rattle.base.specs.Members.{In, Every}
-use Rattle.base.specs.Members.Laws.{not-in-nil, in-append, in-more}
+use Rattle.base.specs.Members.Laws.{not-in-nil, in-append}
 use Rattle.protocol.specs.Problem.{Problem, Laws, NONE, valid-le-none}
 use Rattle.protocol.specs.Machine.{Msg, to, Agent, fresh, Result, refused, done, assign, step, Network, put, made, make}
 use Rattle.protocol.specs.Safety.Network.{put-all, put-at, SafeNetwork}
-use Rattle.protocol.specs.Safety.Run.{in-pool}
+use Rattle.protocol.specs.Safety.Run.{Among}
 use Rattle.protocol.specs.Liveness.Effect.{to<n}
 use Rattle.protocol.specs.Best.Told.{Carries, Has, Copies, Tells, Told, tells-falls, assign-told, StepTells, StepTold, step-told}
 
@@ -84,25 +84,23 @@ module _ (P : Problem) (S : Network) (k : ℕ) (u : Agent) (ms : List Msg) (t : 
 -- ---- a message that is accepted
 
 module _ (P : Problem) (laws : Laws P) where
-  pub accept-steps : (S : Network) → SafeNetwork P S → (b a : List Msg) (m : Msg) (u : Agent) (ms : List Msg) → S .pool ≡ b ++ (m ∷ a) → step P (S .units (to m)) m ≡ done u ms
-      → PairStep P S (to m) u ms
-  accept-steps S r b a m u ms e d = record { lt = lt; known = known (t .source); falls = t .falls; copies = t .copies }
+  pub accept-steps : (S : Network) → SafeNetwork P S → (m : Msg) → In m (S .pool) → (u : Agent) (ms : List Msg) → step P (S .units (to m)) m ≡ done u ms → PairStep P S (to m) u ms
+  accept-steps S r m i u ms d = record { lt = lt; known = known (t .source); falls = t .falls; copies = t .copies }
     where
       lt : to m < P .n
-      lt = to<n P laws (S .units) (r .safe) m (r .msgs m (in-pool b a m e))
+      lt = to<n P laws (S .units) (r .safe) m (r .msgs m i)
 
       t : StepTells P (S .units (to m)) m u ms
       t = subst (StepTold P (S .units (to m)) m) d (step-told P laws (S .units (to m)) (valid-le-none P (S .units (to m) .best) (r .safe (to m) lt .valid)) m)
 
       known : (Has (S .units (to m)) (u .bound) (u .best) ⊎ Carries m (u .bound) (u .best)) ⊎ ((suc (to m) ≡ P .n) × (u .bound < S .units (to m) .bound)) → Known P S (to m) u
       known (inl (inl q)) = inl (inl (to m, lt, q))
-      known (inl (inr q)) = inl (inr (m, in-pool b a m e, q))
+      known (inl (inr q)) = inl (inr (m, i, q))
       known (inr q) = inr q
 
-  pub accept-pairs : (S : Network) → SafeNetwork P S → OneBest P S → (b a : List Msg) (m : Msg) (u : Agent) (ms : List Msg) → S .pool ≡ b ++ (m ∷ a)
-      → step P (S .units (to m)) m ≡ done u ms → OneBest P (record { units = put (S .units) (to m) u; pool = (b ++ a) ++ ms; accepted = suc (S .accepted) })
-  accept-pairs S r g b a m u ms e d =
-      put-pairs P S (to m) u ms (accept-steps S r b a m u ms e d) (b ++ a) (λ x i. subst (λ p. In x p) (sym e) (in-more b m a i)) (suc (S .accepted)) g
+  pub accept-pairs : (S : Network) → SafeNetwork P S → OneBest P S → (m : Msg) (rest : List Msg) → Among (S .pool) m rest → (u : Agent) (ms : List Msg)
+      → step P (S .units (to m)) m ≡ done u ms → OneBest P (record { units = put (S .units) (to m) u; pool = rest ++ ms; accepted = suc (S .accepted) })
+  accept-pairs S r g m rest w u ms d = put-pairs P S (to m) u ms (accept-steps S r m (w .waits) u ms d) rest (w .still) (suc (S .accepted)) g
 
   -- ---- making: before it all pairs are none
 

@@ -10,8 +10,8 @@ use mathlib.Core.List.{List, [], _∷_, _++_}
 use native.Mathlib.Omega.{arith}
 use lib.ListN.{length, set, replicate, length-append, length-set, getD-replicate}
 use Rattle.base.specs.Sums.{sumTo}
-use Rattle.base.specs.Members.{In, Every}
-use Rattle.base.specs.Members.Laws.{in-left, in-right, every-nil, every-append}
+use Rattle.base.specs.Members.{In, here, there, Every}
+use Rattle.base.specs.Members.Laws.{not-in-nil, in-left, in-right, every-nil, every-append}
 use Rattle.costs.specs.declared.ValueOrder.{ValueOrder}
 use Rattle.costs.specs.declared.Cost.the-variants.{Of}
 use Rattle.costs.specs.Instance.{Instance, viewBy}
@@ -54,6 +54,14 @@ pub record CutAt (order : ValueOrder) (I : Instance) (b : List Packet) (p : Pack
   pub reads-before : ReadAll order I b before
   pub reads-behind : ReadAll order I a behind
 
+-- a list of packets, cut where one reads as a message
+pub record ReadAs (order : ValueOrder) (I : Instance) (ps : List Packet) (m : Msg) : Type 0 where
+  pub front : List Packet
+  pub packet : Packet
+  pub rest : List Packet
+  pub whole : ps ≡ front ++ (packet ∷ rest)
+  pub reads : Reads order I packet m
+
 module _ (order : ValueOrder) (I : Instance) where
   pub read-to : (p : Packet) (m : Msg) → Reads order I p m → placeOf p ≡ to m
   read-to p (M.down k s b B l) h = ap pred (h .1)
@@ -85,6 +93,14 @@ module _ (order : ValueOrder) (I : Instance) where
         reads-before = (h .0, c .reads-before);
         reads-behind = c .reads-behind;
       }
+
+  pub read-as : (ps : List Packet) (ms : List Msg) (m : Msg) → ReadAll order I ps ms → In m ms → ReadAs order I ps m
+  read-as ps [] m h i = absurd (not-in-nil i)
+  read-as [] (y ∷ ms) m h i = absurd h
+  read-as (p ∷ ps) (y ∷ ms) m h (here e) = record { front = []; packet = p; rest = ps; whole = refl; reads = subst (Reads order I p) (sym e) (h .0) }
+  read-as (p ∷ ps) (y ∷ ms) m h (there j) =
+      let q = read-as ps ms m (h .1) j in
+      record { front = p ∷ q .front; packet = q .packet; rest = q .rest; whole = ap (λ l. p ∷ l) (q .whole); reads = q .reads }
 
 -- ---- what corresponds
 

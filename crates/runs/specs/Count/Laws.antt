@@ -3,7 +3,7 @@
 use Prim.Native.Nat.{ℕ, _+_, _*_, _/_, _%_, _^_, _<_, zero}
 use mathlib.Core.Path.{_≡_, sym, ap, _∙_}
 use native.Mathlib.Omega.{arith}
-use native.Mathlib.Nat.{mul-add-div-right, mul-add-mod-self-right, mod-eq-of-lt, add-assoc}
+use native.Mathlib.Nat.{mul-add-div-right, mul-add-mod-self-right, mod-eq-of-lt, add-assoc, div-add-mod'}
 use mathlib.Core.Bool.{false}
 use lib.Arith.{mod-mul}
 use lib.Dec.{eqb}
@@ -28,6 +28,13 @@ plus-value m c = digits-plus (2 ^ 64) (c .low) (c .high) m (omega arith)
 -- without the modulus, while it lasts
 pub plus-exact : (m : ℕ) (c : Count) → valueOf c + m < 2 ^ 64 * 2 ^ 64 → valueOf (plus m c) ≡ valueOf c + m
 plus-exact m c h = plus-value m c ∙ mod-eq-of-lt h
+
+mod-more : (m a : ℕ) → (a % m + 1) % m ≡ (a + 1) % m
+mod-more m a = sym (mul-add-mod-self-right (a / m) m (a % m + 1)) ∙ ap (λ x. x % m) (sym (add-assoc (a / m * m) (a % m) 1) ∙ ap (λ x. x + 1) (div-add-mod' a m))
+
+-- and with it, of a count that stands for a number modulo 2^128
+pub plus-one : (c : Count) (k : ℕ) → valueOf c ≡ k % (2 ^ 64 * 2 ^ 64) → valueOf (plus 1 c) ≡ (k + 1) % (2 ^ 64 * 2 ^ 64)
+plus-one c k e = plus-value 1 c ∙ ap (λ y. (y + 1) % (2 ^ 64 * 2 ^ 64)) e ∙ mod-more (2 ^ 64 * 2 ^ 64) k
 
 -- a number is 0 where both its words are
 positive : (h l : ℕ) → (h ≡ 0 → ⊥) → h * 2 ^ 64 + l ≡ 0 → ⊥

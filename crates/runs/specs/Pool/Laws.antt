@@ -10,7 +10,7 @@ use Rattle.base.specs.Limits.{messageSize}
 use Rattle.base.specs.Put.Laws.{paste-more}
 use Rattle.message.specs.Message.{Packet}
 use Rattle.rules.specs.Send.{encodeAll, laid}
-use Rattle.runs.specs.Pool.{poolAfter}
+use Rattle.runs.specs.Pool.{poolAfter, poolWith}
 
 -- the cells behind one, up to those in use
 abbrev pub laterCells : List ℕ → ℕ → ℕ → List ℕ
@@ -73,3 +73,12 @@ module _ (pool : List ℕ) (used cell : ℕ) (inside : cell < used) (fits : mess
       ap (λ (m : ℕ). drop (m + messageSize * length ps) (p ++ q)) (sym closed-front) ∙ drop-append-add p q (messageSize * length ps) ∙ drop-drop (messageSize * length ps) (messageSize * (used - 1)) pool in
       let all : messageSize * (used - 1) + messageSize * length ps ≡ messageSize * (used - 1 + length ps) = omega arith in
       rw (closed, front, rest, sent, all, append-assoc)
+
+-- ---- an echo
+
+-- what was sent copied in behind the cells in use
+pub pool-added : (pool : List ℕ) (used : ℕ) (ps : List Packet) (s : List ℕ) → take (messageSize * length ps) s ≡ encodeAll ps → paste pool (messageSize * used) s (messageSize * length ps) ≡ poolWith used ps pool
+unfolding poolWith
+pool-added pool used ps s sent =
+    let all : messageSize * used + messageSize * length ps ≡ messageSize * (used + length ps) = omega arith in
+    rw (sent, all, append-assoc)

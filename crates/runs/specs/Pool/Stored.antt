@@ -19,7 +19,7 @@ use Rattle.message.specs.Written.{encode}
 use Rattle.message.specs.EncodeLaws.{length-encode}
 use Rattle.rules.specs.Send.{encodeAll, laid}
 use Rattle.rules.specs.Laying.{encode-append}
-use Rattle.runs.specs.Pool.{cellOf, poolAfter}
+use Rattle.runs.specs.Pool.{cellOf, poolAfter, poolWith}
 use Rattle.runs.specs.Pool.Laws.{laterCells}
 use Rattle.runs.specs.Run.{cells}
 
@@ -120,6 +120,19 @@ front-stored ms pool z few long n e =
 pub start-stored : (ps : List Packet) (pool : List ℕ) → AllSized ps → length ps ≤ poolCells → poolSize ≤ length pool → Stored (cells .start ps) (length ps) (laid ps pool)
 unfolding laid
 start-stored ps pool z few long = front-stored ps pool z few long (length ps) refl
+
+-- an echo adds what is sent behind what waits
+pub added-stored : (ms : List Packet) (used : ℕ) (pool : List ℕ) → Stored ms used pool → AllSized ms → (ps : List Packet) → AllSized ps → length (ms ++ ps) ≤ poolCells
+    → Stored (ms ++ ps) (used + length ps) (poolWith used ps pool)
+unfolding poolWith
+added-stored ms used pool st z ps zs few =
+    subst (Stored (ms ++ ps) (used + length ps)) (sym is)
+    (front-stored (ms ++ ps) pool (every-append _ ms ps z zs) few (st .room) (used + length ps) (omega (arith, st .count, length-append ms ps)))
+  where
+    is : take (messageSize * used) pool ++ encodeAll ps ++ drop (messageSize * (used + length ps)) pool ≡ encodeAll (ms ++ ps) ++ drop (messageSize * (used + length ps)) pool
+    is =
+        ap (λ l. l ++ encodeAll ps ++ drop (messageSize * (used + length ps)) pool) (ap (λ k. take (messageSize * k) pool) (st .count) ∙ st .front)
+        ∙ ap (λ l. l ++ drop (messageSize * (used + length ps)) pool) (sym (encode-append ms ps))
 
 module _ (ms : List Packet) (used : ℕ) (pool : List ℕ) (st : Stored ms used pool) (z : AllSized ms) (c : ℕ) (p : Packet) (e : cells .at ms c ≡ some p) where
   stands : StandsAt ms c p

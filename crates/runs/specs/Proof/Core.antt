@@ -2,7 +2,7 @@
 -- (`core-starts`), and a packet handed to its unit keeps it (`core-steps`). And a packet that can be written reads back from its bytes as itself.
 -- In order: the core; a packet and its bytes; the counts; making and a step.
 -- Assumes nothing.
-use Prim.Native.Nat.{ℕ, _+_, _*_, _^_, _<_, pred}
+use Prim.Native.Nat.{ℕ, _+_, _*_, _%_, _^_, _<_, pred}
 use mathlib.Core.Path.{_≡_, refl, sym, ap, _∙_, subst}
 use mathlib.Core.Bool.{cond}
 use mathlib.Core.List.{List, [], _∷_, _++_}
@@ -37,17 +37,17 @@ use Rattle.protocol.specs.Simulation.Units.{read-to, Matches, StepsTo}
 use Rattle.protocol.specs.Simulation.Table.{laws}
 use Rattle.runs.specs.declared.Core.{Core}
 use Rattle.runs.specs.Count.{zeroCount, valueOf, plus}
-use Rattle.runs.specs.Count.Laws.{plus-exact}
+use Rattle.runs.specs.Count.Laws.{plus-exact, plus-one}
 use Rattle.runs.specs.Run.{Pool, HistoryOf, historyAfter, begunWith}
 use Rattle.runs.specs.Calls.{receiverOf, stepFrom8}
 
--- the units and counts follow: those of H, which are the machine's units us
+-- the units and counts follow: those of H, which are the machine's units us. How many were handed over is counted modulo 2^128, as echoes have no end.
 pub record CoreFollows (order : ValueOrder) {W : Type 0} (s : List ℕ) (core : Core) (H : HistoryOf W) (us : ℕ → Agent) : Type 0 where
   pub matches : Matches order (instanceOf s) (H .units) (H .written) us
   pub units : AllInRange order (instanceOf s) (sizesIn s) (H .units)
   pub same : core .units ≡ H .units
   pub records : valueOf (core .records) ≡ length (H .written)
-  pub deliveries : valueOf (core .deliveries) ≡ length (H .handed)
+  pub deliveries : valueOf (core .deliveries) ≡ length (H .handed) % (2 ^ 64 * 2 ^ 64)
 
 module _ (order : ValueOrder) (s : List ℕ) (ok : Accepted s) where
   -- ---- a packet that can be written, and its bytes
@@ -88,9 +88,9 @@ module _ (order : ValueOrder) (s : List ℕ) (ok : Accepted s) where
 
   pub core-steps : {W : Type 0} (core : Core) (H : HistoryOf W) (us : ℕ → Agent) → CoreFollows order s core H us → (p : Packet) (m : Msg) → Reads order (instanceOf s) p m → (res : Result) (u : UnitState) (o : Sending) (ws : List Written)
       (x : StepsTo order (instanceOf s) (H .units) (H .written) us (placeOf p) res u o ws) → Leaves order (instanceOf s) (sizesIn s) (H .units) (placeOf p) u o ws
-      → Safe (problemBy order (instanceOf s)) (M.put us (to m) (x .agent)) → length (H .handed ++ (p ∷ [])) < 2 ^ 64 * 2 ^ 64 → (w : W)
+      → Safe (problemBy order (instanceOf s)) (M.put us (to m) (x .agent)) → (w : W)
       → CoreFollows order s (record { units = set (core .units) (pred (p .message .receiver)) u; records = plus (length ws) (core .records); deliveries = plus 1 (core .deliveries) }) (historyAfter H p u (packets (instanceOf s .n) (placeOf p) o) ws w) (M.put us (to m) (x .agent))
-  core-steps core H us f p m rd res u o ws x l safe below w =
+  core-steps core H us f p m rd res u o ws x l safe w =
       record {
         matches = matched;
         units = l .units;
@@ -98,7 +98,7 @@ module _ (order : ValueOrder) (s : List ℕ) (ok : Accepted s) where
         records =
             plus-exact (length ws) (core .records) (subst (λ y. y < 2 ^ 64 * 2 ^ 64) (sym count-records) (records-below (M.put us (to m) (x .agent)) safe (set (H .units) (placeOf p) u) (H .written ++ ws) matched))
             ∙ count-records;
-        deliveries = plus-exact 1 (core .deliveries) (subst (λ y. y < 2 ^ 64 * 2 ^ 64) (sym count-deliveries) below) ∙ count-deliveries;
+        deliveries = plus-one (core .deliveries) (length (H .handed)) (f .deliveries) ∙ ap (λ y. y % (2 ^ 64 * 2 ^ 64)) (sym (length-append (H .handed) (p ∷ [])));
       }
     where
       matched : Matches order (instanceOf s) (set (H .units) (placeOf p) u) (H .written ++ ws) (M.put us (to m) (x .agent))
@@ -106,6 +106,3 @@ module _ (order : ValueOrder) (s : List ℕ) (ok : Accepted s) where
 
       count-records : valueOf (core .records) + length ws ≡ length (H .written ++ ws)
       count-records = ap (λ y. y + length ws) (f .records) ∙ sym (length-append (H .written) ws)
-
-      count-deliveries : valueOf (core .deliveries) + 1 ≡ length (H .handed ++ (p ∷ []))
-      count-deliveries = ap (λ y. y + 1) (f .deliveries) ∙ sym (length-append (H .handed) (p ∷ []))

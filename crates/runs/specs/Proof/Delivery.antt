@@ -2,7 +2,7 @@
 -- back as the packet that waits there, the step is the machine's and is accepted, and the pool is left holding what then waits. By the one walk.
 -- In order: packets counted; a delivery refused; a packet at its cell, and its step; its packets don't fit, or the invariant after it.
 -- Assumes nothing.
-use Prim.Native.Nat.{ℕ, suc, _+_, _*_, _^_, _≤_, _<_}
+use Prim.Native.Nat.{ℕ, suc, _+_, _-_}
 use mathlib.Core.Path.{_≡_, refl, sym, ap, _∙_, subst}
 use mathlib.Core.Logic.{inl, inr}
 use mathlib.Core.Bool.{Bool, true, false, cond}
@@ -13,25 +13,21 @@ use lib.Dec.{leb, eqb}
 use lib.ListN.{length, take, drop, length-append}
 use borrow.Author.Tests.{leb-true, ne-eqb}
 use Rattle.base.specs.Limits.{poolCells}
-use Rattle.table.specs.Stream.{unitsOf, Accepted}
+use Rattle.table.specs.Stream.{Accepted}
 use Rattle.costs.specs.declared.ValueOrder.{ValueOrder}
 use Rattle.costs.specs.Instance.{instanceOf}
 use Rattle.costs.specs.Laws.Tried.{problemBy}
 use Rattle.costs.specs.Laws.Stream.{sound-of}
 use Rattle.costs.specs.Gather.{sizesIn}
-use Rattle.base.specs.Every.{every}
-use Rattle.base.specs.Every.Laws.{every-by}
-use Rattle.base.specs.Members.{In, here}
-use Rattle.base.specs.Members.Laws.{in-right, in-more, every-append}
+use Rattle.base.specs.Members.{In}
+use Rattle.base.specs.Members.Laws.{in-more}
 use Rattle.message.specs.Message.{Packet}
-use Rattle.message.specs.Written.{encode}
 use Rattle.rules.specs.declared.Unit.{Unit as UnitState}
 use Rattle.rules.specs.declared.Sending.{Sending}
 use Rattle.rules.specs.Step as U
-use Rattle.rules.specs.Step.{Decision, Written}
+use Rattle.rules.specs.Step.{Written}
 use Rattle.rules.specs.Send.{packets, packetBytes}
-use Rattle.rules.specs.Units.{unitAt, placeOf, stepOn}
-use Rattle.rules.specs.Laws.Packets.{Sendable}
+use Rattle.rules.specs.Units.{placeOf, stepOn}
 use Rattle.rules.specs.Laws.Assign.{Whenever}
 use Rattle.rules.specs.Laws.Units.{Leaves, step-in-range}
 use Rattle.protocol.specs.Machine as M
@@ -43,21 +39,16 @@ use Rattle.protocol.specs.Simulation.Units as X
 use Rattle.protocol.specs.Simulation.Units.{read-length, Simulated, StepsTo}
 use Rattle.protocol.specs.Simulation.Table.{laws, views}
 use Rattle.runs.specs.Pool.{cellOf, poolAfter}
-use Rattle.runs.specs.Pool.Stored.{AllSized, StandsAt, stands-at, none-at, no-room, some-room, cell-in-use, cell-bytes, used-after, put-stored}
+use Rattle.runs.specs.Pool.Stored.{AllSized, StandsAt, none-at, no-room, some-room, cell-bytes, put-stored}
 use Rattle.runs.specs.Run as R
 use Rattle.runs.specs.Run.{History, DeliveryOf, cells, stopped, onward, handOver}
 use Rattle.runs.specs.Calls as C
-use Rattle.runs.specs.Calls.{Result, deliverRefusal, receiverOf, stepFrom8, refusedDelivery, deliverBy, deliverOf}
+use Rattle.runs.specs.Calls.{Result, refusedDelivery, deliverOf}
 use Rattle.runs.specs.Demand3.{Shed, shedOf, times, Honest}
-use Rattle.runs.specs.Proof.Core.{receiver-is, step-is, core-steps}
-use Rattle.runs.specs.Code.{unitInRange, check-stopped, check-cell, check-none, deliver-goes}
+use Rattle.runs.specs.Code.{check-network, check-cell, deliver-refused}
 use Rattle.runs.specs.Proof.Walk.{hand-cases, deliver-cases}
-use Rattle.runs.specs.Proof.Invariant.{Invariant, sized, accepted-below, same-stop, cut, step-accepted}
-
--- the number of a refusal, 0 where the delivery was accepted
-abbrev pub numberOf : DeliveryOf (List Packet) → ℕ
-numberOf (R.refusedBy r) = r
-numberOf (R.delivered K) = 0
+use Rattle.runs.specs.Proof.Stands.{numberOf, sized, over-refuses, running-passes, left-by, here-is, waits, cell-leaves, stands-after}
+use Rattle.runs.specs.Proof.Invariant.{Invariant, same-stop, cut, step-accepted}
 
 -- a refusal is 12 after the stop, 14 or 15
 abbrev pub HonestDelivery : History → DeliveryOf (List Packet) → Type 0
@@ -100,30 +91,12 @@ module _ (order : ValueOrder) (s : List ℕ) (ok : Accepted s) (S : Shed) (H : H
         next = subst (Invariant order s ok S H) (sym stays) i;
       })
 
-  -- by a check
-  checked : (x : ℕ) → suc x ≡ deliverRefusal order (S .network) s (S .pool) c → deliverOf order (S .network) s (S .pool) c ≡ refusedDelivery (S .network) (S .pool) (suc x)
-  unfolding deliverOf
-  checked x e = ap (λ y. deliverBy order y (S .network) s (S .pool) c) (sym e)
-
-  -- ---- the checks before 12 pass
-
-  pub units-pass : every (unitInRange order s (S .network .core .units)) (unitsOf s) ≡ true
-  unfolding instanceOf
-  units-pass = every-by (unitInRange order s (S .network .core .units)) (unitsOf s) (λ k l. subst (λ us. unitInRange order s us k ≡ true) (sym (i .core .same)) (i .core .units .states k l))
-
-  in-use : S .network .used ≤ poolCells
-  in-use = omega (arith, i .stored .count, i .few)
-
-  stop-is : unitAt (S .network .core .units) 0 .stopped ≡ stopped H
-  stop-is = ap (λ us. unitAt us 0 .stopped) (i .core .same)
-
   machine-stop : A .units 0 .stopped ≡ stopped H
   machine-stop = sym (same-stop order s ok S H A i)
 
   -- once unit 1 has stopped it is 12
   pub after-stop : stopped H ≡ true → deliverOf order (S .network) s (S .pool) c ≡ refusedDelivery (S .network) (S .pool) 12
-  unfolding Accepted
-  after-stop st = checked 11 (check-stopped order (S .network) s (S .pool) c (i .stored .room) ok units-pass in-use (stop-is ∙ st))
+  after-stop st = deliver-refused order (S .network) s (S .pool) c 11 (check-network order (S .network) s (S .pool) c 12 (over-refuses order s ok S H (A .units) (i .stands) st) (λ z. omega (arith, z)))
 
   -- ---- the packet p at the cell, and its step
 
@@ -134,34 +107,19 @@ module _ (order : ValueOrder) (s : List ℕ) (ok : Accepted s) (S : Shed) (H : H
     abbrev a : List Packet
     a = drop (suc c) (H .waiting)
 
-    here-is : StandsAt (H .waiting) c p
-    here-is = stands-at (H .waiting) c p e
-
-    waits : In p (H .waiting)
-    waits = subst (In p) (sym (here-is .whole)) (in-right b (here refl))
-
-    w : Sendable (instanceOf s .n) (sizesIn s) p
-    w = i .sendable p waits
+    stand : StandsAt (H .waiting) c p
+    stand = here-is order s ok S H (A .units) (i .stands) st p c e
 
     z : AllSized (H .waiting)
-    z = sized order s ok (H .waiting) (i .sendable)
-
-    pub goes-on : deliverOf order (S .network) s (S .pool) c ≡ C.onOut (S .network) (S .pool) c (unitsOf s) (p .message .receiver) (stepOn order (instanceOf s) (H .units) p)
-    unfolding Accepted
-    goes-on =
-        sym (deliver-goes order (S .network) s (S .pool) c (sym (check-none order (S .network) s (S .pool) c (i .stored .room) ok units-pass in-use (stop-is ∙ st) (cell-in-use (H .waiting) (S .network .used) (S .pool) (i .stored) z c p e))))
-        ∙ ap (λ (x : List ℕ). C.onOut (S .network) (S .pool) c (unitsOf s) (receiverOf (unitsOf s) x) (stepFrom8 order s (S .network .core .units) (receiverOf (unitsOf s) x) x))
-        (cell-bytes (H .waiting) (S .network .used) (S .pool) (i .stored) z c p e)
-        ∙ ap (λ (y : ℕ). C.onOut (S .network) (S .pool) c (unitsOf s) y (stepFrom8 order s (S .network .core .units) y (encode (p .kind) (p .message)))) (receiver-is order s ok p w)
-        ∙ ap (λ (o : Decision). C.onOut (S .network) (S .pool) c (unitsOf s) (p .message .receiver) o) (step-is order s ok p w (S .network .core .units) ∙ ap (λ us. stepOn order (instanceOf s) us p) (i .core .same))
+    z = sized order s ok (H .waiting) (i .stands .sendable)
 
     -- the machine's pool, cut at the same cell
     at : X.CutAt order (instanceOf s) b p a (A .pool)
-    at = cut order s ok S H A i st b p a (here-is .whole)
+    at = cut order s ok S H A i st b p a (stand .whole)
 
     stepped : Simulated order (instanceOf s) (H .units) (H .written) (A .units) (placeOf p) (M.step (problemBy order (instanceOf s)) (A .units (to (at .message))) (at .message)) (stepOn order (instanceOf s) (H .units) p)
     unfolding at
-    stepped = step-accepted order s ok S H A i st b p a (here-is .whole)
+    stepped = step-accepted order s ok S H A i st b p a (stand .whole)
 
     -- ---- it is accepted, with u, o and ws
 
@@ -173,7 +131,9 @@ module _ (order : ValueOrder) (s : List ℕ) (ok : Accepted s) (S : Shed) (H : H
       x = subst (Simulated order (instanceOf s) (H .units) (H .written) (A .units) (placeOf p) (M.step (problemBy order (instanceOf s)) (A .units (to (at .message))) (at .message))) gives stepped
 
       l : Leaves order (instanceOf s) (sizesIn s) (H .units) (placeOf p) u o ws
-      l = subst (Whenever (Leaves order (instanceOf s) (sizesIn s) (H .units) (placeOf p))) gives (step-in-range order (instanceOf s) (sizesIn s) (sound-of s ok .n16) (views order s ok) (H .units) (i .core .units) p w)
+      l =
+          subst (Whenever (Leaves order (instanceOf s) (sizesIn s) (H .units) (placeOf p))) gives
+          (step-in-range order (instanceOf s) (sizesIn s) (sound-of s ok .n16) (views order s ok) (H .units) (i .stands .core .units) p (i .stands .sendable p (waits order s ok S H (A .units) (i .stands) st p c e)))
 
       abbrev next-machine : Network
       next-machine = record { units = M.put (A .units) (to (at .message)) (x .agent); pool = (at .before ++ at .behind) ++ x .sent; accepted = suc (A .accepted) }
@@ -184,20 +144,14 @@ module _ (order : ValueOrder) (s : List ℕ) (ok : Accepted s) (S : Shed) (H : H
       -- the machine asks the same of its room
       machine-is : (t : Bool) → leb (length ((b ++ a) ++ ps)) poolCells ≡ t → M.deliver (problemBy order (instanceOf s)) poolCells A c ≡ M.fits t next-machine A
       machine-is t q =
-          deliver-at (problemBy order (instanceOf s)) poolCells A c (machine-stop ∙ st) (at .before) (at .message) (at .behind) (at .whole) (at .many ∙ here-is .many) (x .agent) (x .sent) (x .steps)
+          deliver-at (problemBy order (instanceOf s)) poolCells A c (machine-stop ∙ st) (at .before) (at .message) (at .behind) (at .whole) (at .many ∙ stand .many) (x .agent) (x .sent) (x .steps)
           ∙ ap (λ y. M.fits y next-machine A) (ap (λ n. leb n poolCells) (sym (read-length order (instanceOf s) ((b ++ a) ++ ps) ((at .before ++ at .behind) ++ x .sent) read-on)) ∙ q)
 
       abbrev stored-after : Result
-      stored-after = record {
-        answer = record { refusal = 0; network = C.stepped (S .network) (p .message .receiver) u (length (packets (instanceOf s .n) (placeOf p) o)) (length ws) };
-        pool = poolAfter (S .network .used) c (packets (instanceOf s .n) (placeOf p) o) (S .pool);
-      }
+      stored-after = left-by order s ok S H (A .units) (i .stands) st p u (S .network .used - 1) ps ws (poolAfter (S .network .used) c ps (S .pool))
 
       bytes-are : (t : Bool) → leb (length ((b ++ a) ++ ps)) poolCells ≡ t → deliverOf order (S .network) s (S .pool) c ≡ cond t stored-after (C.refusedDelivery (S .network) (S .pool) 14)
-      unfolding instanceOf
-      bytes-are t q =
-          goes-on ∙ ap (C.onOut (S .network) (S .pool) c (unitsOf s) (p .message .receiver)) gives
-          ∙ ap (λ y. cond y stored-after (C.refusedDelivery (S .network) (S .pool) 14)) (ap (λ n. leb n poolCells) (used-after (H .waiting) (S .network .used) (S .pool) (i .stored) z c p e (packets (unitsOf s) (placeOf p) o)) ∙ q)
+      bytes-are t q = cell-leaves order s ok S H (A .units) (i .stands) st p c e u o ws gives t q
 
       -- what it sends doesn't fit
       too-many : leb (length ((b ++ a) ++ ps)) poolCells ≡ false → Delivers (R.refusedBy 14) (deliverOf order (S .network) s (S .pool) c)
@@ -214,20 +168,18 @@ module _ (order : ValueOrder) (s : List ℕ) (ok : Accepted s) (S : Shed) (H : H
         invariant : Invariant order s ok (shedOf stored-after) (R.historyAfter H p u ps ws ((b ++ a) ++ ps)) next-machine
         invariant =
             record {
-              core =
-                  core-steps order s ok (S .network .core) H (A .units) (i .core) p (at .message) (at .reads) (M.step (problemBy order (instanceOf s)) (A .units (to (at .message))) (at .message)) u o ws x l (kept .network .safe)
-                  (subst (λ y. y < 2 ^ 64 * 2 ^ 64) (sym count-accepted) (accepted-below order s ok next-machine kept)) ((b ++ a) ++ ps);
+              stands =
+                  stands-after order s ok S H (A .units) (i .stands) p (at .message) (at .reads) (M.step (problemBy order (instanceOf s)) (A .units (to (at .message))) (at .message)) u o ws x l (kept .network .safe) (b ++ a)
+                  (λ y j. i .stands .sendable y (subst (In y) (sym (stand .whole)) (in-more b p a j))) (S .network .used - 1 + length ps) (poolAfter (S .network .used) c ps (S .pool))
+                  (put-stored (H .waiting) (S .network .used) (S .pool) (i .stands .stored) z c p e ps (sized order s ok ps (l .sent)) (leb-true _ poolCells q)) (leb-true _ poolCells q);
               kept = kept;
               reads = read-on;
               accepted = count-accepted;
-              sendable = every-append _ (b ++ a) ps (λ y j. i .sendable y (subst (In y) (sym (here-is .whole)) (in-more b p a j))) (l .sent);
-              few = leb-true _ poolCells q;
-              stored = put-stored (H .waiting) (S .network .used) (S .pool) (i .stored) z c p e ps (sized order s ok ps (l .sent)) (leb-true _ poolCells q);
               balanced = λ t.
                   omega (
                     arith,
                     i .balanced t,
-                    ap (times t) (here-is .whole),
+                    ap (times t) (stand .whole),
                     times-append t b (p ∷ a),
                     times-more t p a,
                     times-append t (b ++ a) ps,
@@ -245,7 +197,7 @@ module _ (order : ValueOrder) (s : List ℕ) (ok : Accepted s) (S : Shed) (H : H
             (record {
               number = refl;
               honest = tt;
-              bytes = ap (λ y. map packetBytes (H .handed) ++ (y ∷ [])) (cell-bytes (H .waiting) (S .network .used) (S .pool) (i .stored) z c p e) ∙ sym (map-append packetBytes (H .handed) (p ∷ []));
+              bytes = ap (λ y. map packetBytes (H .handed) ++ (y ∷ [])) (cell-bytes (H .waiting) (S .network .used) (S .pool) (i .stands .stored) z c p e) ∙ sym (map-append packetBytes (H .handed) (p ∷ []));
               next = subst (Invariant order s ok (shedOf stored-after) (R.historyAfter H p u ps ws ((b ++ a) ++ ps))) (sym (machine-is true q)) invariant;
             })
 
@@ -259,7 +211,7 @@ module _ (order : ValueOrder) (s : List ℕ) (ok : Accepted s) (S : Shed) (H : H
       (λ st e.
       let le = none-at (H .waiting) c e in
       refuses 14 (inr (inr refl)) (deliver-none (problemBy order (instanceOf s)) poolCells A c (machine-stop ∙ st) (omega (arith, le, read-length order (instanceOf s) (H .waiting) (A .pool) (i .reads))))
-      (checked 14 (check-cell order (S .network) s (S .pool) c (i .stored .room) ok units-pass in-use (stop-is ∙ st) (omega (arith, le, i .stored .count)))))
+      (deliver-refused order (S .network) s (S .pool) c 14 (check-cell order (S .network) s (S .pool) c (running-passes order s ok S H (A .units) (i .stands) st) (omega (arith, le, i .stands .stored .count)))))
       (λ st p e.
       hand-cases order (instanceOf s) H (λ d. Delivers d (deliverOf order (S .network) s (S .pool) c)) p (cells .put (cells .without (H .waiting) c))
       (λ r gives. absurd (subst (Simulated order (instanceOf s) (H .units) (H .written) (A .units) (placeOf p) (M.step (problemBy order (instanceOf s)) (A .units (to (at st p e .message))) (at st p e .message))) gives (stepped st p e)))

@@ -1,7 +1,7 @@
 -- Making gives the invariant (`make-invariant`), for a table that it accepts and a pool that is long enough. Unit 1's assigning is never refused.
 -- Assumes nothing.
 use Prim.Native.Nat.{ℕ, zero, suc}
-use mathlib.Core.Path.{_≡_, refl, sym, ap, subst}
+use mathlib.Core.Path.{_≡_, refl, sym, subst}
 use mathlib.Core.List.{List, []}
 use native.Mathlib.Omega.{arith}
 use lib.ListN.{replicate}
@@ -11,26 +11,30 @@ use Rattle.costs.specs.Instance.{viewBy, instanceOf}
 use Rattle.costs.specs.Laws.Tried.{problemBy}
 use Rattle.costs.specs.Laws.Stream.{sound-of}
 use Rattle.costs.specs.Gather.{sizesIn}
+use Rattle.rules.specs.declared.Unit.{Unit as UnitState}
+use Rattle.rules.specs.declared.Sending.{Sending}
 use Rattle.rules.specs.State.{fresh}
 use Rattle.rules.specs.Step as U
-use Rattle.rules.specs.Step.{Decision, assign}
+use Rattle.rules.specs.Step.{Decision, Written, assign}
 use Rattle.rules.specs.Send.{packets}
 use Rattle.rules.specs.Calls.{unlessRefused}
 use Rattle.rules.specs.Laws.Assign.{Whenever}
 use Rattle.rules.specs.Laws.Units.{Leaves, start-in-range}
 use Rattle.protocol.specs.Machine as M
-use Rattle.protocol.specs.Machine.{Result}
+use Rattle.protocol.specs.Safety.Logs.{Safe}
 use Rattle.protocol.specs.Theorem.{Kept, make-kept}
-use Rattle.protocol.specs.Simulation.Units.{Simulated, start-simulated}
+use Rattle.protocol.specs.Simulation.Units.{Simulated, StepsTo, start-simulated}
 use Rattle.protocol.specs.Simulation.Table.{stream-free, laws, views}
 use Rattle.runs.specs.Run as R
+use Rattle.runs.specs.Run.{History}
 use Rattle.runs.specs.Calls as C
 use Rattle.runs.specs.Calls.{makingRefusal, makeOf}
-use Rattle.runs.specs.Demand3.{shedOf, Made, times}
+use Rattle.runs.specs.Demand3.{Shed, shedOf, shedMade, Made, times}
 use Rattle.runs.specs.Code.{makeable}
 use Rattle.runs.specs.Pool.Stored.{start-stored}
 use Rattle.runs.specs.Proof.Core.{core-starts}
-use Rattle.runs.specs.Proof.Invariant.{Invariant, sized}
+use Rattle.runs.specs.Proof.Stands.{Stands, sized}
+use Rattle.runs.specs.Proof.Invariant.{Invariant}
 
 -- none was handed over by making
 pub none-handed : (order : ValueOrder) (s : List ℕ) → R.begin order (instanceOf s) .handed ≡ []
@@ -53,29 +57,46 @@ module _ (order : ValueOrder) (s pool : List ℕ) (made : Made order s pool) whe
   pub accepted-table : Accepted s
   accepted-table = makeable s pool no-refusal .0
 
-  pub make-invariant : Invariant order s accepted-table (shedOf (makeOf order s pool)) (R.begin order (instanceOf s)) (M.make (problemBy order (instanceOf s)))
-  unfolding makeOf R.begin instanceOf times
-  make-invariant =
-      subst (λ r. Invariant order s accepted-table (shedOf (C.made (unitsOf s) pool (unlessRefused r (assign (viewBy order (instanceOf s) 0) fresh)))) (R.begunWith R.cells (instanceOf s) (assign (viewBy order (instanceOf s) 0) fresh)) (M.make (problemBy order (instanceOf s)))) (sym no-refusal)
-      (go (assign (viewBy order (instanceOf s) 0) fresh) (M.assign (problemBy order (instanceOf s)) 0 M.fresh) (start-simulated order (instanceOf s) (sound-of s accepted-table) (stream-free s))
-      (start-in-range order (instanceOf s) (sizesIn s) (sound-of s accepted-table .n16) (views order s accepted-table) (sound-of s accepted-table .n1))
-      (make-kept (problemBy order (instanceOf s)) (laws order s accepted-table) (sound-of s accepted-table .n1)))
+  -- the machine's making
+  abbrev pub first-step : M.Result
+  first-step = M.assign (problemBy order (instanceOf s)) 0 M.fresh
+
+  -- unit 1 gave u, o and ws, as the machine's does
+  pub record Begun (u : UnitState) (o : Sending) (ws : List Written) : Type 0 where
+    pub steps : StepsTo order (instanceOf s) (replicate 16 fresh) [] (λ k. M.fresh) 0 first-step u o ws
+    pub leaves : Leaves order (instanceOf s) (sizesIn s) (replicate 16 fresh) 0 u o ws
+
+  -- so what holds then holds as making leaves it
+  pub making-gives : (Q : Shed → History → Type 0) → ((u : UnitState) (o : Sending) (ws : List Written) → Begun u o ws → Q (shedOf (C.made (unitsOf s) pool (U.accepted u o ws))) (R.begunWith R.cells (instanceOf s) (U.accepted u o ws)))
+      → Q (shedMade order s pool) (R.begin order (instanceOf s))
+  unfolding makeOf R.begin
+  making-gives Q f =
+      subst (λ r. Q (shedOf (C.made (unitsOf s) pool (unlessRefused r (assign (viewBy order (instanceOf s) 0) fresh)))) (R.begunWith R.cells (instanceOf s) (assign (viewBy order (instanceOf s) 0) fresh))) (sym no-refusal)
+      (go (assign (viewBy order (instanceOf s) 0) fresh) (start-simulated order (instanceOf s) (sound-of s accepted-table) (stream-free s))
+      (start-in-range order (instanceOf s) (sizesIn s) (sound-of s accepted-table .n16) (views order s accepted-table) (sound-of s accepted-table .n1)))
     where
-      go : (o : Decision) (res : Result) → Simulated order (instanceOf s) (replicate 16 fresh) [] (λ k. M.fresh) 0 res o → Whenever (Leaves order (instanceOf s) (sizesIn s) (replicate 16 fresh) 0) o
-          → Kept (problemBy order (instanceOf s)) (M.made res) → Invariant order s accepted-table (shedOf (C.made (unitsOf s) pool o)) (R.begunWith R.cells (instanceOf s) o) (M.made res)
-      go (U.refused r) res x l k = absurd x
-      go (U.accepted u o ws) res x l k =
-          subst (Invariant order s accepted-table (shedOf (C.made (unitsOf s) pool (U.accepted u o ws))) (R.begunWith R.cells (instanceOf s) (U.accepted u o ws))) (ap M.made (sym (x .steps)))
-          (record {
-            core = core-starts order s accepted-table R.cells res u o ws x l (kept .network .safe);
-            kept = kept;
-            reads = x .reads;
-            accepted = refl;
-            sendable = l .sent;
-            few = omega (arith, l .few);
-            stored = start-stored (packets (unitsOf s) 0 o) pool (sized order s accepted-table (packets (unitsOf s) 0 o) (l .sent)) (omega (arith, l .few)) (makeable s pool no-refusal .1);
-            balanced = λ t. omega arith;
-          })
-        where
-          kept : Kept (problemBy order (instanceOf s)) (M.made (M.done (x .agent) (x .sent)))
-          kept = subst (λ r. Kept (problemBy order (instanceOf s)) (M.made r)) (x .steps) k
+      go : (o : Decision) → Simulated order (instanceOf s) (replicate 16 fresh) [] (λ k. M.fresh) 0 first-step o → Whenever (Leaves order (instanceOf s) (sizesIn s) (replicate 16 fresh) 0) o
+          → Q (shedOf (C.made (unitsOf s) pool o)) (R.begunWith R.cells (instanceOf s) o)
+      go (U.refused r) x l = absurd x
+      go (U.accepted u o ws) x l = f u o ws (record { steps = x; leaves = l })
+
+  module _ (u : UnitState) (o : Sending) (ws : List Written) (b : Begun u o ws) where
+    pub start-stands : Safe (problemBy order (instanceOf s)) (M.put (λ k. M.fresh) 0 (b .steps .agent))
+        → Stands order s accepted-table (shedOf (C.made (unitsOf s) pool (U.accepted u o ws))) (R.begunWith R.cells (instanceOf s) (U.accepted u o ws)) (M.put (λ k. M.fresh) 0 (b .steps .agent))
+    unfolding instanceOf
+    start-stands safe =
+        record {
+          core = core-starts order s accepted-table R.cells first-step u o ws (b .steps) (b .leaves) safe;
+          sendable = b .leaves .sent;
+          few = omega (arith, b .leaves .few);
+          stored = start-stored (packets (unitsOf s) 0 o) pool (sized order s accepted-table (packets (unitsOf s) 0 o) (b .leaves .sent)) (omega (arith, b .leaves .few)) (makeable s pool no-refusal .1);
+        }
+
+  pub make-invariant : Invariant order s accepted-table (shedMade order s pool) (R.begin order (instanceOf s)) (M.make (problemBy order (instanceOf s)))
+  unfolding times
+  make-invariant =
+      making-gives (λ S H. Invariant order s accepted-table S H (M.make (problemBy order (instanceOf s))))
+      (λ u o ws b.
+      let kept = subst (λ r. Kept (problemBy order (instanceOf s)) (M.made r)) (b .steps .steps) (make-kept (problemBy order (instanceOf s)) (laws order s accepted-table) (sound-of s accepted-table .n1)) in
+      subst (λ r. Invariant order s accepted-table (shedOf (C.made (unitsOf s) pool (U.accepted u o ws))) (R.begunWith R.cells (instanceOf s) (U.accepted u o ws)) (M.made r)) (sym (b .steps .steps))
+      (record { stands = start-stands u o ws b (kept .network .safe); kept = kept; reads = b .steps .reads; accepted = refl; balanced = λ t. omega arith }))

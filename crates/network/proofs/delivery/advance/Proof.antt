@@ -5,7 +5,7 @@ use Rattle.network.proofs.delivery.advance.Statement.{statement}
 use Rattle.network.proofs.delivery.advance.Tie as tie
 
 returns : tie.Need-returns
-returns c = rw (c .before .before .before .before .plus .ensures, c .before .before .plus2 .ensures, pred-sub (c .before .before .before .before .before .before .before .before .before .args .own))
+returns c = rw (c .before .before .before .plus .ensures, c .before .plus2 .ensures, pred-sub (c .before .before .before .before .before .before .before .before .args .own))
 
 pub advance-spec : {M : Type 1} → statement M
 advance-spec =
@@ -18,7 +18,6 @@ advance-spec =
     (λ c. search needs)
     (λ c κs. search needs)
     (λ c κs. search needs)
-    (λ c. search needs)
     (λ c. search needs)
     (λ c. search needs)
     returns)

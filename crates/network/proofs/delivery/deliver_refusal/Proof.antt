@@ -1,49 +1,18 @@
--- `network::delivery::deliver_refusal` meets its contract: each way out decides the tests before it. Assumes nothing.
+-- `network::delivery::deliver_refusal` meets its contract: what is asked of the network, then the cell. Assumes nothing.
 use mathlib.Core.Path.{sym, _∙_}
-use native.Mathlib.Omega.{arith}
-use borrow.Author.Tests.{not-true, not-false}
-use Rattle.table.specs.Stream.{Accepted}
-use Rattle.runs.specs.Code.{check-room, check-table, check-states, check-count, check-stopped, check-cell, check-none}
+use Rattle.runs.specs.Code.{check-network, check-cell, check-none}
 use borrow.Author.Needs.{needs}
 use Rattle.network.proofs.delivery.deliver_refusal.Statement.{statement}
 use Rattle.network.proofs.delivery.deliver_refusal.Tie as tie
 
 returns : tie.Need-returns
-returns c = λ pool e. let a = c .before .before .args in check-room (a .order) (a .net) (a .stream .now) pool (a .cell) (omega arith)
+returns c = λ pool e. let a = c .before .before .before .args in let r = c .before .network-refusal in check-network (a .order) (a .net) (a .stream .now) pool (a .cell) (r .result) (r .ensures pool e) (c .if1 .taken)
 
 returns-2 : tie.Need-returns-2
-returns-2 c = λ pool e. let a = c .before .before .before .before .args in check-table (a .order) (a .net) (a .stream .now) pool (a .cell) (omega arith) (c .before .stream-refusal .result) (c .before .stream-refusal .ensures) (c .if2 .taken)
-
-units-in-range-requires : tie.Need-units-in-range-requires
-unfolding Accepted
-units-in-range-requires c κs = sym (c .before .before .before .stream-refusal .ensures) ∙ c .before .before .if2 .left
+returns-2 c = λ pool e. let a = c .before .before .before .before .before .args in check-cell (a .order) (a .net) (a .stream .now) pool (a .cell) (sym (c .before .before .before .network-refusal .ensures pool e) ∙ c .before .before .if1 .left) (c .if2 .taken)
 
 returns-3 : tie.Need-returns-3
-returns-3 c = λ pool e. let a = c .before .before .before .before .before .before .before .before .args in check-states (a .order) (a .net) (a .stream .now) pool (a .cell) (omega arith) (sym (c .before .before .before .before .before .stream-refusal .ensures) ∙ c .before .before .before .before .if2 .left) (sym (c .before .units-in-range .ensures) ∙ not-true _ (c .if3 .taken))
-
-returns-4 : tie.Need-returns-4
-returns-4 c = λ pool e. let a = c .before .before .before .before .before .before .before .before .before .before .args in check-count (a .order) (a .net) (a .stream .now) pool (a .cell) (omega arith) (sym (c .before .before .before .before .before .before .before .stream-refusal .ensures) ∙ c .before .before .before .before .before .before .if2 .left) (sym (c .before .before .before .units-in-range .ensures) ∙ not-false _ (c .before .before .if3 .left)) (omega arith)
-
-returns-5 : tie.Need-returns-5
-returns-5 c = λ pool e. let a = c .before .before .before .before .before .before .before .before .before .before .before .before .args in check-stopped (a .order) (a .net) (a .stream .now) pool (a .cell) (omega arith) (sym (c .before .before .before .before .before .before .before .before .before .stream-refusal .ensures) ∙ c .before .before .before .before .before .before .before .before .if2 .left) (sym (c .before .before .before .before .before .units-in-range .ensures) ∙ not-false _ (c .before .before .before .before .if3 .left)) (omega arith) (c .if5 .taken)
-
-returns-6 : tie.Need-returns-6
-returns-6 c = λ pool e. let a = c .before .before .before .before .before .before .before .before .before .before .before .before .before .before .args in check-cell (a .order) (a .net) (a .stream .now) pool (a .cell) (omega arith) (sym (c .before .before .before .before .before .before .before .before .before .before .before .stream-refusal .ensures) ∙ c .before .before .before .before .before .before .before .before .before .before .if2 .left) (sym (c .before .before .before .before .before .before .before .units-in-range .ensures) ∙ not-false _ (c .before .before .before .before .before .before .if3 .left)) (omega arith) (c .before .before .if5 .left) (c .if6 .taken)
-
-returns-7 : tie.Need-returns-7
-returns-7 c = λ pool e. let a = c .before .before .before .before .before .before .before .before .before .before .before .before .before .before .args in check-none (a .order) (a .net) (a .stream .now) pool (a .cell) (omega arith) (sym (c .before .before .before .before .before .before .before .before .before .before .before .stream-refusal .ensures) ∙ c .before .before .before .before .before .before .before .before .before .before .if2 .left) (sym (c .before .before .before .before .before .before .before .units-in-range .ensures) ∙ not-false _ (c .before .before .before .before .before .before .if3 .left)) (omega arith) (c .before .before .if5 .left) (c .if6 .left)
+returns-3 c = λ pool e. let a = c .before .before .before .before .before .args in check-none (a .order) (a .net) (a .stream .now) pool (a .cell) (sym (c .before .before .before .network-refusal .ensures pool e) ∙ c .before .before .if1 .left) (c .if2 .left)
 
 pub deliver-refusal-spec : {M : Type 1} → statement M
-deliver-refusal-spec =
-    tie.close
-    (tie.spec
-    returns
-    (λ c κs. search needs)
-    returns-2
-    units-in-range-requires
-    returns-3
-    returns-4
-    (λ c. search needs)
-    returns-5
-    returns-6
-    returns-7)
+deliver-refusal-spec = tie.close (tie.spec (λ c κs. search needs) returns returns-2 returns-3)

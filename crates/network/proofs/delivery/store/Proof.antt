@@ -20,10 +20,10 @@ returns c =
 
 returns-2 : tie.Need-returns-2
 returns-2 c =
-    let a = c .before .before .before .before .before .before .before .before .before .before .before .before .before .args in
-    let t : leb (a .net .used - 1 + a .r .sent) 1024 ≡ true = le-leb _ 1024 (c .before .before .before .before .before .before .before .before .before .if1 .left) in (
+    let a = c .before .before .before .before .before .before .before .before .before .before .before .before .before .before .args in
+    let t : leb (a .net .used - 1 + a .r .sent) 1024 ≡ true = le-leb _ 1024 (c .before .before .before .before .before .before .before .before .before .before .if1 .left) in (
       rw t (ap (λ (n : Network). record { refusal = 0; network = n }) (c .advance .ensures)),
-      rw t (c .before .before .before .copy-in .ensures ∙ ap (λ (l : List ℕ). paste l (64 * (a .net .used - 1)) (a .out .now) (64 * a .r .sent)) (c .before .before .before .before .before .before .before .close .ensures)),
+      rw t (c .before .before .before .before .copy-in .ensures ∙ ap (λ (l : List ℕ). paste l (64 * (a .net .used - 1)) (a .out .now) (64 * a .r .sent)) (c .before .before .before .before .before .before .before .before .close .ensures)),
     )
 
 pub store-spec : {M : Type 1} → statement M
@@ -41,6 +41,7 @@ store-spec =
     (λ c. search needs)
     (λ c. search needs)
     (λ c κs. search needs)
+    (λ c. search needs)
     (λ c κs. search needs)
     (λ c. search needs)
     returns-2)
