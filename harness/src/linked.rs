@@ -236,6 +236,25 @@ extern "C" {
         room: usize,
         cell: u64,
     ) -> NetworkOutcome;
+    fn riksamoe_network_echo(
+        network: Network,
+        stream: *const u8,
+        length: usize,
+        pool: *mut u8,
+        room: usize,
+        bytes: *const u8,
+        count: usize,
+    ) -> NetworkOutcome;
+    fn riksamoe_network_echo_by(
+        order: u8,
+        network: Network,
+        stream: *const u8,
+        length: usize,
+        pool: *mut u8,
+        room: usize,
+        bytes: *const u8,
+        count: usize,
+    ) -> NetworkOutcome;
     fn riksamoe_network_settle(stream: *const u8, length: usize, pool: *mut u8, room: usize) -> NetworkOutcome;
     fn riksamoe_network_settle_by(
         order: u8,
@@ -375,6 +394,16 @@ pub fn network_deliver(order: Named, network: Network, stream: &[u8], pool: &mut
     match order {
         None => unsafe { riksamoe_network_deliver(network, stream, length, pool, room, cell) },
         Some(order) => unsafe { riksamoe_network_deliver_by(order, network, stream, length, pool, room, cell) },
+    }
+}
+
+pub fn network_echo(order: Named, network: Network, stream: &[u8], pool: &mut [u8], packet: &[u8]) -> NetworkOutcome {
+    let (stream, length) = (stream.as_ptr(), stream.len());
+    let (pool, room) = (pool.as_mut_ptr(), pool.len());
+    let (bytes, count) = (packet.as_ptr(), packet.len());
+    match order {
+        None => unsafe { riksamoe_network_echo(network, stream, length, pool, room, bytes, count) },
+        Some(order) => unsafe { riksamoe_network_echo_by(order, network, stream, length, pool, room, bytes, count) },
     }
 }
 
@@ -537,10 +566,14 @@ pub fn linked(input: Input) -> Outcome {
         Input::MakeNetwork { order, stream, mut pool } => {
             network_outcome(&network_make(order, &stream, &mut pool), pool)
         }
-        Input::Deliver { order, network, stream, event: Event::Cell(cell), mut pool } => {
-            network_outcome(&network_deliver(order, (&*network).into(), &stream, &mut pool, cell), pool)
+        Input::Deliver { order, network, stream, event, mut pool } => {
+            let network = (&*network).into();
+            let answer = match event {
+                Event::Cell(cell) => network_deliver(order, network, &stream, &mut pool, cell),
+                Event::Echo(packet) => network_echo(order, network, &stream, &mut pool, &packet),
+            };
+            network_outcome(&answer, pool)
         }
-        Input::Deliver { event: Event::Echo(_), .. } => unimplemented!("echoes are not linked yet"),
         Input::Settle { order, stream, mut pool } => network_outcome(&network_settle(order, &stream, &mut pool), pool),
         Input::Search { stream } => {
             let answer = search(&stream);

@@ -679,46 +679,46 @@ fn carry<C: Costs>(seat: &Seat<C>, done: &Done, network: &mut Network, pool: &mu
     send(seat, &network.units[seat.own], done, &mut pool[end..]);
 }
 
-/// All that a delivery or an echo is lent beside its packet, checked: refusals 13, 5, 6, 7, 5, and 12 of unit 1.
-fn open_shed<'a>(order: ValueOrder, network: &Network, stream: &'a [u8], pool: &[u8]) -> Result<Layout<'a>, Refusal> {
-    if pool.len() < POOL {
-        return Err(13);
-    }
-    let layout = open(stream)?;
-    let good = |own: usize| in_range(&layout.seat(order, own, layout.costs), &network.units[own]);
-    if !(0..layout.n).all(good) || network.count > CELLS as u64 {
+/// Refusals 5 of a network whose stream is open, and 12 of its unit 1.
+fn check_shed(order: ValueOrder, layout: &Layout, network: &Network) -> Result<(), Refusal> {
+    let in_range = |own: usize| in_range(&layout.seat(order, own, layout.costs), &network.units[own]);
+    if !(0..layout.n).all(in_range) || network.count > CELLS as u64 {
         return Err(5);
     }
     if network.units[0].has_stopped() {
         return Err(12);
     }
-    Ok(layout)
+    Ok(())
 }
 
-/// The unit that the packet names hears it. Refusals 8, 10, 9, 12, 11, and 14 where what it sends doesn't fit behind the cells that stay; then
-/// it is as it was.
-fn hear<'a>(
+/// The unit that a packet names hears it; it leaves its cell, if it has one. Refusals 8, 10, 9, 12, 11, 14; then all is as it was.
+fn hear(
     order: ValueOrder,
-    layout: &Layout<'a>,
+    layout: &Layout,
     network: &mut Network,
+    pool: &mut [u8],
     packet: &[u8],
-    stay: u64,
-) -> Result<(Seat<&'a [u8]>, Done), Refusal> {
+    cell: Option<usize>,
+) -> Result<(), Refusal> {
     let named = packet.get(2).copied().unwrap_or(0);
     let own = if named.wrapping_sub(1) < layout.n as u8 { named } else { 1 };
     check_packet(layout.n, &layout.sizes, own, packet)?;
     let seat = layout.seat(order, own as usize - 1, layout.costs);
-    let unit = &mut network.units[seat.own];
-    if unit.has_stopped() {
+    let before = network.units[seat.own];
+    if before.has_stopped() {
         return Err(12);
     }
-    let before = *unit;
-    let done = respond(&seat, unit, packet.try_into().unwrap())?;
-    if stay as usize + sent(&seat, &done) > CELLS {
-        *unit = before;
+    let done = respond(&seat, &mut network.units[seat.own], packet.try_into().unwrap())?;
+    let stay = network.count as usize - usize::from(cell.is_some());
+    if stay + sent(&seat, &done) > CELLS {
+        network.units[seat.own] = before;
         return Err(14);
     }
-    Ok((seat, done))
+    if let Some(cell) = cell {
+        take_out(network, pool, cell);
+    }
+    carry(&seat, &done, network, pool);
+    Ok(())
 }
 
 /// One delivery, all that is lent checked. Refusals as the reference's.
@@ -729,16 +729,17 @@ pub fn deliver_by(
     pool: &mut [u8],
     cell: u64,
 ) -> Result<(), Refusal> {
-    let layout = open_shed(order, network, stream, pool)?;
+    if pool.len() < POOL {
+        return Err(13);
+    }
+    let layout = open(stream)?;
+    check_shed(order, &layout, network)?;
     if cell >= network.count {
         return Err(15);
     }
-    let (cell, stay) = (cell as usize, network.count - 1);
+    let cell = cell as usize;
     let packet: [u8; SIZE] = pool[SIZE * cell..SIZE * (cell + 1)].try_into().unwrap();
-    let (seat, done) = hear(order, &layout, network, &packet, stay)?;
-    take_out(network, pool, cell);
-    carry(&seat, &done, network, pool);
-    Ok(())
+    hear(order, &layout, network, pool, &packet, Some(cell))
 }
 
 /// One echo, all that is lent checked. Refusals as the reference's.
@@ -749,11 +750,12 @@ pub fn echo_by(
     pool: &mut [u8],
     packet: &[u8],
 ) -> Result<(), Refusal> {
-    let layout = open_shed(order, network, stream, pool)?;
-    let stay = network.count;
-    let (seat, done) = hear(order, &layout, network, packet, stay)?;
-    carry(&seat, &done, network, pool);
-    Ok(())
+    if pool.len() < POOL {
+        return Err(13);
+    }
+    let layout = open(stream)?;
+    check_shed(order, &layout, network)?;
+    hear(order, &layout, network, pool, packet, None)
 }
 
 /// Making, then cell 0 until unit 1 has stopped, at most `most` times. Refusals 5, 6, 7, 13.

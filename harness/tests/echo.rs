@@ -1,4 +1,4 @@
-//! 02's job 2 on the reference implementation: an echo on T, what of it is as in a delivery and what is not, its refusals in their order, and the
+//! 02's job 2 on the reference implementation, at the end on the Rattle library, too, with the feature `linked`: an echo on T, what of it is as in a delivery and what is not, its refusals in their order, and the
 //! pool when it is full. Expected values are worked out by hand, as the comments say.
 
 use harness::calls::{self, Call, Event, Input, Outcome};
@@ -333,4 +333,10 @@ fn echoes_are_deliveries(call: &dyn Fn(Input) -> Outcome) {
 #[test]
 fn an_echo_is_a_delivery_of_one_cell_more() {
     echoes_are_deliveries(&calls::reference);
+}
+
+#[cfg(feature = "linked")]
+#[test]
+fn an_echo_of_the_library_is_a_delivery_of_one_cell_more() {
+    echoes_are_deliveries(&harness::linked::linked);
 }

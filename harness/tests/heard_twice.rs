@@ -29,6 +29,12 @@ fn runs_of_the_second_implementation() {
     try_both_orders(&[REFERENCE], 300);
 }
 
+#[cfg(feature = "linked")]
+#[test]
+fn runs_of_the_library() {
+    try_both_orders(&[REFERENCE, Library { name: "the library", call: &harness::linked::linked }], 300);
+}
+
 /// The run of tests/echo.rs that a full pool holds: box 1 knows the bound, and each estimate would have it go on. All that waits is refused by
 /// 14, a packet that was never accepted among it.
 #[test]

@@ -1,5 +1,5 @@
-//! How fast the Rattle library's calls are, beside a yardstick: the tuned run of `harness::tuned` for settle, deliver and step, the second
-//! implementation for the others. One table, a row for each call and sample; settle, deliver and step in both orders of values.
+//! How fast the Rattle library's calls are, beside a yardstick: the tuned run of `harness::tuned` for settle, deliver, echo and step, the
+//! second implementation for the others. One table, a row for each call and sample; settle, deliver, echo and step in both orders of values.
 //!
 //! speed [--counts FOLDER] [WORD]   times; WORD: the rows alone whose name has it. FOLDER: callgrind's dumps of a run with --once
 //! speed --once [WORD]              does the work of every row once, with a call of `riksamoe_mark` before and after, for callgrind to dump at
@@ -20,11 +20,13 @@ use std::cell::RefCell;
 use std::hint::black_box;
 use std::path::Path;
 
-/// What is measured. Each gives how many deliveries, steps or calls it made.
+/// What is measured. Each gives how many deliveries, echoes, steps or calls it made.
 trait Library {
     fn settle(&self, order: ValueOrder, stream: &[u8], pool: &mut [u8]) -> u64;
     /// Makes a network and delivers cell 0 at most this often.
     fn deliver(&self, order: ValueOrder, stream: &[u8], pool: &mut [u8], most: u64) -> u64;
+    /// Makes a network and echoes these packets, until one is refused.
+    fn echo(&self, order: ValueOrder, stream: &[u8], pool: &mut [u8], packets: &[Vec<u8>]) -> u64;
     fn step(&self, steps: &[Step], out: &mut [u8]) -> u64;
     /// The same, beside the second implementation.
     fn plain_step(&self, steps: &[Step], out: &mut [u8]) -> u64;
@@ -62,6 +64,12 @@ impl Library for Yardstick {
             delivered += 1;
         }
         delivered
+    }
+
+    fn echo(&self, order: ValueOrder, stream: &[u8], pool: &mut [u8], packets: &[Vec<u8>]) -> u64 {
+        let mut network = tuned::settle_by(order, stream, pool, 0).expect("an accepted table");
+        let mut accepted = |packet: &&Vec<u8>| tuned::echo_by(order, &mut network, stream, pool, packet).is_ok();
+        packets.iter().take_while(|packet| accepted(packet)).count() as u64
     }
 
     fn step(&self, steps: &[Step], out: &mut [u8]) -> u64 {
@@ -128,6 +136,17 @@ impl Library for Rattle {
             delivered += 1;
         }
         delivered
+    }
+
+    fn echo(&self, order: ValueOrder, stream: &[u8], pool: &mut [u8], packets: &[Vec<u8>]) -> u64 {
+        let named = Some(order.number());
+        let mut network = linked::network_make(named, stream, pool).network;
+        let mut accepted = |packet: &&Vec<u8>| {
+            let answer = linked::network_echo(named, network, stream, pool, packet);
+            network = answer.network;
+            answer.refusal == 0
+        };
+        packets.iter().take_while(|packet| accepted(packet)).count() as u64
     }
 
     fn step(&self, steps: &[Step], out: &mut [u8]) -> u64 {
@@ -248,6 +267,14 @@ fn deliver_row(order: ValueOrder, sample: &str, stream: Vec<u8>) -> Row {
     row(name("deliver", order, sample), "delivery", work)
 }
 
+/// The packets that the run of `deliver_row` delivers: the same steps, and nothing leaves the pool.
+fn echo_row(order: ValueOrder, sample: &str, stream: Vec<u8>) -> Row {
+    let packets: Vec<Vec<u8>> = steps(order, &stream, 500).into_iter().map(|step| step.packet).collect();
+    let pool = RefCell::new(vec![0; network::POOL]);
+    let work = move |library: &dyn Library| library.echo(order, black_box(&stream), &mut pool.borrow_mut(), &packets);
+    row(name("echo", order, sample), "echo", work)
+}
+
 fn step_row(order: ValueOrder, sample: &str, stream: Vec<u8>) -> Row {
     let (steps, out) = (steps(order, &stream, 500), RefCell::new([0; unit::OUT]));
     let work = move |library: &dyn Library| library.step(black_box(&steps), &mut *out.borrow_mut());
@@ -261,7 +288,7 @@ fn run_rows() -> Vec<Row> {
         let whole = sheds().into_iter().filter(|(_, _, whole)| *whole);
         rows.extend(whole.map(|(name, stream, _)| settle_row(order, &name, stream)));
     }
-    for make in [deliver_row, step_row] {
+    for make in [deliver_row, echo_row, step_row] {
         for order in ValueOrder::BOTH {
             rows.extend(sheds().into_iter().map(|(name, stream, _)| make(order, &name, stream)));
         }
@@ -387,8 +414,8 @@ fn once(rows: &[Row]) {
 }
 
 const HEAD: &str = "\
-Rattle library beside a yardstick: tuned, the harness's tuned run (settle checks its table once; deliver and step check all that they are lent), or second,
-its second implementation. A second: how many deliveries, steps or calls. Instructions: for each of them, by callgrind, - without it.
+Rattle library beside a yardstick: tuned, the harness's tuned run (settle checks its table once; the others check all that they are lent), or second,
+its second implementation. A second: how many deliveries, echoes, steps or calls. Instructions: for each of them, by callgrind, - without it.
 Values are tried in ascending order; cheapest first in the rows that say so.
 ";
 
