@@ -1,13 +1,14 @@
 -- PACKETS HEARD TWICE, 02, job 2, stated: "Let any message that was sent be delivered any number of times .. Still no beginning is written twice, box 1's report
 -- is the least total when it stops, and until then some message that was never delivered is waiting. The limit on deliveries holds only for runs without
 -- echoes." About `makeOf`, `deliverOf` and `echoOf`, which the contracts of `network::make_by`, `deliver_by` and `echo_by` cite. 02 asks this of runs "where no
--- delivery is refused"; here refused ones may stand in the list too, as they change nothing. Proved in Echo/Theorem.antt (`heard-twice`). Assumes nothing.
+-- delivery is refused"; here refused ones may stand in the list too, as they change nothing. Proved in Echo/Theorem.antt (`heard-twice`, and 02's own words from it: `as-asked`). Assumes nothing.
 --     Event                            a delivery that names a cell, or an echo that lends a packet
 --     hear, hearFrom, heard            over messages: an event, and a list of events
 --     resultOf, hearBytes, heardBytes  on bytes: the same
 --     takenIn                          the bytes that accepted events handed over
 --     Echoes                           every echo lends a packet that was sent before
 --     HeardTwice                       what holds of such a list
+--     AsAsked                          02's three claims, of one in which nothing is refused
 use Rattle.base.specs.Library.{ℕ, _*_, _%_, _^_, _<_, _≡_, _⊎_, Bool, true, false, cond, List, [], _∷_, _++_, map, eqb, length}
 use Rattle.base.specs.Members.{In}
 use Rattle.costs.specs.declared.ValueOrder.{ValueOrder}
@@ -106,3 +107,20 @@ pub record HeardTwice (order : ValueOrder) (stream pool : List ℕ) (events : Li
   -- no unit refuses a message that was sent, however late it is heard again
   pub honest : (e : Event) → SentBefore (heard order (instanceOf stream) events) e
       → (numberAt order stream (heardBytes order stream pool events) e ≡ 0) ⊎ HonestTo (over (heardBytes order stream pool events)) e (numberAt order stream (heardBytes order stream pool events) e)
+
+-- ---- 02's words alone: "in a run where no delivery is refused"
+
+abbrev pub NoneRefused : ValueOrder → List ℕ → Shed → List Event → Type 0
+NoneRefused order stream S [] = Unit {0}
+NoneRefused order stream S (e ∷ es) = (numberAt order stream S e ≡ 0) × NoneRefused order stream (shedOf (resultOf order stream S e)) es
+
+-- the bytes that its deliveries and echoes hand over
+unfoldable pub bytesOf : ValueOrder → List ℕ → Shed → List Event → List (List ℕ)
+bytesOf order stream S [] = []
+bytesOf order stream S (e ∷ es) = bytesAt S e ∷ bytesOf order stream (shedOf (resultOf order stream S e)) es
+
+pub record AsAsked (order : ValueOrder) (stream pool : List ℕ) (events : List Event) : Type 0 where
+  pub distinct : Distinct (heard order (instanceOf stream) events .written)
+  pub reported : over (heardBytes order stream pool events) ≡ true → Reported (instanceOf stream) (reportOf (heardBytes order stream pool events) .total) (reportOf (heardBytes order stream pool events) .assignment)
+  pub waits : over (heardBytes order stream pool events) ≡ false
+      → (cell : ℕ) × (cell < heardBytes order stream pool events .network .used) × (In (cellOf (heardBytes order stream pool events .pool) cell) (bytesOf order stream (shedMade order stream pool) events) → ⊥)

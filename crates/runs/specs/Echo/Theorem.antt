@@ -1,6 +1,6 @@
 -- PACKETS HEARD TWICE, proved (`heard-twice`): the statement is Echo.antt's. A list of events keeps the invariant (Proof), and each part is read off it and the
 -- machine's theorem. Of two such lists the reports agree (`two-heard`), and a list without echoes is a run of demand 3 (`deliveries-only`), whose limit holds.
--- In order: a packet is told by its bytes; a list of events, from any point; one list; two lists; no echoes.
+-- In order: a packet is told by its bytes; a list of events, from any point; one list; 02's words (`as-asked`); two lists; no echoes.
 -- Assumes nothing.
 use Prim.Native.Nat.{ℕ, suc, _<_}
 use mathlib.Core.Path.{_≡_, refl, sym, ap, _∙_, subst}
@@ -10,6 +10,7 @@ use mathlib.Core.List.{List, [], _∷_, _++_, map, append-nil, append-assoc}
 use mathlib.Core.Option.{some}
 use lib.Dec.{eqb}
 use lib.ListN.{getD}
+use borrow.Author.Tests.{eq-eqb}
 use Rattle.base.specs.Members.{In, here, there}
 use Rattle.base.specs.Members.Laws.{in-cases, not-in-nil}
 use Rattle.table.specs.Stream.{unitsOf, Accepted}
@@ -47,7 +48,7 @@ use Rattle.runs.specs.Run.{History, cells, onward, runFrom, run}
 use Rattle.runs.specs.Demand3.{Shed, shedOf, shedMade, shedAfter, deliverAll, runBytes, Made, over, reportOf}
 use Rattle.runs.specs.Proof.Stands.{numberOf, sized}
 use Rattle.runs.specs.Proof.Making.{none-handed, accepted-table}
-use Rattle.runs.specs.Echo.{Event, cell, hear, hearFrom, heard, resultOf, numberAt, hearBytes, heardBytes, bytesAt, takenIn, EchoesFrom, Echoes, HonestTo, HeardTwice}
+use Rattle.runs.specs.Echo.{Event, cell, hear, hearFrom, heard, resultOf, numberAt, hearBytes, heardBytes, bytesAt, takenIn, EchoesFrom, Echoes, HonestTo, HeardTwice, NoneRefused, bytesOf, AsAsked}
 use Rattle.runs.specs.Echo.Proof.{Traced, Hears, hears, make-traced}
 
 -- ---- a packet is told by its bytes
@@ -177,6 +178,24 @@ module _ (order : ValueOrder) (s pool : List ℕ) (made : Made order s pool) whe
       honest e h =
           subst (λ k. (k ≡ 0) ⊎ HonestTo (over S) e k) (sym (h .number))
           (subst (λ t. (numberOf (hear order (instanceOf s) H e) ≡ 0) ⊎ HonestTo t e (numberOf (hear order (instanceOf s) H e))) (sym (ap (λ (u : UnitState). u .stopped) unit-is)) (h .honest))
+
+-- ---- 02's words: where nothing is refused, what was handed over is what the events hand over
+
+all-taken : (order : ValueOrder) (s : List ℕ) (es : List Event) (S : Shed) → NoneRefused order s S es → takenIn order s S es ≡ bytesOf order s S es
+unfolding takenIn bytesOf
+all-taken order s [] S h = refl
+all-taken order s (e ∷ es) S h =
+    let r = all-taken order s es (shedOf (resultOf order s S e)) (h .1) in
+    ap (λ t. cond t (bytesAt S e ∷ []) [] ++ takenIn order s (shedOf (resultOf order s S e)) es) (eq-eqb (numberAt order s S e) 0 (h .0)) ∙ ap (λ l. bytesAt S e ∷ l) r
+
+pub as-asked : (order : ValueOrder) (s pool : List ℕ) → Made order s pool → (events : List Event) → Echoes order (instanceOf s) events → NoneRefused order s (shedMade order s pool) events → AsAsked order s pool events
+as-asked order s pool made events sb unrefused =
+    let h = heard-twice order s pool made events sb in
+    record {
+      distinct = h .distinct;
+      reported = h .reported;
+      waits = λ e. let w = h .waits e in (w .0, w .1, λ j. w .2 (subst (In (cellOf (heardBytes order s pool events .pool) (w .0))) (sym (all-taken order s events (shedMade order s pool) unrefused)) j));
+    }
 
 -- ---- two lists
 
