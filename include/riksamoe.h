@@ -30,7 +30,8 @@
  * RIKSAMOE_CHEAPEST_FIRST; the same calls without it take the cheapest first. A state doesn't keep the order: all calls of one run must name the
  * same. Two runs may differ in theirs: both come to the least total, though maybe to another assignment that has it.
  *
- * A stale packet is accepted, changes nothing and sends nothing. Packets may come in any order; none may be lost.
+ * A stale packet is accepted, changes nothing and sends nothing. Packets may come in any order; none may be lost. Where a newer one of the same
+ * kind waits from the same box, the older can go: see riksamoe_newer.
  *
  * Buffers. A pointer and the length after it are lent for the call alone: nothing keeps them. Lend no buffer twice in one call. Each
  * pointer must be valid for its length, one to a struct aligned for it; with length 0 a pointer may be any but null. `const` bytes are
@@ -41,7 +42,8 @@
  * `stopped` is neither 0 nor 1, is refused by 5, and stays as lent.
  *
  * Stack. Bytes that a call needs at most, its return address counted, beside what the three functions of the C library use; structs that
- * pass by value stand in the caller's own frame (a network has 2,280 bytes, an answer 2,288). scripts/stack reads these off the machine code.
+ * pass by value stand in the caller's own frame (a core has 2,272 bytes, a network 2,280, their answers 8 more). scripts/stack reads these off
+ * the machine code.
  *
  *   riksamoe_checksum                   256
  *   riksamoe_block_refusal              256
@@ -65,12 +67,21 @@
  *   riksamoe_unit_step_in_place_by    5,376
  *   riksamoe_network_make            13,312
  *   riksamoe_network_make_by         13,312
- *   riksamoe_network_deliver         36,352
- *   riksamoe_network_deliver_by      34,048
- *   riksamoe_network_echo            38,656
- *   riksamoe_network_echo_by         36,352
+ *   riksamoe_network_deliver         40,704
+ *   riksamoe_network_deliver_by      38,400
+ *   riksamoe_network_echo            40,704
+ *   riksamoe_network_echo_by         38,400
  *   riksamoe_network_settle         152,576
  *   riksamoe_network_settle_by      152,576
+ *   riksamoe_slots_make              14,336
+ *   riksamoe_slots_make_by           14,336
+ *   riksamoe_slots_deliver           47,616
+ *   riksamoe_slots_deliver_by        45,312
+ *   riksamoe_slots_settle            40,960
+ *   riksamoe_slots_settle_by         40,960
+ *   riksamoe_slot_of                    256
+ *   riksamoe_newer                    1,024
+ *   riksamoe_newer_refusal            1,024
  *   riksamoe_search                   7,424
  */
 #ifndef RIKSAMOE_H
@@ -83,7 +94,7 @@
 extern "C" {
 #endif
 
-#define RIKSAMOE_VERSION 7         /* raised where a call, a struct or a promise below changes */
+#define RIKSAMOE_VERSION 8         /* raised where a call, a struct or a promise below changes */
 
 #define RIKSAMOE_UNITS 16          /* places in every array: unit k's is k - 1 */
 #define RIKSAMOE_NONE 4294967295u  /* the bound *none*; the estimate of a unit that has no value left */
@@ -95,6 +106,8 @@ extern "C" {
 #define RIKSAMOE_FILE 62976        /* most bytes of a stored table */
 #define RIKSAMOE_FORM_TWO 200      /* the first byte of a stream of form two */
 #define RIKSAMOE_POOL 65536        /* bytes to lend for a network's pool: 1,024 cells of a packet */
+#define RIKSAMOE_SLOTS 300         /* cells that 16 units use over slots, and the number that stands for no cell */
+#define RIKSAMOE_SLOT_POOL 19200   /* bytes to lend for the pool of a network over slots */
 
 /* Orders in which a unit tries its values. Any other number is taken as RIKSAMOE_CHEAPEST_FIRST. */
 enum { RIKSAMOE_ASCENDING = 0 /* by number */, RIKSAMOE_CHEAPEST_FIRST = 1 /* by rising h, the lower number first on a tie, those without an h last */ };
@@ -219,6 +232,12 @@ typedef struct {
     riksamoe_network_t network; /* 8 */
 } riksamoe_answer_t;
 
+/* What the calls of a network over slots give. Refused: the core as lent, a making's all zero. Size 2,280. */
+typedef struct {
+    uint8_t refusal;      /* 0 */
+    riksamoe_core_t core; /* 8 */
+} riksamoe_slots_answer_t;
+
 /* ---- The stored table */
 
 /* The check of blocks and packets: the sum of (k + 1) times byte k, modulo 65,521. */
@@ -326,6 +345,55 @@ riksamoe_answer_t riksamoe_network_echo_by(uint8_t order, riksamoe_network_t net
 riksamoe_answer_t riksamoe_network_settle(const uint8_t *stream, size_t length, uint8_t *pool, size_t room);
 riksamoe_answer_t riksamoe_network_settle_by(uint8_t order, const uint8_t *stream, size_t length, uint8_t *pool, size_t room);
 
+/* ---- A network over slots: the pool has one cell for each kind, sender and receiver that the rules allow, in that order, and a packet that is sent
+ * takes the place of an older one in its cell. n units use the first (n - 1) * (n + 4) cells; a cell is empty where it is all zero. Lend
+ * RIKSAMOE_SLOT_POOL bytes as `pool`, and to every delivery the same stream and order, the core as the call before gave it and the pool as it
+ * left it.
+ *
+ * Proved of every run, although an overwritten packet never arrives: until unit 1 has stopped a packet waits, and every one that waits can be
+ * delivered; no run goes on for ever; in the end unit 1 has the total and, by the same order of values, the assignment that it has in a
+ * network as above; 14 never occurs. */
+
+/* All units, new; the cells that n units use are filled with zeros, then each packet that unit 1 sends goes to its cell: 5, 6, 7, 13. */
+riksamoe_slots_answer_t riksamoe_slots_make(const uint8_t *stream, size_t length, uint8_t *pool, size_t room);
+riksamoe_slots_answer_t riksamoe_slots_make_by(uint8_t order, const uint8_t *stream, size_t length, uint8_t *pool, size_t room);
+
+/* The packet at a cell goes to its unit; the cell is filled with zeros, then each packet that the unit sends goes to its cell: 13,
+ * 5 (n, sizes), 6, 7, 5 (states of units 1 to n), 12 (unit 1), 15 (the cell is empty, or not one of those that n units use), 8, 10, 9 (also a
+ * packet in a cell not its own), 12 (the receiver), 11. Units past n are not looked at and come back as lent. */
+riksamoe_slots_answer_t riksamoe_slots_deliver(riksamoe_core_t core, const uint8_t *stream, size_t length, uint8_t *pool, size_t room,
+                                               uint64_t cell);
+riksamoe_slots_answer_t riksamoe_slots_deliver_by(uint8_t order, riksamoe_core_t core, const uint8_t *stream, size_t length,
+                                                  uint8_t *pool, size_t room, uint64_t cell);
+
+/* Making, then the lowest cell that is not empty, again and again until unit 1 has stopped: 5, 6, 7, 13, as making; proved: it comes to that
+ * end, and no delivery on the way is refused. The answer is in unit 1. How long it takes is not bounded by anything short. */
+riksamoe_slots_answer_t riksamoe_slots_settle(const uint8_t *stream, size_t length, uint8_t *pool, size_t room);
+riksamoe_slots_answer_t riksamoe_slots_settle_by(uint8_t order, const uint8_t *stream, size_t length, uint8_t *pool, size_t room);
+
+/* The cell of a message of this kind, sender and receiver of n units, n from 1 to 16; RIKSAMOE_SLOTS where the rules allow no such message, or no
+ * kind has the number. */
+uint64_t riksamoe_slot_of(uint8_t n, uint8_t kind, uint8_t sender, uint8_t receiver);
+
+/* Which of two packets of the same sender, receiver and kind is the newer: 1 for the first, 2 for the second, 0 where they are refused. It is the
+ * one with the bigger stamp, of two solutions that with the lower bound; the first on a tie, as two stops are. The refusal, by a call of its
+ * own: 5; 8, 10, 9 of the first; 8, 10, 9 of the second; 9 where sender, receiver or kind differ. C can't be handed a part of a
+ * buffer, so it gets a number; slots::newer hands Rattle the part.
+ *
+ * With it a box that can't step at once needs no queue, only a slot for each sender and kind, 19 at most:
+ *
+ *   1. When a packet arrives, riksamoe_message_parse gives its kind, sender and receiver. Drop it where that refuses it, or it is for another box.
+ *   2. If its slot is empty, it goes in. If not, call riksamoe_newer with the slot first and the packet second: 2, it takes the place of the one
+ *      there; 1, drop it. It is not 0 here.
+ *   3. To step, copy a packet out of its slot, empty the slot, and go on as in 3 at the top.
+ *
+ * The older of the two is never needed. This is proved of a network over slots, as above, where a packet is overwritten when a fresh one is sent;
+ * the fresh one is never the older of the two. */
+uint8_t riksamoe_newer(uint8_t n, riksamoe_sizes_t sizes, const uint8_t *first, size_t first_length, const uint8_t *second,
+                       size_t second_length);
+uint8_t riksamoe_newer_refusal(uint8_t n, riksamoe_sizes_t sizes, const uint8_t *first, size_t first_length, const uint8_t *second,
+                               size_t second_length);
+
 /* ---- The bench: every assignment of a stream's table is tried, so lend it 1,048,576 of them at most, those with a forbidden pair counted
  * too: 5, 6, 7, 16. */
 riksamoe_found_t riksamoe_search(const uint8_t *stream, size_t length);
@@ -359,6 +427,7 @@ RIKSAMOE_HOLDS(sizeof(riksamoe_count_t) == 16 && sizeof(riksamoe_core_t) == 2272
 RIKSAMOE_HOLDS(offsetof(riksamoe_core_t, records) == 2240 && offsetof(riksamoe_core_t, deliveries) == 2256);
 RIKSAMOE_HOLDS(sizeof(riksamoe_network_t) == 2280 && offsetof(riksamoe_network_t, used) == 2272);
 RIKSAMOE_HOLDS(sizeof(riksamoe_answer_t) == 2288 && offsetof(riksamoe_answer_t, network) == 8);
+RIKSAMOE_HOLDS(sizeof(riksamoe_slots_answer_t) == 2280 && offsetof(riksamoe_slots_answer_t, core) == 8);
 RIKSAMOE_HOLDS(sizeof(riksamoe_found_t) == 24 && offsetof(riksamoe_found_t, total) == 4 && offsetof(riksamoe_found_t, values) == 8);
 
 #ifdef __cplusplus

@@ -3,6 +3,7 @@
 use crate::reference::message::{self, Message};
 use crate::reference::network::{self, Network};
 use crate::reference::order::ValueOrder::{self, Ascending, CheapestFirst};
+use crate::reference::slots::{self, Shed, Slot};
 use crate::reference::table::Form;
 use crate::reference::unit::{self, Unit};
 use crate::reference::{checksum, convert, costs, readings, search, table, Places};
@@ -27,6 +28,11 @@ pub enum Call {
     Deliver(ValueOrder),
     Echo(ValueOrder),
     Settle(ValueOrder),
+    SlotOf,
+    Newer,
+    MakeSlots(ValueOrder),
+    DeliverSlots(ValueOrder),
+    SettleSlots(ValueOrder),
     Search,
 }
 
@@ -36,9 +42,11 @@ const STEP: &[u8] = &[13, 5, 10, 6, 7, 8, 9, 12, 11];
 const MAKE_NETWORK: &[u8] = &[5, 6, 7, 13];
 const DELIVER: &[u8] = &[13, 5, 6, 7, 12, 15, 8, 10, 9, 11, 14];
 const ECHO: &[u8] = &[13, 5, 6, 7, 12, 8, 10, 9, 11, 14];
+/// 02's job 4: "14 is shown never to occur here".
+const DELIVER_SLOTS: &[u8] = &[13, 5, 6, 7, 12, 15, 8, 10, 9, 11];
 
 /// Each call, its name in the Rattle code with the order in which it tries values, and the refusals it can give.
-pub const CALLS: [(Call, &str, &[u8]); 25] = [
+pub const CALLS: [(Call, &str, &[u8]); 33] = [
     (Call::Sum, "checksum::sum", &[]),
     (Call::Block, "table::read_block", &[1, 4, 2, 3]),
     (Call::Read, "table::read", &[13, 1, 4, 2, 3, 5, 6, 7]),
@@ -63,6 +71,14 @@ pub const CALLS: [(Call, &str, &[u8]); 25] = [
     (Call::Echo(CheapestFirst), "network::echo, cheapest first", ECHO),
     (Call::Settle(Ascending), "network::settle, ascending", MAKE_NETWORK),
     (Call::Settle(CheapestFirst), "network::settle, cheapest first", MAKE_NETWORK),
+    (Call::SlotOf, "slots::slot_of", &[]),
+    (Call::Newer, "slots::newer", &[5, 8, 10, 9]),
+    (Call::MakeSlots(Ascending), "slots::make, ascending", MAKE_NETWORK),
+    (Call::MakeSlots(CheapestFirst), "slots::make, cheapest first", MAKE_NETWORK),
+    (Call::DeliverSlots(Ascending), "slots::deliver, ascending", DELIVER_SLOTS),
+    (Call::DeliverSlots(CheapestFirst), "slots::deliver, cheapest first", DELIVER_SLOTS),
+    (Call::SettleSlots(Ascending), "slots::settle, ascending", MAKE_NETWORK),
+    (Call::SettleSlots(CheapestFirst), "slots::settle, cheapest first", MAKE_NETWORK),
     (Call::Search, "search::exhaustive", &[5, 6, 7, 16]),
 ];
 
@@ -116,6 +132,11 @@ pub enum Input {
     MakeNetwork { order: Named, stream: Vec<u8>, pool: Vec<u8> },
     Deliver { order: Named, network: Box<Network>, stream: Vec<u8>, event: Event, pool: Vec<u8> },
     Settle { order: Named, stream: Vec<u8>, pool: Vec<u8> },
+    SlotOf { n: u8, slot: Slot },
+    Newer { n: u8, sizes: Places, first: Vec<u8>, second: Vec<u8> },
+    MakeSlots { order: Named, stream: Vec<u8>, pool: Vec<u8> },
+    DeliverSlots { order: Named, shed: Box<Shed>, stream: Vec<u8>, cell: u64, pool: Vec<u8> },
+    SettleSlots { order: Named, stream: Vec<u8>, pool: Vec<u8> },
     Search { stream: Vec<u8> },
 }
 
@@ -128,7 +149,10 @@ impl Input {
             | Input::Step { order, .. }
             | Input::MakeNetwork { order, .. }
             | Input::Deliver { order, .. }
-            | Input::Settle { order, .. } => Some(order),
+            | Input::Settle { order, .. }
+            | Input::MakeSlots { order, .. }
+            | Input::DeliverSlots { order, .. }
+            | Input::SettleSlots { order, .. } => Some(order),
             _ => None,
         }
     }
@@ -146,12 +170,20 @@ pub struct Outcome {
     pub lent: Vec<u8>,
 }
 
+/// Each in its two words, the low one first.
+fn words(counts: [u128; 2]) -> impl Iterator<Item = u64> {
+    counts.into_iter().flat_map(|count| [count as u64, (count >> 64) as u64])
+}
+
 pub fn network_outcome(refusal: u8, network: &Network, lent: Vec<u8>) -> Outcome {
-    let words = |count: u128| [count as u64, (count >> 64) as u64];
     let mut numbers = vec![network.count];
-    numbers.extend(words(network.records));
-    numbers.extend(words(network.deliveries));
+    numbers.extend(words([network.records, network.deliveries]));
     Outcome { refusal, numbers, units: network.units.to_vec(), lent, ..Outcome::default() }
+}
+
+pub fn shed_outcome(refusal: u8, shed: &Shed, lent: Vec<u8>) -> Outcome {
+    let numbers = words([shed.records, shed.deliveries]).collect();
+    Outcome { refusal, numbers, units: shed.units.to_vec(), lent, ..Outcome::default() }
 }
 
 /// The network of an outcome, to be lent again.
@@ -165,11 +197,29 @@ pub fn network_in(outcome: &Outcome) -> Network {
     }
 }
 
+/// The shed over the pool of 02's job 4 of an outcome, to be lent again.
+pub fn shed_in(outcome: &Outcome) -> Shed {
+    let word = |at: usize| u128::from(outcome.numbers[at]);
+    Shed {
+        units: std::array::from_fn(|k| outcome.units[k]),
+        records: word(0) | word(1) << 64,
+        deliveries: word(2) | word(3) << 64,
+    }
+}
+
 /// Of a network that was made or settled; refused it is all zero.
 pub fn made_outcome(made: Result<Network, u8>, lent: Vec<u8>) -> Outcome {
     match made {
         Ok(network) => network_outcome(0, &network, lent),
         Err(refusal) => network_outcome(refusal, &Network::default(), lent),
+    }
+}
+
+/// The same of a shed over the pool of 02's job 4.
+pub fn made_shed_outcome(made: Result<Shed, u8>, lent: Vec<u8>) -> Outcome {
+    match made {
+        Ok(shed) => shed_outcome(0, &shed, lent),
+        Err(refusal) => shed_outcome(refusal, &Shed::default(), lent),
     }
 }
 
@@ -243,6 +293,26 @@ pub fn reference(input: Input) -> Outcome {
         }
         Input::Settle { order, stream, mut pool } => {
             made_outcome(network::settle_by(order_of(order), &stream, &mut pool), pool)
+        }
+        Input::SlotOf { n, slot } => {
+            let cell = slots::cell_of(n, slot).unwrap_or(slots::CELLS) as u64;
+            Outcome { numbers: vec![cell], ..Outcome::default() }
+        }
+        Input::Newer { n, sizes, first, second } => match slots::newer(n, &sizes, &first, &second) {
+            Ok(newer) => {
+                Outcome { numbers: vec![if std::ptr::eq(newer, &first[..]) { 1 } else { 2 }], ..Outcome::default() }
+            }
+            Err(refusal) => Outcome { refusal, numbers: vec![0], ..Outcome::default() },
+        },
+        Input::MakeSlots { order, stream, mut pool } => {
+            made_shed_outcome(slots::make_by(order_of(order), &stream, &mut pool), pool)
+        }
+        Input::DeliverSlots { order, mut shed, stream, cell, mut pool } => {
+            let delivered = slots::deliver_by(order_of(order), &mut shed, &stream, &mut pool, cell);
+            shed_outcome(delivered.err().unwrap_or(0), &shed, pool)
+        }
+        Input::SettleSlots { order, stream, mut pool } => {
+            made_shed_outcome(slots::settle_by(order_of(order), &stream, &mut pool), pool)
         }
         Input::Search { stream } => match search::exhaustive(&stream) {
             Ok((total, values)) => Outcome { numbers: vec![total.into()], lent: values.to_vec(), ..Outcome::default() },

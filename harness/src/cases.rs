@@ -1,14 +1,15 @@
-//! What an input comes to beside the refusals: the cases of echoes (02's job 2), of forbidden pairs (its job 3), of unary costs (its job 7)
-//! and of the order of values (its job 9), each of which generated inputs must come to; then what they look at: an input's costs, and a unit's step.
+//! What an input comes to beside the refusals: the cases of echoes (02's job 2), of forbidden pairs (its job 3), of the pool of slots (its job
+//! 4), of unary costs (its job 7) and of the order of values (its job 9), each of which generated inputs must come to; then what they look at: an
+//! input's costs, and a unit's step.
 
-use crate::calls::{order_of, Call, Input, Outcome};
+use crate::calls::{order_of, Call, Input, Named, Outcome};
 use crate::reference::costs::{self, View};
 use crate::reference::message::{self, Message};
 use crate::reference::order::ValueOrder;
 use crate::reference::table::{self, Form};
 use crate::reference::unit::{self, Unit};
 use crate::reference::Places;
-use crate::{echo, forbidden, order, unary};
+use crate::{echo, forbidden, order, slots, unary};
 use std::fmt;
 
 #[derive(Clone, Copy, PartialEq, Eq)]
@@ -17,6 +18,7 @@ pub enum Case {
     Forbidden(forbidden::Case),
     Unary(unary::Case),
     Order(order::Case),
+    Slots(slots::Case),
 }
 
 impl fmt::Display for Case {
@@ -26,6 +28,7 @@ impl fmt::Display for Case {
             Case::Forbidden(case) => write!(out, "{case:?}"),
             Case::Unary(case) => write!(out, "{case:?}"),
             Case::Order(case) => write!(out, "{case:?}"),
+            Case::Slots(case) => write!(out, "{case:?}"),
         }
     }
 }
@@ -36,7 +39,8 @@ pub fn cases(call: Call) -> Vec<Case> {
     let unary = unary::cases(call).into_iter().map(Case::Unary);
     let order = order::cases(call).into_iter().map(Case::Order);
     let echo = echo::cases(call).into_iter().map(Case::Echo);
-    forbidden.chain(unary).chain(order).chain(echo).collect()
+    let slots = slots::cases(call).into_iter().map(Case::Slots);
+    forbidden.chain(unary).chain(order).chain(echo).chain(slots).collect()
 }
 
 /// The cases that an input came to; the outcome is the reference's.
@@ -47,6 +51,7 @@ pub fn reached(call: Call, input: &Input, outcome: &Outcome) -> Vec<Case> {
         Case::Forbidden(case) => forbidden::came_to(*case, input, outcome),
         Case::Unary(case) => unary::came_to(*case, input, outcome),
         Case::Order(case) => order::came_to(*case, input, outcome),
+        Case::Slots(case) => slots::came_to(*case, input, outcome),
     });
     cases
 }
@@ -62,6 +67,9 @@ pub fn stream_in(input: &Input) -> Option<Vec<u8>> {
         | Input::MakeNetwork { stream, .. }
         | Input::Deliver { stream, .. }
         | Input::Settle { stream, .. }
+        | Input::MakeSlots { stream, .. }
+        | Input::DeliverSlots { stream, .. }
+        | Input::SettleSlots { stream, .. }
         | Input::Search { stream } => Some(stream.clone()),
         _ => None,
     }
@@ -117,7 +125,7 @@ pub fn pairs_lent(input: &mut Input) -> &mut [u8] {
             let pairs = pairs_begin_in_lent(*own, sizes, costs);
             &mut costs[pairs..]
         }
-        Input::Deliver { stream, .. } => {
+        Input::Deliver { stream, .. } | Input::DeliverSlots { stream, .. } => {
             let (_, pairs) = begin_in_stream(stream);
             &mut stream[pairs..]
         }
@@ -157,7 +165,7 @@ pub fn checked(input: &Input) -> bool {
         Input::InRange { own, n, sizes, costs, .. } | Input::Step { own, n, sizes, costs, .. } => {
             unit::check_lent(&unit::fresh(), *own, *n, sizes, costs).is_ok()
         }
-        Input::Deliver { stream, .. } => table::check_stream(stream).is_ok(),
+        Input::Deliver { stream, .. } | Input::DeliverSlots { stream, .. } => table::check_stream(stream).is_ok(),
         _ => false,
     }
 }
@@ -169,19 +177,25 @@ pub fn units_in(input: &Input) -> Vec<(Seat, Unit)> {
         | Input::Step { order, unit, own, n, sizes, costs, .. } => {
             vec![(Seat::lent(order_of(*order), *own, *n, sizes, costs), *unit)]
         }
-        Input::Deliver { order, network, stream, .. } => {
-            let n = table::head(stream).0 as usize;
-            (1..=n).map(|own| (Seat::of_stream(order_of(*order), stream, own), network.units[own - 1])).collect()
-        }
+        Input::Deliver { order, network, stream, .. } => seated(*order, stream, &network.units),
+        Input::DeliverSlots { order, shed, stream, .. } => seated(*order, stream, &shed.units),
         _ => Vec::new(),
     }
+}
+
+/// The units of a shed.
+fn seated(order: Named, stream: &[u8], units: &[Unit; 16]) -> Vec<(Seat, Unit)> {
+    let n = table::head(stream).0 as usize;
+    (1..=n).map(|own| (Seat::of_stream(order_of(order), stream, own), units[own - 1])).collect()
 }
 
 /// Unit 1 that a call makes, alone or with its network. The call was accepted.
 pub fn first_made(input: &Input) -> Option<Seat> {
     match input {
         Input::Make { order, own: 1, n, sizes, costs, .. } => Some(Seat::lent(order_of(*order), 1, *n, sizes, costs)),
-        Input::MakeNetwork { order, stream, .. } => Some(Seat::of_stream(order_of(*order), stream, 1)),
+        Input::MakeNetwork { order, stream, .. } | Input::MakeSlots { order, stream, .. } => {
+            Some(Seat::of_stream(order_of(*order), stream, 1))
+        }
         _ => None,
     }
 }
@@ -216,6 +230,17 @@ impl Stepped {
                 let (before, after) = (network.units[seat.own - 1], outcome.units[seat.own - 1]);
                 let stay = event.stay(network.count);
                 let sent = if outcome.refusal == 0 { cells(stay, outcome.numbers[0]) } else { Vec::new() };
+                Some(Stepped { seat, before, after, kind, message, sent })
+            }
+            Input::DeliverSlots { order, shed, stream, cell, pool } => {
+                let (n, sizes) = table::head(stream);
+                let cells = || pool.chunks_exact(64).zip(outcome.lent.chunks_exact(64)).enumerate();
+                let (kind, message) = message::parse(n, &sizes, cells().nth(*cell as usize)?.1 .0).ok()?;
+                let seat = Seat::of_stream(order_of(*order), stream, message.receiver as usize);
+                let (before, after) = (shed.units[seat.own - 1], outcome.units[seat.own - 1]);
+                // a fresh message that is the older one's bytes can't be told
+                let fresh = cells().filter(|(at, (before, after))| *at as u64 != *cell && before != after);
+                let sent = fresh.flat_map(|(_, (_, after))| after.to_vec()).collect();
                 Some(Stepped { seat, before, after, kind, message, sent })
             }
             _ => None,

@@ -42,15 +42,15 @@ pub enum Case {
 pub fn cases(call: Call) -> &'static [Case] {
     use Case::*;
     match call {
-        Call::Sum | Call::Block | Call::Readings => &[],
+        Call::Sum | Call::Block | Call::Readings | Call::SlotOf | Call::Newer => &[],
         Call::Read | Call::Write | Call::ToFormTwo | Call::ToFormOne | Call::Lent => &[Pair, OneBelow],
         Call::Parse | Call::Encode => &[Estimate, OneBelow],
-        Call::Make(_) | Call::MakeNetwork(_) => &[Pair, OneBelow, NoH, Stops],
+        Call::Make(_) | Call::MakeNetwork(_) | Call::MakeSlots(_) => &[Pair, OneBelow, NoH, Stops],
         Call::InRange(_) => &[Pair, OneBelow, OwnValue, OwnNoH],
-        Call::Step(_) | Call::Deliver(_) | Call::Echo(_) => {
+        Call::Step(_) | Call::Deliver(_) | Call::Echo(_) | Call::DeliverSlots(_) => {
             &[Pair, OneBelow, OwnValue, OwnNoH, Assigns, Stale, NotOut, Reply, Filled, NoH]
         }
-        Call::Settle(_) => &[Pair, OneBelow, Stops, NoneLeft],
+        Call::Settle(_) | Call::SettleSlots(_) => &[Pair, OneBelow, Stops, NoneLeft],
         Call::Search => &[Pair, OneBelow, NoneLeft, Counted],
     }
 }
@@ -69,7 +69,7 @@ pub fn came_to(case: Case, input: &Input, outcome: &Outcome) -> bool {
         Case::Stops => accepted && outcome.units[0].has_stopped() && stopped_when_made(input, outcome),
         Case::NoneLeft => accepted && none_left(input, outcome),
         Case::Counted => outcome.refusal == 16 && has_forbidden(input),
-        Case::NoH if matches!(input, Input::Make { .. } | Input::MakeNetwork { .. }) => {
+        Case::NoH if matches!(input, Input::Make { .. } | Input::MakeNetwork { .. } | Input::MakeSlots { .. }) => {
             accepted && first_without_h(input, outcome)
         }
         Case::Assigns | Case::Stale | Case::NotOut | Case::Reply | Case::Filled | Case::NoH => {
@@ -137,22 +137,24 @@ fn first_without_h(input: &Input, outcome: &Outcome) -> bool {
 fn stopped_when_made(input: &Input, outcome: &Outcome) -> bool {
     match input {
         Input::Make { n, .. } => *n > 1,
-        Input::MakeNetwork { stream, .. } => table::head(stream).0 > 1,
-        Input::Settle { stream, .. } => table::head(stream).0 > 1 && deliveries(outcome) == 0,
+        Input::MakeNetwork { stream, .. } | Input::MakeSlots { stream, .. } => table::head(stream).0 > 1,
+        Input::Settle { stream, .. } | Input::SettleSlots { stream, .. } => {
+            table::head(stream).0 > 1 && deliveries(outcome) == 0
+        }
         _ => false,
     }
 }
 
 fn none_left(input: &Input, outcome: &Outcome) -> bool {
     match input {
-        Input::Settle { .. } => outcome.units[0].bound == NONE && deliveries(outcome) > 0,
+        Input::Settle { .. } | Input::SettleSlots { .. } => outcome.units[0].bound == NONE && deliveries(outcome) > 0,
         _ => outcome.numbers == [NONE.into()],
     }
 }
 
-/// Of a network, the low word.
+/// Of a network, over either pool, the low word: its two words come last.
 fn deliveries(outcome: &Outcome) -> u64 {
-    outcome.numbers[3]
+    outcome.numbers[outcome.numbers.len() - 2]
 }
 
 fn own_without_h(input: &Input) -> bool {

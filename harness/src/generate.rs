@@ -1,9 +1,10 @@
 //! Random inputs for every public call: right ones, ones with a single damage, and wrong lengths.
 //!
 //! In order: readings; messages; units; networks; `input`, which picks one for a call. Tables and their files are in `tables`, sheds on their
-//! way in `runs`.
+//! way in `runs`, all about the pool of slots in `slots`.
 
 mod runs;
+mod slots;
 mod tables;
 
 use crate::calls::{Call, Event, Input, Named};
@@ -13,13 +14,14 @@ use crate::reference::costs::{self, Cost, View};
 use crate::reference::message::{self, Message};
 use crate::reference::network::{self, Network};
 use crate::reference::order::ValueOrder;
+use crate::reference::slots::Slot;
 use crate::reference::table::Form;
 use crate::reference::unit::Unit;
 use crate::reference::{cost_limit, table, Places, MAX_ESTIMATE, MAX_TOTAL, NONE};
 use crate::sample;
 use runs::{ran, Ran};
 use tables::{damage_cost, damage_file, damage_stream, dearest, file, sizes, some_stream, stream};
-pub use tables::{searched, stream_of};
+pub use tables::{searched, searched_wide, stream_of};
 
 // Readings
 
@@ -106,6 +108,12 @@ fn ends(random: &mut Random, n: u8, kind: u8) -> (u8, u8) {
 pub fn message(random: &mut Random, n: u8, sizes: &Places) -> (u8, Message) {
     let kind = random.between(1, 5) as u8;
     let (sender, receiver) = ends(random, n, kind);
+    (kind, message_of(random, n, sizes, Slot { kind, sender, receiver }))
+}
+
+/// The same of this kind, from this sender to this receiver.
+fn message_of(random: &mut Random, n: u8, sizes: &Places, slot: Slot) -> Message {
+    let Slot { kind, sender, receiver } = slot;
     let mut m = Message { sender, receiver, ..Message::default() };
     match kind {
         message::CPA | message::REQUEST => {
@@ -125,7 +133,7 @@ pub fn message(random: &mut Random, n: u8, sizes: &Places) -> (u8, Message) {
         message::SOLUTION => (m.bound, m.best) = solution(random, n, sizes),
         _ => {}
     }
-    (kind, m)
+    m
 }
 
 /// One damage to a message before it is written; sometimes to its kind.
@@ -365,7 +373,7 @@ fn put(pool: &mut [u8], cell: u64, mut packet: Vec<u8>) {
 fn meet_another_run(
     random: &mut Random,
     order: ValueOrder,
-    network: &mut Network,
+    units: &mut [Unit; 16],
     packet: &mut Vec<u8>,
     stream: &[u8],
 ) {
@@ -375,10 +383,10 @@ fn meet_another_run(
     let view = View::new_by(order, own, n.into(), &sizes, &costs);
     let style = random.below(7);
     if style < 6 {
-        network.units[own - 1] = unit(random, &view);
+        units[own - 1] = unit(random, &view);
     }
     if style > 1 {
-        let (kind, m) = message_for(random, &view, &network.units[own - 1]);
+        let (kind, m) = message_for(random, &view, &units[own - 1]);
         *packet = message::encode(kind, &m).to_vec();
     }
 }
@@ -415,7 +423,7 @@ fn damage_network(random: &mut Random, order: ValueOrder, ran: &mut Ran, packet:
             packet.resize(64, 1);
             damage_packet(random, packet);
         }
-        10..=16 => meet_another_run(random, order, network, packet, stream),
+        10..=16 => meet_another_run(random, order, &mut network.units, packet, stream),
         _ => *packet = self::packet(random, n, &sizes),
     }
 }
@@ -735,6 +743,11 @@ pub fn input(random: &mut Random, call: Call) -> Input {
         Call::Deliver(order) => deliver(random, order, false),
         Call::Echo(order) => deliver(random, order, true),
         Call::Settle(order) => settle(random, order),
+        Call::SlotOf => slots::slot_of(random),
+        Call::Newer => slots::newer(random),
+        Call::MakeSlots(order) => slots::make(random, order),
+        Call::DeliverSlots(order) => slots::deliver(random, order),
+        Call::SettleSlots(order) => slots::settle(random, order),
         Call::Search => exhaustive(random),
     }
 }

@@ -1,4 +1,4 @@
-//! An independent implementation of documents 01 and 02 (jobs 1, 2, 3, 7 and 9) and the tools that compare the Rattle code with it.
+//! An independent implementation of documents 01 and 02 (jobs 1, 2, 3, 4, 7 and 9) and the tools that compare the Rattle code with it.
 //!
 //! `reference` is written from the documents alone. Nothing here is proved: it is the other opinion.
 
@@ -10,6 +10,7 @@ pub mod echo;
 pub mod forbidden;
 pub mod generate;
 pub mod heard_twice;
+pub mod last_packet;
 pub mod lent;
 #[cfg(feature = "linked")]
 pub mod linked;
@@ -19,6 +20,7 @@ pub mod plot;
 pub mod random;
 pub mod reference;
 pub mod sample;
+pub mod slots;
 pub mod trials;
 pub mod tuned;
 pub mod unary;

@@ -7,6 +7,7 @@
 use crate::calls::{lent_outcome, Event, Input, Named, Outcome};
 use crate::reference;
 use crate::reference::network::Network as PlainNetwork;
+use crate::reference::slots::{Shed, Slot};
 use crate::reference::table::Form;
 use crate::reference::Places;
 
@@ -102,6 +103,14 @@ pub struct Network {
 pub struct NetworkOutcome {
     pub refusal: u8,
     pub network: Network,
+}
+
+/// Of the pool of slots.
+#[repr(C)]
+#[derive(Clone, Copy)]
+pub struct SlotsAnswer {
+    pub refusal: u8,
+    pub core: Core,
 }
 
 #[repr(C)]
@@ -263,6 +272,45 @@ extern "C" {
         pool: *mut u8,
         room: usize,
     ) -> NetworkOutcome;
+    fn riksamoe_slot_of(n: u8, kind: u8, sender: u8, receiver: u8) -> u64;
+    fn riksamoe_newer(
+        n: u8,
+        sizes: Sizes,
+        first: *const u8,
+        first_length: usize,
+        second: *const u8,
+        second_length: usize,
+    ) -> u8;
+    fn riksamoe_newer_refusal(
+        n: u8,
+        sizes: Sizes,
+        first: *const u8,
+        first_length: usize,
+        second: *const u8,
+        second_length: usize,
+    ) -> u8;
+    fn riksamoe_slots_make(stream: *const u8, length: usize, pool: *mut u8, room: usize) -> SlotsAnswer;
+    fn riksamoe_slots_make_by(order: u8, stream: *const u8, length: usize, pool: *mut u8, room: usize) -> SlotsAnswer;
+    fn riksamoe_slots_deliver(
+        core: Core,
+        stream: *const u8,
+        length: usize,
+        pool: *mut u8,
+        room: usize,
+        cell: u64,
+    ) -> SlotsAnswer;
+    fn riksamoe_slots_deliver_by(
+        order: u8,
+        core: Core,
+        stream: *const u8,
+        length: usize,
+        pool: *mut u8,
+        room: usize,
+        cell: u64,
+    ) -> SlotsAnswer;
+    fn riksamoe_slots_settle(stream: *const u8, length: usize, pool: *mut u8, room: usize) -> SlotsAnswer;
+    fn riksamoe_slots_settle_by(order: u8, stream: *const u8, length: usize, pool: *mut u8, room: usize)
+        -> SlotsAnswer;
     fn riksamoe_search(stream: *const u8, length: usize) -> Found;
 }
 
@@ -416,6 +464,50 @@ pub fn network_settle(order: Named, stream: &[u8], pool: &mut [u8]) -> NetworkOu
     }
 }
 
+pub fn slot_of(n: u8, slot: Slot) -> u64 {
+    unsafe { riksamoe_slot_of(n, slot.kind, slot.sender, slot.receiver) }
+}
+
+/// Which one is handed back, and the refusal.
+pub fn newer(n: u8, sizes: &Places, first: &[u8], second: &[u8]) -> (u8, u8) {
+    let sizes = Sizes { places: *sizes };
+    let (first, first_length) = (first.as_ptr(), first.len());
+    let (second, second_length) = (second.as_ptr(), second.len());
+    unsafe {
+        (
+            riksamoe_newer(n, sizes, first, first_length, second, second_length),
+            riksamoe_newer_refusal(n, sizes, first, first_length, second, second_length),
+        )
+    }
+}
+
+pub fn slots_make(order: Named, stream: &[u8], pool: &mut [u8]) -> SlotsAnswer {
+    let (stream, length) = (stream.as_ptr(), stream.len());
+    let (pool, room) = (pool.as_mut_ptr(), pool.len());
+    match order {
+        None => unsafe { riksamoe_slots_make(stream, length, pool, room) },
+        Some(order) => unsafe { riksamoe_slots_make_by(order, stream, length, pool, room) },
+    }
+}
+
+pub fn slots_deliver(order: Named, core: Core, stream: &[u8], pool: &mut [u8], cell: u64) -> SlotsAnswer {
+    let (stream, length) = (stream.as_ptr(), stream.len());
+    let (pool, room) = (pool.as_mut_ptr(), pool.len());
+    match order {
+        None => unsafe { riksamoe_slots_deliver(core, stream, length, pool, room, cell) },
+        Some(order) => unsafe { riksamoe_slots_deliver_by(order, core, stream, length, pool, room, cell) },
+    }
+}
+
+pub fn slots_settle(order: Named, stream: &[u8], pool: &mut [u8]) -> SlotsAnswer {
+    let (stream, length) = (stream.as_ptr(), stream.len());
+    let (pool, room) = (pool.as_mut_ptr(), pool.len());
+    match order {
+        None => unsafe { riksamoe_slots_settle(stream, length, pool, room) },
+        Some(order) => unsafe { riksamoe_slots_settle_by(order, stream, length, pool, room) },
+    }
+}
+
 pub fn search(stream: &[u8]) -> Found {
     unsafe { riksamoe_search(stream.as_ptr(), stream.len()) }
 }
@@ -482,12 +574,20 @@ impl From<&Message> for reference::message::Message {
     }
 }
 
+fn core(units: &[reference::unit::Unit; 16], records: u128, deliveries: u128) -> Core {
+    let words = |count: u128| Count { low: count as u64, high: (count >> 64) as u64 };
+    Core { units: units.each_ref().map(Unit::from), records: words(records), deliveries: words(deliveries) }
+}
+
 impl From<&PlainNetwork> for Network {
     fn from(network: &PlainNetwork) -> Network {
-        let words = |count: u128| Count { low: count as u64, high: (count >> 64) as u64 };
-        let units = network.units.each_ref().map(Unit::from);
-        let core = Core { units, records: words(network.records), deliveries: words(network.deliveries) };
-        Network { core, used: network.count }
+        Network { core: core(&network.units, network.records, network.deliveries), used: network.count }
+    }
+}
+
+impl From<&Shed> for Core {
+    fn from(shed: &Shed) -> Core {
+        core(&shed.units, shed.records, shed.deliveries)
     }
 }
 
@@ -507,16 +607,25 @@ fn unit_outcome(answer: &UnitOutcome, lent: Vec<u8>) -> Outcome {
     }
 }
 
-fn network_outcome(answer: &NetworkOutcome, lent: Vec<u8>) -> Outcome {
-    let Network { core, used } = &answer.network;
+fn core_outcome(refusal: u8, core: &Core, lent: Vec<u8>) -> Outcome {
     let (records, deliveries) = (core.records, core.deliveries);
     Outcome {
-        refusal: answer.refusal,
-        numbers: vec![*used, records.low, records.high, deliveries.low, deliveries.high],
+        refusal,
+        numbers: vec![records.low, records.high, deliveries.low, deliveries.high],
         units: core.units.iter().map(|unit| unit.into()).collect(),
         lent,
         ..Outcome::default()
     }
+}
+
+fn network_outcome(answer: &NetworkOutcome, lent: Vec<u8>) -> Outcome {
+    let mut outcome = core_outcome(answer.refusal, &answer.network.core, lent);
+    outcome.numbers.insert(0, answer.network.used);
+    outcome
+}
+
+fn slots_outcome(answer: &SlotsAnswer, lent: Vec<u8>) -> Outcome {
+    core_outcome(answer.refusal, &answer.core, lent)
 }
 
 /// The linked library's outcome on an input.
@@ -575,6 +684,16 @@ pub fn linked(input: Input) -> Outcome {
             network_outcome(&answer, pool)
         }
         Input::Settle { order, stream, mut pool } => network_outcome(&network_settle(order, &stream, &mut pool), pool),
+        Input::SlotOf { n, slot } => Outcome { numbers: vec![slot_of(n, slot)], ..Outcome::default() },
+        Input::Newer { n, sizes, first, second } => {
+            let (which, refusal) = newer(n, &sizes, &first, &second);
+            Outcome { refusal, numbers: vec![which.into()], ..Outcome::default() }
+        }
+        Input::MakeSlots { order, stream, mut pool } => slots_outcome(&slots_make(order, &stream, &mut pool), pool),
+        Input::DeliverSlots { order, shed, stream, cell, mut pool } => {
+            slots_outcome(&slots_deliver(order, (&*shed).into(), &stream, &mut pool, cell), pool)
+        }
+        Input::SettleSlots { order, stream, mut pool } => slots_outcome(&slots_settle(order, &stream, &mut pool), pool),
         Input::Search { stream } => {
             let answer = search(&stream);
             let numbers = vec![answer.total.into()];
@@ -611,4 +730,5 @@ const _: () = {
     assert!(size_of::<UnitOutcome>() == 148 && size_of::<Report>() == 3);
     assert!(size_of::<Found>() == 24 && size_of::<Parsed>() == 64);
     assert!(size_of::<Network>() == 2_280 && offset_of!(Core, records) == 2_240 && offset_of!(Network, used) == 2_272);
+    assert!(size_of::<SlotsAnswer>() == 2_280 && offset_of!(SlotsAnswer, core) == 8);
 };

@@ -36,12 +36,12 @@ pub enum Case {
 pub fn cases(call: Call) -> Vec<Case> {
     use Case::*;
     let (order, both, cheapest): (_, &[Case], &[Case]) = match call {
-        Call::Make(order) | Call::MakeNetwork(order) => (order, &[OrderDecides], &[Tie]),
+        Call::Make(order) | Call::MakeNetwork(order) | Call::MakeSlots(order) => (order, &[OrderDecides], &[Tie]),
         Call::InRange(order) => (order, &[OnlyHere, NotHere], &[TieInRange, NoHInRange]),
-        Call::Step(order) | Call::Deliver(order) | Call::Echo(order) => {
+        Call::Step(order) | Call::Deliver(order) | Call::Echo(order) | Call::DeliverSlots(order) => {
             (order, &[OrderDecides, OnlyHere, NotHere], &[Tie, TieInRange, NoHLast, NoHInRange])
         }
-        Call::Settle(order) => (order, &[OrderDecides, OtherBest], &[]),
+        Call::Settle(order) | Call::SettleSlots(order) => (order, &[OrderDecides, OtherBest], &[]),
         _ => return Vec::new(),
     };
     match order {

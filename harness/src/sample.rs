@@ -1,7 +1,8 @@
 //! Tables for tests and programs, those of vectors/ among them, and what the two programs print of them.
 
 use crate::reference::order::ValueOrder;
-use crate::reference::{network, search, table, NONE};
+use crate::reference::unit::Unit;
+use crate::reference::{network, search, slots, table, NONE};
 use std::path::{Path, PathBuf};
 
 /// A stream in form one out of its sizes and its pair costs in the stream's order.
@@ -59,16 +60,26 @@ pub fn shed(file: &[u8]) -> String {
 }
 
 pub fn shed_by(order: ValueOrder, file: &[u8]) -> String {
-    let mut pool = vec![0; network::POOL];
-    let settled = read(file).and_then(|stream| {
-        let network = network::settle_by(order, &stream, &mut pool)?;
-        Ok((table::head(&stream).0 as usize, network))
-    });
+    listing(file, |stream| {
+        let network = network::settle_by(order, stream, &mut vec![0; network::POOL])?;
+        Ok((network.units[0], network.records, network.deliveries))
+    })
+}
+
+/// The listing of the run over 02's pool of job 4 that delivers the lowest cell in use each time.
+pub fn slots_by(order: ValueOrder, file: &[u8]) -> String {
+    listing(file, |stream| {
+        let shed = slots::settle_by(order, stream, &mut vec![0; slots::POOL])?;
+        Ok((shed.units[0], shed.records, shed.deliveries))
+    })
+}
+
+/// Unit 1, records and deliveries are what a table's stream settles to.
+fn listing(file: &[u8], settle: impl Fn(&[u8]) -> Result<(Unit, u128, u128), u8>) -> String {
+    let settled = read(file).and_then(|stream| Ok((table::head(&stream).0 as usize, settle(&stream)?)));
     match settled {
-        Ok((n, network)) => {
-            let unit = &network.units[0];
-            let counts = format!("records {} deliveries {}\n", network.records, network.deliveries);
-            report(unit.bound, &unit.best[..n]) + &counts
+        Ok((n, (unit, records, deliveries))) => {
+            report(unit.bound, &unit.best[..n]) + &format!("records {records} deliveries {deliveries}\n")
         }
         Err(refusal) => format!("refused {refusal}\n"),
     }

@@ -67,10 +67,22 @@ pub fn try_tables<C: Copy>(
     seed: u64,
     try_table: impl Fn(&Problem, &mut Random, &mut Report<C>) -> Result<(), String>,
 ) -> Report<C> {
+    try_tables_of(generate::searched, cases, order, tables, seed, try_table)
+}
+
+/// The same, of streams that are made so.
+pub fn try_tables_of<C: Copy>(
+    stream: impl Fn(&mut Random) -> Vec<u8>,
+    cases: &[C],
+    order: ValueOrder,
+    tables: u64,
+    seed: u64,
+    try_table: impl Fn(&Problem, &mut Random, &mut Report<C>) -> Result<(), String>,
+) -> Report<C> {
     let mut random = Random::new(seed);
     let mut report = Report::new(cases);
     while report.tables < tables && report.fault.is_none() {
-        let stream = generate::searched(&mut random);
+        let stream = stream(&mut random);
         let tried = try_table(&Problem::new(order, &stream), &mut random, &mut report);
         report.fault = tried.err().map(|fault| format!("{fault}; the stream is {stream:?}"));
         report.tables += 1;

@@ -1,9 +1,12 @@
-//! Settle, deliver, echo and step for the clock: the yardstick of scripts/speed, held equal to the reference by tests/tuned.rs.
+//! Settle, deliver, echo and step for the clock: the yardstick of scripts/speed, held equal to the reference by tests/tuned.rs. Settle and deliver
+//! over the pool of slots are in `slots`.
 //!
 //! What it does that the reference doesn't: a run checks its table once, knows each unit's h and the order of its values, and trusts the packets that it wrote itself;
 //! nothing allocates once the run has begun; costs are read where they stand, a row of own values at a time; packets are read and written in
 //! place, those of one step from one template with one remainder each; a unit changes where it is.
 //! A delivery, an echo or a step alone is lent everything, so it checks everything, as the calls for C do.
+
+pub mod slots;
 
 use crate::calls::{self, order_of, Event, Input, Outcome};
 use crate::reference::message::{CPA, ESTIMATE, REQUEST, SIZE, SOLUTION, STOP};
@@ -559,6 +562,10 @@ impl Template {
         Template { weight: weigh(&bytes), bytes }
     }
 
+    fn kind(&self) -> u8 {
+        self.bytes[0]
+    }
+
     fn put(&self, receiver: usize, out: &mut [u8]) {
         let out: &mut [u8; SIZE] = out.try_into().unwrap();
         *out = self.bytes;
@@ -581,11 +588,15 @@ fn put_solution(p: &mut [u8; SIZE], unit: &Unit) {
 
 /// The packets of a step, one after another. `out` has room for them.
 fn send<C>(seat: &Seat<C>, unit: &Unit, done: &Done, out: &mut [u8]) {
-    let own = seat.own;
     let mut cells = out.chunks_exact_mut(SIZE);
-    let mut put = |template: &Template, receiver: usize| {
+    send_with(seat, unit, done, |template, receiver| {
         template.put(receiver, cells.next().expect("room for what is sent"));
-    };
+    });
+}
+
+/// The same, each put where the caller has it.
+fn send_with<C>(seat: &Seat<C>, unit: &Unit, done: &Done, mut put: impl FnMut(&Template, usize)) {
+    let own = seat.own;
     match &done.plan {
         Plan::Nothing => {}
         Plan::Forward => {
@@ -679,10 +690,20 @@ fn carry<C: Costs>(seat: &Seat<C>, done: &Done, network: &mut Network, pool: &mu
     send(seat, &network.units[seat.own], done, &mut pool[end..]);
 }
 
+/// Refusal 5 of the units of a stream that is open.
+fn check_states(order: ValueOrder, layout: &Layout, units: &[Unit; 16]) -> Result<(), Refusal> {
+    let in_range = |own: usize| in_range(&layout.seat(order, own, layout.costs), &units[own]);
+    if (0..layout.n).all(in_range) {
+        Ok(())
+    } else {
+        Err(5)
+    }
+}
+
 /// Refusals 5 of a network whose stream is open, and 12 of its unit 1.
 fn check_shed(order: ValueOrder, layout: &Layout, network: &Network) -> Result<(), Refusal> {
-    let in_range = |own: usize| in_range(&layout.seat(order, own, layout.costs), &network.units[own]);
-    if !(0..layout.n).all(in_range) || network.count > CELLS as u64 {
+    check_states(order, layout, &network.units)?;
+    if network.count > CELLS as u64 {
         return Err(5);
     }
     if network.units[0].has_stopped() {
@@ -758,18 +779,28 @@ pub fn echo_by(
     hear(order, &layout, network, pool, packet, None)
 }
 
+/// The costs of a stream that is open, as numbers.
+fn wide_costs(layout: &Layout) -> Vec<u16> {
+    layout.costs.chunks_exact(2).map(|c| u16::from_le_bytes([c[0], c[1]])).collect()
+}
+
+/// The units of a run, which knows the h of each and the order of its values.
+fn seats<'a>(order: ValueOrder, layout: &Layout, costs: &'a [u16]) -> [Seat<&'a [u16]>; 16] {
+    std::array::from_fn(|own| {
+        let seat = layout.seat(order, own, costs);
+        seat.known();
+        seat
+    })
+}
+
 /// Making, then cell 0 until unit 1 has stopped, at most `most` times. Refusals 5, 6, 7, 13.
 pub fn settle_by(order: ValueOrder, stream: &[u8], pool: &mut [u8], most: u128) -> Result<Network, Refusal> {
     let layout = open(stream)?;
     if pool.len() < POOL {
         return Err(13);
     }
-    let costs: Vec<u16> = layout.costs.chunks_exact(2).map(|c| u16::from_le_bytes([c[0], c[1]])).collect();
-    let seats: [Seat<&[u16]>; 16] = std::array::from_fn(|own| {
-        let seat = layout.seat(order, own, costs.as_slice());
-        seat.known();
-        seat
-    });
+    let costs = wide_costs(&layout);
+    let seats = seats(order, &layout, &costs);
     let mut network = Network { units: [unit::fresh(); 16], ..Network::default() };
     let done = assign(&seats[0], &mut network.units[0], 0);
     network.records = done.records.into();
@@ -788,7 +819,7 @@ pub fn settle_by(order: ValueOrder, stream: &[u8], pool: &mut [u8], most: u128) 
     Ok(network)
 }
 
-/// The outcome of settle, deliver, echo and step here, of the other calls the reference's.
+/// The outcome of settle and deliver over either pool, of echo and of step here, of the other calls the reference's.
 pub fn tuned(input: Input) -> Outcome {
     match input {
         Input::Step { order, mut unit, own, n, sizes, costs, packet, mut out } => {
@@ -807,6 +838,13 @@ pub fn tuned(input: Input) -> Outcome {
         }
         Input::Settle { order, stream, mut pool } => {
             calls::made_outcome(settle_by(order_of(order), &stream, &mut pool, u128::MAX), pool)
+        }
+        Input::DeliverSlots { order, mut shed, stream, cell, mut pool } => {
+            let delivered = slots::deliver_by(order_of(order), &mut shed, &stream, &mut pool, cell);
+            calls::shed_outcome(delivered.err().unwrap_or(0), &shed, pool)
+        }
+        Input::SettleSlots { order, stream, mut pool } => {
+            calls::made_shed_outcome(slots::settle_by(order_of(order), &stream, &mut pool, u128::MAX), pool)
         }
         other => calls::reference(other),
     }

@@ -92,7 +92,7 @@ pub fn cases(call: Call) -> Vec<Case> {
     let limits = [LargeBound, BoundAbove, DearPrefix, EstimateAbove];
     let state = [&limits[..], &[OneFewer, FirstOverpays, UnaryUnpaid, FirstPays]].concat();
     match call {
-        Call::Sum | Call::Block => Vec::new(),
+        Call::Sum | Call::Block | Call::SlotOf | Call::Newer => Vec::new(),
         Call::Read => [&table[..], &file, &[Largest, RoomForFormOne]].concat(),
         Call::Write => [&table[..], &[Largest]].concat(),
         Call::ToFormTwo => [&table[..], &file, &converter, &[Largest]].concat(),
@@ -106,9 +106,13 @@ pub fn cases(call: Call) -> Vec<Case> {
         Call::Make(_) => [&costs[..], &[UnaryMissing, Largest, FirstPays, LeastOfOne]].concat(),
         Call::InRange(_) => [&costs[..], &state, &[UnaryMissing]].concat(),
         Call::Step(_) => [&costs[..], &state, &[UnaryMissing, Decides, DearReply]].concat(),
-        Call::MakeNetwork(_) => [&table[..], &[Largest, FirstPays, LeastOfOne]].concat(),
-        Call::Deliver(_) | Call::Echo(_) => [&table[..], &state, &[Decides, DearReply]].concat(),
-        Call::Settle(_) | Call::Search => [&table[..], &[Decides, LeastOfOne, LargestTotal]].concat(),
+        Call::MakeNetwork(_) | Call::MakeSlots(_) => [&table[..], &[Largest, FirstPays, LeastOfOne]].concat(),
+        Call::Deliver(_) | Call::Echo(_) | Call::DeliverSlots(_) => {
+            [&table[..], &state, &[Decides, DearReply]].concat()
+        }
+        Call::Settle(_) | Call::SettleSlots(_) | Call::Search => {
+            [&table[..], &[Decides, LeastOfOne, LargestTotal]].concat()
+        }
     }
 }
 
@@ -194,7 +198,7 @@ fn largest(input: &Input, outcome: &Outcome) -> bool {
         Input::Write { .. } | Input::Convert { .. } => outcome.numbers == [table::MAX_FILE as u64],
         Input::Lent { .. } => outcome.numbers[0] == 7_712,
         Input::Make { costs, .. } => costs.len() == 7_712,
-        Input::MakeNetwork { stream, .. } => stream.len() == table::MAX_STREAM,
+        Input::MakeNetwork { stream, .. } | Input::MakeSlots { stream, .. } => stream.len() == table::MAX_STREAM,
         _ => false,
     }
 }
@@ -276,6 +280,7 @@ fn refused_for_one(
         match &mut again {
             Input::InRange { unit: lent, .. } | Input::Step { unit: lent, .. } => *lent = unit,
             Input::Deliver { network, .. } => network.units[seat.own - 1] = unit,
+            Input::DeliverSlots { shed, .. } => shed.units[seat.own - 1] = unit,
             _ => {}
         }
         changed && calls::reference(again).refusal != 5
@@ -374,7 +379,7 @@ fn unary_missing(input: &Input) -> bool {
 fn first_pays(input: &Input, outcome: &Outcome) -> bool {
     let pays = |unit: &Unit| unit.values[0] != 0 && unit.cost > 0;
     match input {
-        Input::Make { own: 1, .. } | Input::MakeNetwork { .. } => pays(&outcome.units[0]),
+        Input::Make { own: 1, .. } | Input::MakeNetwork { .. } | Input::MakeSlots { .. } => pays(&outcome.units[0]),
         _ => units_in(input).iter().any(|(seat, unit)| seat.own == 1 && pays(unit)),
     }
 }
@@ -413,7 +418,7 @@ impl Stepped {
 /// Of a table, that the assignment reported would not be a least one without unary costs.
 fn decides(input: &Input, outcome: &Outcome) -> bool {
     let (stream, best) = match input {
-        Input::Settle { stream, .. } => (stream, outcome.units[0].best.to_vec()),
+        Input::Settle { stream, .. } | Input::SettleSlots { stream, .. } => (stream, outcome.units[0].best.to_vec()),
         Input::Search { stream } => (stream, outcome.lent.clone()),
         _ => return Stepped::new(input, outcome).is_some_and(|step| step.unary_decides()),
     };

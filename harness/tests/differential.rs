@@ -7,6 +7,7 @@ use harness::order::Change;
 use harness::reference::costs::View;
 use harness::reference::network::Network;
 use harness::reference::order::ValueOrder::{self, Ascending, CheapestFirst};
+use harness::reference::slots::{self, Slot};
 use harness::reference::table::{self, Form};
 use harness::reference::unit::{self, Unit};
 use harness::reference::{convert, message, NONE};
@@ -297,8 +298,10 @@ fn another_default_is_found() {
             }
             calls::reference(input)
         };
-        let calls = [Call::Make, Call::InRange, Call::Step, Call::MakeNetwork, Call::Deliver, Call::Echo, Call::Settle];
-        for call in calls.map(|call| call(CheapestFirst)) {
+        let units = [Call::Make, Call::InRange, Call::Step];
+        let networks = [Call::MakeNetwork, Call::Deliver, Call::Echo, Call::Settle];
+        let slots = [Call::MakeSlots, Call::DeliverSlots, Call::SettleSlots];
+        for call in units.iter().chain(&networks).chain(&slots).map(|call| call(CheapestFirst)) {
             assert!(compare(call, 4_000, 1, fault).difference.is_some(), "{call:?}, {number:?}");
         }
     }
@@ -419,4 +422,303 @@ fn a_stop_looked_at_at_another_time_is_found() {
         }
     };
     assert!(fault_in_echo(|_, _| {}, after_reading).contains("refusal 12 by the reference, 8 by the other"));
+}
+
+// The pool of slots
+
+/// What the other gives on a call of the pool of slots, in both orders if it has one: the difference in the first.
+fn fault_in_slots(call: fn(ValueOrder) -> Call, other: impl Fn(Input) -> Outcome) -> String {
+    let found = ValueOrder::BOTH.map(|order| compare(call(order), 4_000, 1, &other).difference);
+    let [ascending, _] = found.map(|difference| describe(&difference.expect("a difference")));
+    ascending
+}
+
+/// A delivery by the reference, with its outcome changed; it is handed the shed, the stream, the cell and the pool.
+fn fault_in_delivery(after: impl Fn(&Lent, &mut Outcome)) -> String {
+    fault_in_slots(Call::DeliverSlots, |input| {
+        let Input::DeliverSlots { order, shed, stream, cell, pool } = input.clone() else { unreachable!("a delivery") };
+        let mut outcome = calls::reference(input);
+        let n = table::from_count(&stream).first().copied().unwrap_or(0);
+        after(&Lent { order, shed: *shed, stream, n, cell, pool }, &mut outcome);
+        outcome
+    })
+}
+
+struct Lent {
+    order: calls::Named,
+    shed: slots::Shed,
+    stream: Vec<u8>,
+    n: u8,
+    cell: u64,
+    pool: Vec<u8>,
+}
+
+impl Lent {
+    fn refused(&self, refusal: u8) -> Outcome {
+        calls::shed_outcome(refusal, &self.shed, self.pool.clone())
+    }
+
+    fn deliver(&self, pool: Vec<u8>, cell: u64) -> Outcome {
+        let (order, stream) = (self.order, self.stream.clone());
+        calls::reference(Input::DeliverSlots { order, shed: Box::new(self.shed.clone()), stream, cell, pool })
+    }
+
+    /// The bytes at the cell, and the cell that is their own.
+    fn packet(&self) -> Option<(&[u8], Option<usize>)> {
+        let packet = self.pool.chunks_exact(64).nth(usize::try_from(self.cell).ok()?)?;
+        let (kind, message) = message::fields(packet);
+        Some((packet, slots::cell_of(self.n, Slot::of(kind, &message))))
+    }
+
+    fn is_stray(&self) -> bool {
+        self.packet().is_some_and(|(_, own)| own != Some(self.cell as usize))
+    }
+
+    /// The same delivery with the message in its own cell.
+    fn in_its_own(&self) -> Option<Outcome> {
+        let (packet, own) = self.packet()?;
+        let mut pool = self.pool.clone();
+        pool.chunks_exact_mut(64).nth(own?)?.copy_from_slice(packet);
+        Some(self.deliver(pool, own? as u64))
+    }
+}
+
+/// A stray accepted; 9 of it before the message's own 8 and 10; and after its unit's 12 and 11.
+#[test]
+fn a_stray_at_another_time_is_found() {
+    let accepted = |lent: &Lent, outcome: &mut Outcome| {
+        if let (9, true, Some(delivered)) = (outcome.refusal, lent.is_stray(), lent.in_its_own()) {
+            *outcome = delivered;
+        }
+    };
+    assert!(fault_in_delivery(accepted).contains("refusal 9 by the reference, 0 by the other"));
+    let before_reading = |lent: &Lent, outcome: &mut Outcome| {
+        if matches!(outcome.refusal, 8 | 10) && lent.is_stray() {
+            outcome.refusal = 9;
+        }
+    };
+    assert!(fault_in_delivery(before_reading).contains("9 by the other"));
+    for later in [12, 11] {
+        let after_the_step = |lent: &Lent, outcome: &mut Outcome| {
+            let in_its_own = if lent.is_stray() { lent.in_its_own() } else { None };
+            if outcome.refusal == 9 && in_its_own.is_some_and(|delivered| delivered.refusal == later) {
+                outcome.refusal = later;
+            }
+        };
+        let found = fault_in_delivery(after_the_step);
+        assert!(found.contains(&format!("refusal 9 by the reference, {later} by the other")), "{found}");
+    }
+}
+
+/// An empty cell is read, or one past those used; a cell with zeros in front is taken as empty.
+#[test]
+fn another_empty_cell_is_found() {
+    let reads = |lent: &Lent, outcome: &mut Outcome| {
+        if outcome.refusal == 15 && lent.cell < slots::CELLS as u64 {
+            outcome.refusal = 8;
+        }
+    };
+    assert!(fault_in_delivery(reads).contains("refusal 15 by the reference, 8 by the other"));
+    let past = |lent: &Lent, outcome: &mut Outcome| {
+        let holds = lent.packet().is_some_and(|(packet, _)| packet.iter().any(|byte| *byte != 0));
+        if outcome.refusal == 15 && holds {
+            outcome.refusal = 9;
+        }
+    };
+    assert!(fault_in_delivery(past).contains("refusal 15 by the reference, 9 by the other"));
+    let kind_alone = |lent: &Lent, outcome: &mut Outcome| {
+        let empty = lent.packet().is_some_and(|(packet, _)| packet[0] == 0);
+        if matches!(outcome.refusal, 8..=10) && empty {
+            *outcome = lent.refused(15);
+        }
+    };
+    assert!(fault_in_delivery(kind_alone).contains("15 by the other"));
+}
+
+/// A cell's number cut to 32 bits, or to what its bytes can be.
+#[test]
+fn a_cell_cut_to_fewer_bits_is_found() {
+    for bits in [32, 58] {
+        let cut = |lent: &Lent, outcome: &mut Outcome| {
+            if outcome.refusal == 15 {
+                *outcome = lent.deliver(lent.pool.clone(), lent.cell & ((1 << bits) - 1));
+            }
+        };
+        assert!(fault_in_delivery(cut).contains("refusal 15 by the reference"), "{bits} bits");
+    }
+}
+
+/// The packet stays; a cell in use is left; the newer of the two is kept; the pool is full, which is 14.
+#[test]
+fn another_pool_is_found() {
+    let cell = |pool: &[u8], cell: usize| pool[64 * cell..64 * (cell + 1)].to_vec();
+    let stays = |lent: &Lent, outcome: &mut Outcome| {
+        if outcome.refusal == 0 {
+            let at = lent.cell as usize;
+            outcome.lent[64 * at..64 * (at + 1)].copy_from_slice(&cell(&lent.pool, at));
+        }
+    };
+    assert!(fault_in_delivery(stays).contains("byte "));
+    let keeps = |lent: &Lent, outcome: &mut Outcome, keeps: &dyn Fn(&[u8], &[u8]) -> bool| {
+        let used = if outcome.refusal == 0 { slots::slots(lent.n).len() } else { 0 };
+        for at in (0..used).filter(|at| *at as u64 != lent.cell && slots::waits(&lent.pool, *at)) {
+            let (older, fresh) = (cell(&lent.pool, at), cell(&outcome.lent, at));
+            if keeps(&older, &fresh) {
+                outcome.lent[64 * at..64 * (at + 1)].copy_from_slice(&older);
+            }
+        }
+    };
+    assert!(fault_in_delivery(|lent, outcome| keeps(lent, outcome, &|_, _| true)).contains("byte "));
+    let newer = |lent: &Lent, outcome: &mut Outcome| {
+        let (n, sizes) = (lent.n, harness::reference::costs::sizes_in(&lent.stream));
+        keeps(lent, outcome, &|older, fresh| slots::newer(n, &sizes, fresh, older).is_ok_and(|newer| newer == older));
+    };
+    assert!(fault_in_delivery(newer).contains("byte "));
+    let full = |lent: &Lent, outcome: &mut Outcome| {
+        let used = if outcome.refusal == 0 { slots::slots(lent.n).len() } else { return };
+        if slots::waiting(lent.n, &lent.pool).len() == used {
+            *outcome = lent.refused(14);
+        }
+    };
+    assert!(fault_in_delivery(full).contains("refusal 0 by the reference, 14 by the other"));
+}
+
+/// A making by the reference, with its outcome changed; it is handed the stream and the pool.
+fn fault_in_making(change: impl Fn(&[u8], &[u8], &mut Outcome)) -> String {
+    fault_in_slots(Call::MakeSlots, |input| {
+        let Input::MakeSlots { stream, pool, .. } = input.clone() else { unreachable!("a making") };
+        let mut outcome = calls::reference(input);
+        change(&stream, &pool, &mut outcome);
+        outcome
+    })
+}
+
+/// How many cells the units of a stream use, all where it is no table.
+fn used_slots(stream: &[u8]) -> usize {
+    table::check_stream(stream).map_or(slots::CELLS, |()| slots::slots(table::head(stream).0).len())
+}
+
+/// Making that zeroes nothing, or the whole pool; and one that asks for the room of the cells used alone.
+#[test]
+fn another_making_of_slots_is_found() {
+    let zeroes_nothing = |stream: &[u8], pool: &[u8], outcome: &mut Outcome| {
+        let used = if outcome.refusal == 0 { used_slots(stream) } else { 0 };
+        for at in 0..used {
+            if !slots::waits(&outcome.lent, at) {
+                outcome.lent[64 * at..64 * (at + 1)].copy_from_slice(&pool[64 * at..64 * (at + 1)]);
+            }
+        }
+    };
+    assert!(fault_in_making(zeroes_nothing).contains("byte "));
+    let zeroes_all = |stream: &[u8], _: &[u8], outcome: &mut Outcome| {
+        if outcome.refusal == 0 {
+            outcome.lent[64 * used_slots(stream)..].fill(0);
+        }
+    };
+    assert!(fault_in_making(zeroes_all).contains("byte "));
+    let less_room = |stream: &[u8], pool: &[u8], outcome: &mut Outcome| {
+        if outcome.refusal == 13 && pool.len() >= 64 * used_slots(stream) {
+            outcome.refusal = 0;
+        }
+    };
+    assert!(fault_in_making(less_room).contains("refusal 13 by the reference, 0 by the other"));
+}
+
+/// CPAs down before CPAs back; cells by receiver before sender.
+#[test]
+fn other_cells_are_found() {
+    let numbered = |key: &dyn Fn(&Slot) -> (u8, u8, u8)| {
+        let other = |input: Input| {
+            let Input::SlotOf { n, slot } = input else { unreachable!("a slot") };
+            let mut all = slots::slots(n);
+            all.sort_by_key(key);
+            let cell = all.iter().position(|other| *other == slot).unwrap_or(slots::CELLS);
+            Outcome { numbers: vec![cell as u64], ..Outcome::default() }
+        };
+        describe(&compare(Call::SlotOf, 4_000, 1, other).difference.expect("a difference"))
+    };
+    assert!(numbered(&|slot| (slot.kind, slot.receiver, slot.sender)).contains("numbers"));
+    assert!(numbered(&|slot| (slot.sender, slot.receiver, slot.kind)).contains("numbers"));
+    let down_first = |slot: &Slot| {
+        let back = slot.kind == message::CPA && slot.sender > slot.receiver;
+        (2 * slot.kind + u8::from(back), slot.sender, slot.receiver)
+    };
+    assert!(numbered(&down_first).contains("numbers"));
+}
+
+/// Two messages that read, each with its kind.
+type Two = [(u8, message::Message); 2];
+
+/// The newer of two by the reference, changed where both read.
+fn fault_in_newer(change: impl Fn(&Two, &mut Outcome)) -> String {
+    let other = |input: Input| {
+        let Input::Newer { n, sizes, first, second } = input.clone() else { unreachable!("two messages") };
+        let mut outcome = calls::reference(input);
+        if let [Ok(one), Ok(two)] = [first, second].map(|packet| message::parse(n, &sizes, &packet)) {
+            change(&[one, two], &mut outcome);
+        }
+        outcome
+    };
+    describe(&compare(Call::Newer, 20_000, 1, other).difference.expect("a difference"))
+}
+
+/// Of two alike, another one is handed back where the second is newer so.
+fn newer_where(second: impl Fn(u8, &message::Message, &message::Message) -> bool) -> String {
+    fault_in_newer(|[(kind, one), (_, two)], outcome| {
+        if outcome.refusal == 0 {
+            outcome.numbers = vec![if second(*kind, one, two) { 2 } else { 1 }];
+        }
+    })
+}
+
+/// The second on a tie; stops or CPAs by their bound, too; news by the higher bound; stamps without their last place.
+#[test]
+fn another_newer_one_is_found() {
+    let news = |kind: u8| kind == message::SOLUTION;
+    let on_a_tie =
+        newer_where(|kind, one, two| if news(kind) { two.bound <= one.bound } else { two.stamp >= one.stamp });
+    assert!(on_a_tie.contains("numbers"));
+    let by_bound =
+        newer_where(|_, one, two| two.stamp > one.stamp || (two.stamp == one.stamp && two.bound < one.bound));
+    assert!(by_bound.contains("numbers"));
+    let higher = newer_where(|kind, one, two| if news(kind) { two.bound > one.bound } else { two.stamp > one.stamp });
+    assert!(higher.contains("numbers"));
+    let shorter = newer_where(|kind, one, two| {
+        let filled = one.stamp.iter().filter(|byte| **byte != 0).count().max(1);
+        if news(kind) {
+            two.bound < one.bound
+        } else {
+            two.stamp[..filled - 1] > one.stamp[..filled - 1]
+        }
+    });
+    assert!(shorter.contains("numbers"));
+}
+
+/// One of kind, sender and receiver is not looked at.
+#[test]
+fn two_of_another_slot_are_found() {
+    for passed_over in 0..3 {
+        let found = fault_in_newer(|[(kind, one), (other, two)], outcome| {
+            let same = [kind == other, one.sender == two.sender, one.receiver == two.receiver];
+            if outcome.refusal == 9 && (0..3).all(|k| k == passed_over || same[k]) {
+                (outcome.refusal, outcome.numbers) = (0, vec![1]);
+            }
+        });
+        assert!(found.contains("refusal 9 by the reference, 0 by the other"));
+    }
+}
+
+/// The second is looked at first.
+#[test]
+fn the_second_checked_first_is_found() {
+    let turned = |input: Input| {
+        let Input::Newer { n, sizes, second, .. } = input.clone() else { unreachable!("two messages") };
+        let mut outcome = calls::reference(input);
+        if let Err(refusal) = message::parse(n, &sizes, &second) {
+            outcome.refusal = refusal;
+        }
+        outcome
+    };
+    let found = compare(Call::Newer, 20_000, 1, turned).difference.expect("a difference");
+    assert!(describe(&found).contains("refusal "));
 }

@@ -1,5 +1,5 @@
 //! The generators reach every refusal of every call in either order of values, and every case of forbidden pairs, of unary costs, of the
-//! order and of echoes, and a refused call of the reference leaves what it was lent.
+//! order, of echoes and of the pool of slots, and a refused call of the reference leaves what it was lent.
 
 use harness::calls::{self, Call, Input, CALLS};
 use harness::cases;
@@ -9,6 +9,7 @@ use harness::random::Random;
 fn inputs(call: Call) -> u32 {
     match call {
         Call::Deliver(_) | Call::Echo(_) | Call::Settle(_) | Call::Search => 4_000,
+        Call::DeliverSlots(_) | Call::SettleSlots(_) => 4_000,
         _ => 20_000,
     }
 }
@@ -26,7 +27,10 @@ fn lent(input: &Input) -> Option<Vec<u8>> {
         | Input::Step { out: lent, .. }
         | Input::MakeNetwork { pool: lent, .. }
         | Input::Deliver { pool: lent, .. }
-        | Input::Settle { pool: lent, .. } => Some(lent.clone()),
+        | Input::Settle { pool: lent, .. }
+        | Input::MakeSlots { pool: lent, .. }
+        | Input::DeliverSlots { pool: lent, .. }
+        | Input::SettleSlots { pool: lent, .. } => Some(lent.clone()),
         _ => None,
     }
 }
@@ -52,6 +56,7 @@ fn every_refusal_is_reached_and_leaves_what_was_lent() {
             match before {
                 Input::Step { unit, .. } => assert_eq!(outcome.units, [unit], "{name}"),
                 Input::Deliver { network, .. } => assert_eq!(calls::network_in(&outcome), *network, "{name}"),
+                Input::DeliverSlots { shed, .. } => assert_eq!(calls::shed_in(&outcome), *shed, "{name}"),
                 _ => {}
             }
         }

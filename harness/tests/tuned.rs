@@ -2,8 +2,8 @@
 
 use harness::calls::Call;
 use harness::differential::{compare, describe};
-use harness::reference::network;
 use harness::reference::order::ValueOrder;
+use harness::reference::{network, slots};
 use harness::{sample, tuned};
 use std::fs;
 
@@ -19,6 +19,10 @@ fn every_sample_run() {
             let settled = tuned::settle_by(order, &stream, &mut again, u128::MAX);
             assert!(settled == expected, "{}, {order:?}", path.display());
             assert!(again == pool, "the pool of {}, {order:?}", path.display());
+            let expected = slots::settle_by(order, &stream, &mut pool);
+            let settled = tuned::slots::settle_by(order, &stream, &mut again, u128::MAX);
+            assert!(settled == expected, "over slots, {}, {order:?}", path.display());
+            assert!(again == pool, "the pool of slots of {}, {order:?}", path.display());
         }
         compared += 1;
     }
@@ -31,7 +35,8 @@ fn any_call() {
     for order in ValueOrder::BOTH {
         let (step, settle) = ((Call::Step(order), 40_000), (Call::Settle(order), 3_000));
         let (deliver, echo) = ((Call::Deliver(order), 8_000), (Call::Echo(order), 8_000));
-        for (call, rounds) in [step, deliver, echo, settle] {
+        let slots = [(Call::DeliverSlots(order), 8_000), (Call::SettleSlots(order), 3_000)];
+        for (call, rounds) in [step, deliver, echo, settle].into_iter().chain(slots) {
             let report = compare(call, rounds, 7, tuned::tuned);
             assert!(report.difference.is_none(), "{call:?}: {}", describe(&report.difference.unwrap()));
         }

@@ -1,4 +1,4 @@
-//! Every sample table against the listings, one for each order of values, and the bench report that lie beside it.
+//! Every sample table against the listings, one for each order of values and each pool, and the bench report that lie beside it.
 
 use harness::reference::order::ValueOrder;
 use harness::reference::table;
@@ -25,13 +25,25 @@ fn listings_cheapest_first() {
     assert_eq!(compare_all("cheapest", |file| sample::shed_by(ValueOrder::CheapestFirst, file)), 18);
 }
 
-/// Both listings of a table have the same total.
+/// Over the pool of slots (02's job 4), the lowest cell in use delivered each time.
 #[test]
-fn totals_of_both_orders() {
+fn listings_over_slots() {
+    assert_eq!(compare_all("slots", |file| sample::slots_by(ValueOrder::Ascending, file)), 18);
+    assert_eq!(compare_all("slots-cheapest", |file| sample::slots_by(ValueOrder::CheapestFirst, file)), 18);
+}
+
+/// All listings of a table have the same total; those of one order over either pool the same assignment.
+#[test]
+fn totals_of_both_orders_and_pools() {
     for path in tables() {
         let Ok(listing) = fs::read_to_string(path.with_extension("listing")) else { continue };
-        let cheapest = fs::read_to_string(path.with_extension("cheapest")).unwrap();
+        let read = |end: &str| fs::read_to_string(path.with_extension(end)).unwrap();
+        let (cheapest, over_slots) = (read("cheapest"), [read("slots"), read("slots-cheapest")]);
         assert_eq!(cheapest.lines().next(), listing.lines().next(), "{}", path.display());
+        for (old, new) in [&listing, &cheapest].into_iter().zip(&over_slots) {
+            let report = |listing: &str| listing.rsplit_once("records").expect("a count line").0.to_string();
+            assert_eq!(report(old), report(new), "{}", path.display());
+        }
     }
 }
 

@@ -1,4 +1,5 @@
--- The answers of the calls of document 01 in the structs that C is handed, kinds and orders of values by their numbers, and step, delivery and echo on what C lends.
+-- The answers of the calls of documents 01 and 02 in the structs that C is handed, kinds and orders of values by their numbers, and step, delivery and echo on
+-- what C lends.
 -- Assumes nothing.
 use Rattle.base.specs.Library.{ℕ, pred, cond, not, List, eqb, length}
 use Rattle.base.specs.Shape.{shapeGood}
@@ -8,8 +9,9 @@ use Rattle.message.specs.declared.Read.the-variants.{Good, Refused}
 use Rattle.message.specs.Message.{kindCode, refusalOf, addressGood}
 use Rattle.rules.specs.{declared.Report.Report, Calls.outcomeOf, Calls.bytesOf, Calls.stepOut}
 use Rattle.runs.specs.Calls.{deliverOf, echoOf}
-use Rattle.cabi.specs.{declared.LentAnswer.LentAnswer, declared.LentNetwork.LentNetwork, declared.LentOutcome.LentOutcome, declared.LentUnit.LentUnit, declared.Parsed.Parsed}
-use Rattle.cabi.specs.Lent.{unitFrom, outcomeBack, networkFrom, answerBack}
+use Rattle.slots.specs.{Slot.slotCells, Slot.slotOrNone, Calls.deliverOf as slotsDeliverOf}
+use Rattle.cabi.specs.{declared.LentAnswer.LentAnswer, declared.LentCore.LentCore, declared.LentNetwork.LentNetwork, declared.LentOutcome.LentOutcome, declared.LentSlotsAnswer.LentSlotsAnswer, declared.LentUnit.LentUnit, declared.Parsed.Parsed}
+use Rattle.cabi.specs.Lent.{unitFrom, outcomeBack, coreFrom, networkFrom, answerBack, slotsBack}
 pub mod Laws
 
 -- 01's number of the kind that was read, 0 beside a refusal
@@ -30,7 +32,12 @@ unknownKind n sizes m = cond (not (shapeGood n sizes)) 5 (cond (not (addressGood
 abbrev pub orderOf : ℕ → ValueOrder
 orderOf code = cond (eqb code 0) Ascending CheapestFirst
 
--- ---- writing by number
+-- ---- a kind by its number
+
+-- the cell of a message whose kind is read from its number, or 300, past every cell, where no kind has it
+unfoldable pub slotAs : Read → ℕ → ℕ → ℕ → ℕ
+slotAs (Good k) n sender receiver = slotOrNone n k sender receiver
+slotAs (Refused r) n sender receiver = slotCells
 
 -- writing a message whose kind is read from its number: the refusal, and what is left in the lent output
 unfoldable pub writeAs : Read → ℕ → List ℕ → Message → ℕ → ℕ
@@ -66,3 +73,11 @@ echoedTo order s stream pool packet = answerBack s (echoOf order (networkFrom s)
 
 unfoldable pub echoedPool : ValueOrder → LentNetwork → List ℕ → List ℕ → List ℕ → List ℕ
 echoedPool order s stream pool packet = echoOf order (networkFrom s) stream pool packet .pool
+
+-- ---- a delivery over 02's pool to lent units and counts: that of slots, on those that are read
+
+unfoldable pub slotsDeliveredTo : ValueOrder → LentCore → List ℕ → List ℕ → ℕ → LentSlotsAnswer
+slotsDeliveredTo order s stream pool cell = slotsBack s (slotsDeliverOf order (coreFrom s) stream pool cell .answer)
+
+unfoldable pub slotsDeliveredPool : ValueOrder → LentCore → List ℕ → List ℕ → ℕ → List ℕ
+slotsDeliveredPool order s stream pool cell = slotsDeliverOf order (coreFrom s) stream pool cell .pool

@@ -1,12 +1,15 @@
--- A unit's state, and a network, as C lends them: the flag `stopped` is a byte there, and any byte can stand in it. One that is neither 0
--- nor 1 makes the state one out of range: refusal 5, at its place in the order of step, delivery and echo.
+-- A unit's state, and a network over either pool, as C lends them: the flag `stopped` is a byte there, and any byte can stand in it. One
+-- that is neither 0 nor 1 makes the state one out of range: refusal 5, at its place in the order of step, delivery and echo.
 --     unitFrom, unitBack            a lent state read, and what stands there after the call
---     networkFrom, answerBack       the same of a network
+--     coreFrom, coreBack            the same of a network's units and counts
+--     networkFrom, answerBack       of a network over 01's pool
+--     slotsBack                     what stands there after a delivery over 02's pool, which has only units and counts beside it
 -- Lent/Laws shows that such a state is out of range, and that what a call leaves alone comes back as lent. Assumes nothing.
 use Rattle.base.specs.Library.{ℕ, zero, suc, Bool, cond, List, [], _∷_, _++_, leb, eqb, getD, replicate}
 use Rattle.rules.specs.{declared.Unit.Unit, declared.Outcome.Outcome, State.unit, State.emptyUnit}
-use Rattle.runs.specs.{declared.Network.Network, declared.Answer.Answer}
-use Rattle.cabi.specs.{declared.LentUnit.LentUnit, declared.LentOutcome.LentOutcome, declared.LentNetwork.LentNetwork, declared.LentAnswer.LentAnswer}
+use Rattle.runs.specs.{declared.Core.Core, declared.Network.Network, declared.Answer.Answer}
+use Rattle.slots.specs.{declared.Answer.Answer as SlotsAnswer}
+use Rattle.cabi.specs.{declared.LentUnit.LentUnit, declared.LentOutcome.LentOutcome, declared.LentCore.LentCore, declared.LentNetwork.LentNetwork, declared.LentAnswer.LentAnswer, declared.LentSlotsAnswer.LentSlotsAnswer}
 pub mod Laws
 
 -- ---- one unit
@@ -52,10 +55,17 @@ unitsFrom ss = upTo 16 (λ (k : ℕ). unitFrom (getD ss k emptyLent))
 abbrev pub unitsBack : List LentUnit → List Unit → List LentUnit
 unitsBack ss us = upTo 16 (λ (k : ℕ). unitBack (getD ss k emptyLent) (getD us k emptyUnit))
 
+abbrev pub coreFrom : LentCore → Core
+coreFrom s = record { units = unitsFrom (s .units); records = s .records; deliveries = s .deliveries }
+
+abbrev pub coreBack : LentCore → Core → LentCore
+coreBack s core = record { units = unitsBack (s .units) (core .units); records = core .records; deliveries = core .deliveries }
+
 abbrev pub networkFrom : LentNetwork → Network
-networkFrom s = record { core = record { units = unitsFrom (s .core .units); records = s .core .records; deliveries = s .core .deliveries }; used = s .used }
+networkFrom s = record { core = coreFrom (s .core); used = s .used }
 
 abbrev pub answerBack : LentNetwork → Answer → LentAnswer
-answerBack s a =
-    let t = a .network in
-    record { refusal = a .refusal; network = record { core = record { units = unitsBack (s .core .units) (t .core .units); records = t .core .records; deliveries = t .core .deliveries }; used = t .used } }
+answerBack s a = record { refusal = a .refusal; network = record { core = coreBack (s .core) (a .network .core); used = a .network .used } }
+
+abbrev pub slotsBack : LentCore → SlotsAnswer → LentSlotsAnswer
+slotsBack s a = record { refusal = a .refusal; core = coreBack s (a .core) }

@@ -1,9 +1,10 @@
-// A unit's state and a network as C lends them, with a byte for the flag `stopped`: read, and handed back.
+// A unit's state, and a network over either pool, as C lends them, with a byte for the flag `stopped`: read, and handed back.
 
 use crate::LentAnswer;
 use crate::LentCore;
 use crate::LentNetwork;
 use crate::LentOutcome;
+use crate::LentSlotsAnswer;
 use crate::LentUnit;
 use network::Answer;
 use network::Core;
@@ -13,7 +14,7 @@ use unit::Unit;
 ghost use mathlib.Core.Path.{_≡_};
 ghost use mathlib.Core.Bool.{cond};
 ghost use lib.ListN.{replicate};
-ghost use Rattle.cabi.specs.Lent.{flagGood, unitFrom, lentOf, unitBack, outcomeBack, unitsFrom, unitsBack, networkFrom, answerBack};
+ghost use Rattle.cabi.specs.Lent.{flagGood, unitFrom, lentOf, unitBack, outcomeBack, unitsFrom, unitsBack, coreFrom, coreBack, networkFrom, answerBack, slotsBack};
 
 // The state that is lent, or where the byte is no flag, one out of range.
 pub(crate) fn unit_from(s: LentUnit) -> Unit
@@ -130,21 +131,44 @@ fn units_back(ss: [LentUnit; 16], us: [Unit; 16]) -> [LentUnit; 16]
     back
 }
 
+// The units and counts that are lent.
+pub(crate) fn core_from(s: LentCore) -> Core
+    ensures { λ r. ⌜ r ≡ coreFrom s ⌝ }
+{
+    let ss = s.units;
+    let records = s.records;
+    let deliveries = s.deliveries;
+    Core {
+        units: units_from(ss),
+        records,
+        deliveries,
+    }
+}
+
+// What stands where they were lent, once a call leaves these there.
+fn core_back(s: LentCore, left: Core) -> LentCore
+    ensures { λ r. ⌜ r ≡ coreBack s left ⌝ }
+{
+    let ss = s.units;
+    let us = left.units;
+    let records = left.records;
+    let deliveries = left.deliveries;
+    LentCore {
+        units: units_back(ss, us),
+        records,
+        deliveries,
+    }
+}
+
 // The network that is lent.
 pub(crate) fn network_from(s: LentNetwork) -> Network
     ensures { λ r. ⌜ r ≡ networkFrom s ⌝ }
 {
     let lent = s.core;
-    let ss = lent.units;
-    let units = units_from(ss);
-    let records = lent.records;
-    let deliveries = lent.deliveries;
-    let core = Core {
-        units,
-        records,
-        deliveries,
-    };
-    Network { core, used: s.used }
+    Network {
+        core: core_from(lent),
+        used: s.used,
+    }
 }
 
 // What a delivery or an echo hands back.
@@ -152,23 +176,24 @@ pub(crate) fn answer_back(s: LentNetwork, a: Answer) -> LentAnswer
     ensures { λ r. ⌜ r ≡ answerBack s a ⌝ }
 {
     let lent = s.core;
-    let ss = lent.units;
     let net = a.network;
     let left = net.core;
-    let us = left.units;
-    let units = units_back(ss, us);
-    let records = left.records;
-    let deliveries = left.deliveries;
-    let core = LentCore {
-        units,
-        records,
-        deliveries,
-    };
     LentAnswer {
         refusal: a.refusal,
         network: LentNetwork {
-            core,
+            core: core_back(lent, left),
             used: net.used,
         },
+    }
+}
+
+// What a delivery over slots hands back.
+pub(crate) fn slots_back(s: LentCore, a: slots::Answer) -> LentSlotsAnswer
+    ensures { λ r. ⌜ r ≡ slotsBack s a ⌝ }
+{
+    let left = a.core;
+    LentSlotsAnswer {
+        refusal: a.refusal,
+        core: core_back(s, left),
     }
 }

@@ -1,7 +1,7 @@
-// The calls of document 01 for C and Rust, as include/riksamoe.h declares them. Each hands on to the call that it names, and promises
+// The calls of documents 01 and 02 for C and Rust, as include/riksamoe.h declares them. Each hands on to the call that it names, and promises
 // what that one does.
 
-mod lent; // a state and a network as C lends them
+mod lent; // a state, and a network over either pool, as C lends them
 
 use base::Length;
 use message::Message;
@@ -33,9 +33,12 @@ ghost use Rattle.rules.specs.State.{noUnit};
 ghost use Rattle.rules.specs.Calls.{outcomeOf, bytesOf, makeOut, rangeRefusal};
 ghost use Rattle.runs.specs.Calls.{makeOf};
 ghost use Rattle.runs.specs.Settle.{settleOf};
+ghost use Rattle.slots.specs.Newer.{newerRefusal, whichNewer};
+ghost use Rattle.slots.specs.Calls.{makeOf as slotsMakeOf};
+ghost use Rattle.slots.specs.Settle.{settleOf as slotsSettleOf};
 ghost use Rattle.search.specs.Search.{searchOf};
 ghost use Rattle.cabi.specs.Lent.{unitFrom};
-ghost use Rattle.cabi.specs.Calls.{codeOf, parsedOf, orderOf, writeAs, writtenAs, unknownKind, stepOf, steppedBytes, reportBy, deliveredTo, deliveredPool, echoedTo, echoedPool};
+ghost use Rattle.cabi.specs.Calls.{codeOf, parsedOf, orderOf, slotAs, writeAs, writtenAs, unknownKind, stepOf, steppedBytes, reportBy, deliveredTo, deliveredPool, echoedTo, echoedPool, slotsDeliveredTo, slotsDeliveredPool};
 
 // The number of the order that is taken where none is named.
 const CHEAPEST_FIRST: u8 = 1;
@@ -96,6 +99,13 @@ pub struct LentNetwork {
 pub struct LentAnswer {
     pub refusal: u8,
     pub network: LentNetwork,
+}
+
+// `slots::Answer` with lent states.
+#[repr(C)]
+pub struct LentSlotsAnswer {
+    pub refusal: u8,
+    pub core: LentCore,
 }
 
 // ---- blocks and tables
@@ -374,7 +384,7 @@ pub extern "C" fn riksamoe_unit_step_in_place_by(
     }
 }
 
-// ---- a network, and the bench
+// ---- a network
 
 #[no_mangle]
 pub extern "C" fn riksamoe_network_make(stream: &[u8], pool: &mut [u8]) -> Answer
@@ -457,6 +467,98 @@ pub extern "C" fn riksamoe_network_settle_by(order: u8, stream: &[u8], pool: &mu
 {
     network::settle_by(order_of(order), stream, pool)
 }
+
+// ---- a network over slots: one cell for each sender, receiver and kind
+
+#[no_mangle]
+pub extern "C" fn riksamoe_slots_make(stream: &[u8], pool: &mut [u8]) -> slots::Answer
+    ensures { λ r. ⌜ (r ≡ slotsMakeOf defaultOrder (now (stream .entry)) (now (pool .entry)) .answer) × (now (pool .exit) ≡ slotsMakeOf defaultOrder (now (stream .entry)) (now (pool .entry)) .pool) ⌝ }
+{
+    slots::make(stream, pool)
+}
+
+#[no_mangle]
+pub extern "C" fn riksamoe_slots_make_by(order: u8, stream: &[u8], pool: &mut [u8]) -> slots::Answer
+    ensures { λ r. ⌜ (r ≡ slotsMakeOf (orderOf order) (now (stream .entry)) (now (pool .entry)) .answer) × (now (pool .exit) ≡ slotsMakeOf (orderOf order) (now (stream .entry)) (now (pool .entry)) .pool) ⌝ }
+{
+    slots::make_by(order_of(order), stream, pool)
+}
+
+#[no_mangle]
+pub extern "C" fn riksamoe_slots_deliver(
+    core: LentCore,
+    stream: &[u8],
+    pool: &mut [u8],
+    cell: u64,
+) -> LentSlotsAnswer
+    ensures { λ r. ⌜ (r ≡ slotsDeliveredTo defaultOrder core (now (stream .entry)) (now (pool .entry)) cell) × (now (pool .exit) ≡ slotsDeliveredPool defaultOrder core (now (stream .entry)) (now (pool .entry)) cell) ⌝ }
+{
+    riksamoe_slots_deliver_by(CHEAPEST_FIRST, core, stream, pool, cell)
+}
+
+#[no_mangle]
+pub extern "C" fn riksamoe_slots_deliver_by(
+    order: u8,
+    core: LentCore,
+    stream: &[u8],
+    pool: &mut [u8],
+    cell: u64,
+) -> LentSlotsAnswer
+    ensures { λ r. ⌜ (r ≡ slotsDeliveredTo (orderOf order) core (now (stream .entry)) (now (pool .entry)) cell) × (now (pool .exit) ≡ slotsDeliveredPool (orderOf order) core (now (stream .entry)) (now (pool .entry)) cell) ⌝ }
+{
+    let read = lent::core_from(core);
+    let a = slots::deliver_by(order_of(order), read, stream, pool, cell);
+    lent::slots_back(core, a)
+}
+
+#[no_mangle]
+pub extern "C" fn riksamoe_slots_settle(stream: &[u8], pool: &mut [u8]) -> slots::Answer
+    ensures { λ r. ⌜ (r ≡ slotsSettleOf defaultOrder (now (stream .entry)) (now (pool .entry)) .answer) × (now (pool .exit) ≡ slotsSettleOf defaultOrder (now (stream .entry)) (now (pool .entry)) .pool) ⌝ }
+{
+    slots::settle(stream, pool)
+}
+
+#[no_mangle]
+pub extern "C" fn riksamoe_slots_settle_by(
+    order: u8,
+    stream: &[u8],
+    pool: &mut [u8],
+) -> slots::Answer
+    ensures { λ r. ⌜ (r ≡ slotsSettleOf (orderOf order) (now (stream .entry)) (now (pool .entry)) .answer) × (now (pool .exit) ≡ slotsSettleOf (orderOf order) (now (stream .entry)) (now (pool .entry)) .pool) ⌝ }
+{
+    slots::settle_by(order_of(order), stream, pool)
+}
+
+// The cell of a message; slots::SLOTS where the rules allow none, or no kind has the number.
+#[no_mangle]
+pub extern "C" fn riksamoe_slot_of(n: u8, kind: u8, sender: u8, receiver: u8) -> u64
+    ensures { λ r. ⌜ r ≡ slotAs (kindOf kind) n sender receiver ⌝ }
+{
+    let answer = message::kind_of(kind);
+    let Read::Good(known) = answer else {
+        return slots::SLOTS;
+    };
+    slots::slot_of(n, known, sender, receiver)
+}
+
+// 1 for the first buffer, 2 for the second, 0 where refused: C is handed no part of a buffer.
+#[no_mangle]
+pub extern "C" fn riksamoe_newer(n: u8, sizes: Sizes, first: &[u8], second: &[u8]) -> u8
+    ensures { λ r. ⌜ r ≡ whichNewer n (sizes .places) (now (first .entry)) (now (second .entry)) ⌝ }
+{
+    let places = sizes.places;
+    slots::which_newer(n, places, first, second)
+}
+
+#[no_mangle]
+pub extern "C" fn riksamoe_newer_refusal(n: u8, sizes: Sizes, first: &[u8], second: &[u8]) -> u8
+    ensures { λ r. ⌜ r ≡ newerRefusal n (sizes .places) (now (first .entry)) (now (second .entry)) ⌝ }
+{
+    let places = sizes.places;
+    slots::newer_refusal(n, places, first, second)
+}
+
+// ---- the bench
 
 #[no_mangle]
 pub extern "C" fn riksamoe_search(stream: &[u8]) -> Found

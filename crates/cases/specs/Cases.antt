@@ -29,7 +29,7 @@ use Rattle.rules.specs.declared.Unit.{Unit as State}
 use Rattle.rules.specs.State.{compareOn, sameOn}
 use Rattle.rules.specs.Step.{backtrack, tryAfter, assign, resume, onCpa, onRequest, onEstimate, onSolution, onStop, respond}
 use Rattle.rules.specs.Send.{each, packets}
-use Rattle.runs.specs.Run.{History, unitAt, begin, handOver, runFrom, run}
+use Rattle.runs.specs.Run.{History, unitAt, begin, runIn, run}
 use Rattle.cases.specs.Sheds.{streamWith, streamT, pairAt, aloneAt, pricedT, single}
 
 -- what a row compares
@@ -124,5 +124,5 @@ table =
     []
 
 pub cases-hold : map (λ (r : Row). r .found) table ≡ map (λ (r : Row). r .said) table
-unfolding table allInSixteen shapeGood sumOf opening unariesIn sumList pairsIn pairGood unaryGood costsGood streamRefusal allZero blockRefusal blockOf blocksRefusal joined streamOf readRefusal fileFrom fileOf instanceOf costWith h estimate total earlier placeTried valueAt next inTurn bestFrom searchRefusal searchOf compareOn sameOn backtrack tryAfter assign resume onCpa onRequest onEstimate onSolution onStop respond each packets begin handOver runFrom run
+unfolding table allInSixteen shapeGood sumOf opening unariesIn sumList pairsIn pairGood unaryGood costsGood streamRefusal allZero blockRefusal blockOf blocksRefusal joined streamOf readRefusal fileFrom fileOf instanceOf costWith h estimate total earlier placeTried valueAt next inTurn bestFrom searchRefusal searchOf compareOn sameOn backtrack tryAfter assign resume onCpa onRequest onEstimate onSolution onStop respond each packets begin runIn run
 cases-hold = refl

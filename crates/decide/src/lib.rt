@@ -20,6 +20,7 @@ use message::Message;
 use receive::on_cpa;
 use rules::Decided;
 use rules::Unit;
+pub use state::compare_stamps;
 pub use state::in_range;
 pub use state::in_range_paid;
 ghost use mathlib.Core.Path.{_≡_};

@@ -161,6 +161,13 @@ fn cpa_out_in_range(own: u8, sizes: [u8; 16], paid: u32, place: usize, u: Unit) 
     u.cost - paid <= message::prefix_limit(before)
 }
 
+// How two stamps compare on all units.
+pub fn compare_stamps(a: [u8; 16], b: [u8; 16]) -> Ordering
+    ensures { λ r. ⌜ r ≡ compareOn 16 a b ⌝ }
+{
+    compare(base::PLACES, a, b)
+}
+
 // How a compares with b on the first k units.
 pub(crate) fn compare(k: usize, a: [u8; 16], b: [u8; 16]) -> Ordering
     requires { ⌜ k ≤ 16 ⌝ }

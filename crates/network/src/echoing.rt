@@ -2,8 +2,6 @@
 
 use crate::delivery::advance;
 use crate::delivery::network_refusal;
-use crate::delivery::receiver;
-use crate::delivery::step;
 use crate::pool::copy_in;
 use base::MESSAGE_SIZE;
 use costs::ValueOrder;
@@ -51,12 +49,12 @@ fn hear(order: ValueOrder, net: Network, stream: &[u8], pool: &mut [u8], packet:
     requires { ⌜ Passing order net (now stream) (now pool) ⌝ }
     ensures { λ r. ⌜ (r ≡ echoBy order 0 net (now (stream .entry)) (now (pool .entry)) (now (packet .entry)) .answer) × (now (pool .exit) ≡ echoBy order 0 net (now (stream .entry)) (now (pool .entry)) (now (packet .entry)) .pool) ⌝ }
 {
-    let own = receiver(table::units_of(stream), packet);
+    let own = core::receiver(table::units_of(stream), packet);
     let core = net.core;
     let units = core.units;
     let u = units[(own - 1) as usize];
     let mut out = [0u8; base::SENDING_SIZE];
-    let r = step(order, u, stream, own, packet, &mut out);
+    let r = core::step(order, u, stream, own, packet, &mut out);
     let refusal = r.refusal;
     if refusal != 0 {
         return Answer {
@@ -69,7 +67,7 @@ fn hear(order: ValueOrder, net: Network, stream: &[u8], pool: &mut [u8], packet:
 
 // What was sent is added at the end, and the unit and the counts are put in place; or 14, and all stays.
 fn add(net: Network, pool: &mut [u8], own: u8, r: Outcome, out: &[u8]) -> Answer
-    requires { ⌜ Storing (net .used) own r (now pool) (now out) ⌝ }
+    requires { ⌜ Storing (net .used) r (now pool) (now out) ⌝ }
     ensures { λ x. ⌜ (x ≡ storedAnswer net (net .used) own r) × (now (pool .exit) ≡ storedPool (now (pool .entry)) (net .used) r (now (out .entry)) (now (pool .entry))) ⌝ }
 {
     let used = net.used as usize;

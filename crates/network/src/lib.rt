@@ -1,6 +1,5 @@
 // A network of units with a pool of waiting messages: making, delivery, and running to the end.
 
-mod counting; // a count in two words
 mod decimal; // a count in decimal digits
 mod delivery; // the message at a cell delivered
 mod echoing; // a packet heard again

@@ -1,7 +1,5 @@
 // Running a network to its end: the table is checked once, when the network is made.
 
-use crate::counting::plus;
-use crate::delivery::receiver;
 use crate::lending::LENT_SIZE;
 use crate::lending::lend;
 use crate::make_by;
@@ -59,7 +57,7 @@ fn run(order: ValueOrder, stream: &[u8], net: Network, pool: &mut [u8]) -> Netwo
     let first = core.units[0];
     let mut over = first.stopped;
     while !over {
-        let own = receiver(n, &pool[0..base::MESSAGE_SIZE]);
+        let own = core::receiver(n, &pool[0..base::MESSAGE_SIZE]);
         let place = (own - 1) as usize;
         let u = core.units[place];
         let lo = starts[place];
@@ -79,9 +77,9 @@ fn run(order: ValueOrder, stream: &[u8], net: Network, pool: &mut [u8]) -> Netwo
         let w = r.unit;
         core.units[place] = w;
         let records = core.records;
-        core.records = plus(records, r.records as u64);
+        core.records = core::plus(records, r.records as u64);
         let deliveries = core.deliveries;
-        core.deliveries = plus(deliveries, 1);
+        core.deliveries = core::plus(deliveries, 1);
         let first = core.units[0];
         over = first.stopped;
     }

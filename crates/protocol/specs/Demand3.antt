@@ -4,7 +4,6 @@
 --     two-runs    of any two lists after which unit 1 has stopped, and any two rooms, the bounds are equal
 --     counts-fit  with at most 16 units the records and the accepted deliveries are fewer than 2 ^ 128
 --     progress    in a pool with room for n × n + n messages some cell's delivery is accepted until unit 1 stops
---     finishes    so every list of cells goes on to one after which it has stopped
 --
 -- Oldest/Run.antt proves of deliveries of cell 0 alone, for a pool with room for 3 × (n × n + 3 × n) + n messages:
 --
@@ -23,6 +22,7 @@
 -- Theorem                       the five together
 -- Echo                          02, job 2: what of it holds where messages are heard twice
 -- Air                           beside demand 3: boxes on radio, where messages go on arriving after unit 1 has stopped
+-- Slots                         02, job 4: a message takes the cell of an older one of its kind, sender and receiver; the same holds then
 -- Oldest                        delivered oldest first the pool is a queue, in rounds: each unit sends at most two CPAs in one
 -- Assumes nothing.
 use Prim.Native.Nat.{ℕ, zero, suc, _+_, _*_, _-_, _≤_}

@@ -13,6 +13,7 @@ pub mod Best
 pub mod Theorem
 pub mod Echo
 pub mod Air
+pub mod Slots
 pub mod Oldest
 pub mod Cases
 pub mod Simulation

@@ -10,22 +10,26 @@ use Rattle.base.specs.Members.{In, here, there, Every}
 use Rattle.protocol.specs.Machine.{Msg, toEach}
 use Rattle.protocol.specs.Tests.{le-split}
 
--- ---- over messages
+-- ---- over messages, or whatever else a list has
 
--- each message counts for f of it
-abbrev pub total : (Msg → ℕ) → List Msg → ℕ
+-- each counts for f of it
+abbrev pub total : {A : Type 0} → (A → ℕ) → List A → ℕ
 total f [] = 0
 total f (m ∷ ms) = f m + total f ms
 
-module _ (f : Msg → ℕ) where
-  pub total-append : (a b : List Msg) → total f (a ++ b) ≡ total f a + total f b
-  total-append [] b = omega arith
-  total-append (m ∷ a) b = omega (arith, total-append a b)
+pub total-append : {A : Type 0} (f : A → ℕ) (a b : List A) → total f (a ++ b) ≡ total f a + total f b
+total-append f [] b = omega arith
+total-append f (m ∷ a) b = omega (arith, total-append f a b)
 
+module _ (f : Msg → ℕ) where
   -- one message taken out of the middle
-  pub total-out : (b a : List Msg) (m : Msg) → total f (b ++ (m ∷ a)) ≡ f m + total f (b ++ a)
+  total-out : (b a : List Msg) (m : Msg) → total f (b ++ (m ∷ a)) ≡ f m + total f (b ++ a)
   total-out [] a m = refl
   total-out (x ∷ b) a m = omega (arith, total-out b a m)
+
+  -- and others added behind
+  pub total-taken : (b a : List Msg) (m : Msg) (ms : List Msg) {pool : List Msg} → pool ≡ b ++ (m ∷ a) → total f ((b ++ a) ++ ms) + f m ≡ total f pool + total f ms
+  total-taken b a m ms e = omega (arith, total-append f (b ++ a) ms, ap (total f) e, total-out b a m)
 
   pub total-each : (g : ℕ → Msg) (c : ℕ) → ((j : ℕ) → f (g j) ≡ c) → (lo m : ℕ) → total f (toEach g lo m) ≡ c * m
   total-each g c h lo zero = omega arith

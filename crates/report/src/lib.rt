@@ -1,20 +1,27 @@
 // What the bench and the shed print of a stored table.
 use libc::STDOUT_FILENO;
+use network::Core;
 use network::Count;
 use network::Network;
 use network::ValueOrder;
 ghost use mathlib.Core.Path.{_≡_};
 ghost use Rattle.search.specs.Search.{searchRefusal};
 ghost use Rattle.runs.specs.Run.{unitAt};
-ghost use Rattle.report.specs.Report.{fileRefusal, settleRefusal};
-ghost use Rattle.report.specs.Report.Laws.{refusalBy};
+ghost use Rattle.report.specs.Report.{fileRefusal, settleRefusal, slotsRefusal, refusalBy};
+
+// What is printed of a stream: the search, or a run, values tried in this order, over 01's pool or over 02's.
+enum Printed {
+    Search,
+    Settled(ValueOrder),
+    Slots(ValueOrder),
+}
 
 // Prints the least total of a file's table, then each unit's value in the first assignment that has it, or `refused` and the number,
 // which it gives too. Where no assignment is permitted the total is the word none, and the values are 0.
 pub fn print_search(file: &[u8]) -> u8
     ensures { λ r. ⌜ r ≡ fileRefusal searchRefusal (now (file .entry)) ⌝ }
 {
-    print_file(file, false, ValueOrder::Ascending)
+    print_file(file, Printed::Search)
 }
 
 // Runs the network of a file's table, values tried in this order and cell 0 delivered each time, and prints what unit 1 reports, then
@@ -22,12 +29,19 @@ pub fn print_search(file: &[u8]) -> u8
 pub fn print_settled_by(order: ValueOrder, file: &[u8]) -> u8
     ensures { λ r. ⌜ r ≡ fileRefusal (settleRefusal order) (now (file .entry)) ⌝ }
 {
-    print_file(file, true, order)
+    print_file(file, Printed::Settled(order))
 }
 
-// One or the other; the search has no order of values but its own.
-fn print_file(file: &[u8], settled: bool, order: ValueOrder) -> u8
-    ensures { λ r. ⌜ r ≡ fileRefusal (refusalBy settled order) (now (file .entry)) ⌝ }
+// The same over the pool of 02, job 4, the lowest cell in use delivered each time.
+pub fn print_slots_by(order: ValueOrder, file: &[u8]) -> u8
+    ensures { λ r. ⌜ r ≡ fileRefusal (slotsRefusal order) (now (file .entry)) ⌝ }
+{
+    print_file(file, Printed::Slots(order))
+}
+
+// One of the three.
+fn print_file(file: &[u8], what: Printed) -> u8
+    ensures { λ r. ⌜ r ≡ fileRefusal (refusalBy what) (now (file .entry)) ⌝ }
 {
     let mut stream = [0u8; base::STREAM_SIZE];
     let r = table::read(file, &mut stream);
@@ -37,17 +51,18 @@ fn print_file(file: &[u8], settled: bool, order: ValueOrder) -> u8
         return refusal;
     }
     let length = r.length;
-    print_stream(&stream[0..length], settled, order)
+    print_stream(&stream[0..length], what)
 }
 
 // The same of a stream.
-fn print_stream(stream: &[u8], settled: bool, order: ValueOrder) -> u8
-    ensures { λ r. ⌜ r ≡ refusalBy settled order (now (stream .entry)) ⌝ }
+fn print_stream(stream: &[u8], what: Printed) -> u8
+    ensures { λ r. ⌜ r ≡ refusalBy what (now (stream .entry)) ⌝ }
 {
-    if settled {
-        return print_run(order, stream);
+    match what {
+        Printed::Search => print_found(stream),
+        Printed::Settled(order) => print_run(order, stream),
+        Printed::Slots(order) => print_slots(order, stream),
     }
-    print_found(stream)
 }
 
 // What the search finds.
@@ -66,19 +81,36 @@ fn print_found(stream: &[u8]) -> u8
     refusal
 }
 
-// What the run comes to.
+// What the run over 01's pool comes to.
 fn print_run(order: ValueOrder, stream: &[u8]) -> u8
     ensures { λ r. ⌜ r ≡ settleRefusal order (now (stream .entry)) ⌝ }
 {
     let mut pool = [0u8; base::POOL_SIZE];
     let answer = network::settle_by(order, stream, &mut pool);
-    let refusal = answer.refusal;
+    let net = answer.network;
+    let core = net.core;
+    print_ended(answer.refusal, table::units_of(stream), core)
+}
+
+// What the run over 02's pool comes to.
+fn print_slots(order: ValueOrder, stream: &[u8]) -> u8
+    ensures { λ r. ⌜ r ≡ slotsRefusal order (now (stream .entry)) ⌝ }
+{
+    let mut pool = [0u8; slots::SLOT_POOL_SIZE];
+    let answer = slots::settle_by(order, stream, &mut pool);
+    let core = answer.core;
+    print_ended(answer.refusal, table::units_of(stream), core)
+}
+
+// A refusal, or the core that a run of n units ends with.
+fn print_ended(refusal: u8, n: u8, core: Core) -> u8
+    ensures { λ r. ⌜ r ≡ refusal ⌝ }
+{
     if refusal != 0 {
         refuse(refusal);
         return refusal;
     }
-    let net = answer.network;
-    print_network(table::units_of(stream), net);
+    print_core(n, core);
     refusal
 }
 
@@ -87,6 +119,13 @@ pub fn print_network(n: u8, net: Network) -> u32
     ensures { λ r. ⌜ r ≡ unitAt (net .core .units) 0 .bound ⌝ }
 {
     let core = net.core;
+    print_core(n, core)
+}
+
+// The same of the core alone.
+pub fn print_core(n: u8, core: Core) -> u32
+    ensures { λ r. ⌜ r ≡ unitAt (core .units) 0 .bound ⌝ }
+{
     let first = core.units[0];
     let total = first.bound;
     print_total(total);

@@ -1,14 +1,44 @@
 -- The calls on bytes: making a network, a delivery and an echo (02, job 2), refusals in 01's order.
 -- 01: "Making .. a shed: 5, 6, 7, 13." "Delivery: 13, 5 (n, sizes), 6, 7, 5 (any unit's state, pool count), 12, 15, the step's from 8 on, 14." Assumes nothing.
-use Rattle.base.specs.Library.{ℕ, zero, suc, _+_, _-_, pred, Bool, cond, _&&_, List, ltb, leb, length, getD, set, replicate}
-use Rattle.base.specs.{Limits.poolSize, Limits.poolCells, Refusal.orElse, Every.every}
+use Rattle.base.specs.Library.{ℕ, zero, suc, _+_, _-_, pred, cond, List, ltb, leb, length, getD, set, take, replicate}
+use Rattle.base.specs.{Limits.poolSize, Limits.poolCells, Limits.costsSize, Refusal.orElse, Every.every}
 use Rattle.table.specs.Stream.{unitsOf, streamRefusal}
 use Rattle.costs.specs.declared.ValueOrder.{ValueOrder}
-use Rattle.costs.specs.{Instance.viewBy, Instance.instanceOf, Gather.sizesIn}
+use Rattle.costs.specs.{Instance.viewBy, Instance.instanceOf, Gather.sizesIn, Gather.gatherOf, Gather.gatherInto}
 use Rattle.message.specs.{Message.Packet, Message.isUnit, Decode.parseFor}
-use Rattle.rules.specs.{declared.Unit.Unit, State.noUnit, State.fresh, State.inRange, Send.packets, Send.laid, Calls.unlessRefused, Calls.onRead, Units.unitAt}
+use Rattle.rules.specs.{declared.Unit.Unit, State.noUnit, State.fresh, State.inRange, Send.packets, Send.laid, Calls.unlessRefused, Calls.onRead, Calls.stepOut, Calls.makeOut, Units.unitAt}
 use Rattle.rules.specs.Step.{Decision, refused, accepted, assign}
-use Rattle.runs.specs.{declared.Network.Network, declared.Answer.Answer, Count.zeroCount, Count.plus, Pool.cellOf, Pool.poolAfter, Pool.poolWith}
+use Rattle.runs.specs.{declared.Core.Core, declared.Network.Network, declared.Answer.Answer, Count.zeroCount, Count.plus, Pool.cellOf, Pool.poolAfter, Pool.poolWith}
+
+-- ---- units and counts, whatever pool their messages wait in
+
+-- all zero
+abbrev pub noCore : Core
+noCore = record { units = replicate 16 noUnit; records = zeroCount; deliveries = zeroCount }
+
+-- unit 1 was made, and has written so many records; 01: "making the shed counts unit 1's records"
+abbrev pub coreBegun : Unit → ℕ → Core
+coreBegun u records = record { units = set (replicate 16 fresh) 0 u; records = plus records zeroCount; deliveries = zeroCount }
+
+-- unit `own` has stepped, and written so many
+abbrev pub coreAfter : Core → ℕ → Unit → ℕ → Core
+coreAfter core own u records = record { units = set (core .units) (pred own) u; records = plus records (core .records); deliveries = plus 1 (core .deliveries) }
+
+-- the first of 5 (n, sizes), 6, 7, 5 (any unit's state) that applies, or 0; units 1 to n only
+unfoldable pub coreRefusal : ValueOrder → Core → List ℕ → ℕ
+coreRefusal order core stream =
+    orElse (streamRefusal stream) (cond (every (λ (k : ℕ). inRange (sizesIn stream) (viewBy order (instanceOf stream) k) (unitAt (core .units) k)) (unitsOf stream)) 0 5)
+
+-- the costs that gathering lends unit `own` of a stream; none where it refuses
+unfoldable pub lentOf : List ℕ → ℕ → List ℕ
+lentOf stream own = take (gatherOf stream own costsSize .length) (gatherInto stream own (replicate costsSize 0))
+
+-- the step of unit `own` in state u, and the making of unit 1, with the costs lent from the stream; refusals are those of `unit`
+abbrev pub stepLent : ValueOrder → List ℕ → Unit → ℕ → List ℕ → ℕ → Decision
+stepLent order stream u own bytes room = stepOut order u own (unitsOf stream) (sizesIn stream) (lentOf stream own) bytes room
+
+abbrev pub firstLent : ValueOrder → List ℕ → ℕ → Decision
+firstLent order stream room = makeOut order 1 (unitsOf stream) (sizesIn stream) (lentOf stream 1) room
 
 -- what a call gives: the answer, and the bytes of the lent pool
 pub record Result : Type 0 where
@@ -19,39 +49,29 @@ pub record Result : Type 0 where
 
 -- the network beside a refusal of making: all zero
 abbrev pub noNetwork : Network
-noNetwork = record { core = record { units = replicate 16 noUnit; records = zeroCount; deliveries = zeroCount }; used = 0 }
+noNetwork = record { core = noCore; used = 0 }
 
 abbrev pub made : ℕ → List ℕ → Decision → Result
 made n pool (refused r) = record { answer = record { refusal = r; network = noNetwork }; pool = pool }
 made n pool (accepted u s ws) =
     let ps = packets n 0 s in
-    record {
-      answer = record {
-        refusal = 0;
-        network = record { core = record { units = set (replicate 16 fresh) 0 u; records = plus (length ws) zeroCount; deliveries = zeroCount }; used = length ps };
-      };
-      pool = laid ps pool;
-    }
+    record { answer = record { refusal = 0; network = record { core = coreBegun u (length ws); used = length ps } }; pool = laid ps pool }
 
 -- 01: "5, 6, 7, 13"
 unfoldable pub makingRefusal : List ℕ → List ℕ → ℕ
 makingRefusal stream pool = orElse (streamRefusal stream) (cond (ltb (length pool) poolSize) 13 0)
 
--- 01: "Making unit 1 assigns", "making the shed counts unit 1's records"
+-- 01: "Making unit 1 assigns"
 unfoldable pub makeOf : ValueOrder → List ℕ → List ℕ → Result
 makeOf order stream pool = made (unitsOf stream) pool (unlessRefused (makingRefusal stream pool) (assign (viewBy order (instanceOf stream) 0) fresh))
 
 -- ---- a delivery
 
--- 01, 5: "any unit's state, pool count"; units 1 to n only
-unfoldable pub networkInRange : ValueOrder → List ℕ → Network → Bool
-networkInRange order stream net =
-    every (λ (k : ℕ). inRange (sizesIn stream) (viewBy order (instanceOf stream) k) (unitAt (net .core .units) k)) (unitsOf stream) && leb (net .used) poolCells
-
--- the first of 13, 5, 6, 7, 5, 12 that applies, or 0: what is asked whatever message is to be delivered
+-- the first of 13, 5, 6, 7, 5 (any unit's state, pool count), 12 that applies, or 0: what is asked whatever message is to be delivered
 unfoldable pub networkRefusal : ValueOrder → Network → List ℕ → List ℕ → ℕ
 networkRefusal order net stream pool =
-    orElse (cond (ltb (length pool) poolSize) 13 0) (orElse (streamRefusal stream) (orElse (cond (networkInRange order stream net) 0 5) (cond (unitAt (net .core .units) 0 .stopped) 12 0)))
+    orElse (cond (ltb (length pool) poolSize) 13 0)
+    (orElse (coreRefusal order (net .core) stream) (orElse (cond (leb (net .used) poolCells) 0 5) (cond (unitAt (net .core .units) 0 .stopped) 12 0)))
 
 -- then 15
 unfoldable pub deliverRefusal : ValueOrder → Network → List ℕ → List ℕ → ℕ → ℕ
@@ -72,8 +92,7 @@ refusedDelivery net pool r = record { answer = record { refusal = r; network = n
 
 -- the network once unit `own` has stepped and written so many records, with so many cells in use
 abbrev pub networkAfter : Network → ℕ → Unit → ℕ → ℕ → Network
-networkAfter net own u used records =
-    record { core = record { units = set (net .core .units) (pred own) u; records = plus records (net .core .records); deliveries = plus 1 (net .core .deliveries) }; used = used }
+networkAfter net own u used records = record { core = coreAfter (net .core) own u records; used = used }
 
 -- What the step of unit `own` leaves, where so many cells stay in use beside what it sends, and `put` gives the pool with that in it; 01, refusal 14:
 -- "outgoing messages don't fit the pool".

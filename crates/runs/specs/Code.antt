@@ -1,6 +1,7 @@
 -- How the pieces of the code make up a delivery and an echo, in the order of their code: the checks, the step with the gathered costs, and what is stored; and
 -- making likewise.
 --     unitInRange, range-of-paid, check-..     the checks, one at a time; `passing` and `opened` say what they have passed
+--     gather-within, lent-..                   the costs that a unit is lent, on any stream; on a good one they are those gathered
 --     step-is, step-keeps                      the step of `unit` with the gathered costs is the definition's, and keeps its limits
 --     storedAnswer, storedPool                 what is stored, in terms of the step's outcome
 --     step-refuses, step-stores                a call after its step; hand-.. of a delivery and hear-.. of an echo: by what its code has in hand
@@ -8,15 +9,16 @@
 -- Each by the definitions' tests, and by the laws of `costs` and `unit` about gathered costs and steps. Assumes nothing.
 use Prim.Native.Nat.{ℕ, zero, suc, pred, _+_, _*_, _-_, _≤_, _<_}
 use mathlib.Core.Path.{_≡_, refl, sym, ap, _∙_, subst}
-use mathlib.Core.Bool.{Bool, true, false, cond, _&&_}
+use mathlib.Core.Bool.{Bool, true, false, cond}
 use mathlib.Core.List.{List}
 use native.Mathlib.Omega.{arith}
 use native.Mathlib.Nat.{sub-zero}
-use lib.Dec.{ltb, leb}
-use lib.ListN.{length, getD, set, take, drop, replicate}
+use lib.Dec.{ltb, leb, eqb}
+use lib.ListN.{length, getD, take, drop, replicate, length-replicate}
 use lib.Seq.{paste}
-use borrow.Author.Tests.{lt-ltb, le-ltb, ltb-false, le-leb, lt-leb, leb-true, leb-false}
-use Rattle.base.specs.Shape.Laws.{and-left, and-right}
+use borrow.Author.Tests.{lt-ltb, le-ltb, ltb-false, le-leb, lt-leb, leb-true, leb-false, eqb-true}
+use Rattle.base.specs.Refusal.{orElse}
+use Rattle.base.specs.Shape.{isValue}
 use Rattle.base.specs.Refusal.Laws.{or-left, or-right, or-first}
 use Rattle.base.specs.Limits.{poolCells, poolSize, sendingSize, messageSize, costsSize}
 use Rattle.table.specs.Stream.{unitsOf, streamRefusal, Accepted}
@@ -27,7 +29,7 @@ use Rattle.costs.specs.Cost.{asNumber}
 use Rattle.costs.specs.Bounds.{costWith}
 use Rattle.costs.specs.Order.{placeTried}
 use Rattle.base.specs.declared.Length.{Length}
-use Rattle.costs.specs.Gather.{sizesIn, gatherOf, gatherInto}
+use Rattle.costs.specs.Gather.{sizesIn, gatherRefusal, gatherOf, gatherInto}
 use Rattle.costs.specs.Gathered.{gathered}
 use Rattle.costs.specs.Gather.Sizes.{length-sizes, accepted-sizes-first, accepted-sizes-good}
 use Rattle.costs.specs.Gather.Laws.{gathered-view, gathered-good, gathered-most, gather-enough, gather-front}
@@ -51,12 +53,12 @@ use Rattle.rules.specs.Laws.Assign.{Whenever, GoodDecision}
 use Rattle.rules.specs.Laws.Refusals.{Numbered, Accepts, assign-accepts, parse-numbered, read-numbered}
 use Rattle.rules.specs.Laws.Calls as UL
 use Rattle.rules.specs.Laws.Calls.{Passed}
+use Rattle.runs.specs.declared.Core.{Core}
 use Rattle.runs.specs.declared.Network.{Network}
 use Rattle.runs.specs.declared.Answer.{Answer}
-use Rattle.runs.specs.Count.{zeroCount, plus}
 use Rattle.runs.specs.Pool.{cellOf, poolAfter, poolWith}
 use Rattle.runs.specs.Pool.Laws.{closeGap, sent-front, pool-stored, pool-added}
-use Rattle.runs.specs.Calls.{Result, noNetwork, made, makingRefusal, makeOf, networkInRange, networkRefusal, deliverRefusal, receiverOf, stepFrom8, refusedDelivery, networkAfter, stored, deliverBy, deliverOf, echoBy, echoOf}
+use Rattle.runs.specs.Calls.{Result, lentOf, stepLent, firstLent, coreBegun, coreRefusal, noNetwork, made, makingRefusal, makeOf, networkRefusal, deliverRefusal, receiverOf, stepFrom8, refusedDelivery, networkAfter, stored, deliverBy, deliverOf, echoBy, echoOf}
 use Rattle.runs.specs.Pool.Stored.{encode-all-length}
 
 -- ---- the checks
@@ -71,7 +73,7 @@ unfolding inRange instanceOf costWith
 range-of-paid order s us k u v paid place unit own pays stands = rw (pays, stands, own, unit)
 
 -- a refusal that was not given says how its test went
-if-so : (t : Bool) (r : ℕ) → cond t (suc r) 0 ≡ 0 → t ≡ false
+pub if-so : (t : Bool) (r : ℕ) → cond t (suc r) 0 ≡ 0 → t ≡ false
 if-so true r e = absurd (omega arith)
 if-so false r e = refl
 
@@ -79,52 +81,71 @@ if-not : (t : Bool) (r : ℕ) → cond t 0 (suc r) ≡ 0 → t ≡ true
 if-not true r e = refl
 if-not false r e = absurd (omega arith)
 
--- what they say together, before any message is looked at
+-- what they say together: of the units and counts, and before any message is looked at
+pub record SoundCore (order : ValueOrder) (core : Core) (s : List ℕ) : Type 0 where
+  pub table : Accepted s
+  pub states : (k : ℕ) → k < unitsOf s → unitInRange order s (core .units) k ≡ true
+
 pub record Passing (order : ValueOrder) (net : Network) (s pool : List ℕ) : Type 0 where
   pub room : poolSize ≤ length pool
-  pub table : Accepted s
-  pub states : (k : ℕ) → k < unitsOf s → unitInRange order s (net .core .units) k ≡ true
+  pub core : SoundCore order (net .core) s
   pub few : net .used ≤ poolCells
 
+-- of the units and counts
+module _ (order : ValueOrder) (core : Core) (s : List ℕ) where
+  pub core-table : (r : ℕ) → r ≡ streamRefusal s → (r ≡ 0 → ⊥) → r ≡ coreRefusal order core s
+  unfolding coreRefusal
+  core-table r e z = rw (← e, or-first r _ z)
+
+  pub core-states : streamRefusal s ≡ 0 → every (unitInRange order s (core .units)) (unitsOf s) ≡ false → 5 ≡ coreRefusal order core s
+  unfolding coreRefusal
+  core-states e f = rw (e, f)
+
+  pub core-good : streamRefusal s ≡ 0 → every (unitInRange order s (core .units)) (unitsOf s) ≡ true → 0 ≡ coreRefusal order core s
+  unfolding coreRefusal
+  core-good e f = rw (e, f)
+
+  pub sound-core : coreRefusal order core s ≡ 0 → SoundCore order core s
+  unfolding coreRefusal Accepted
+  sound-core a = record {
+    table = or-left (streamRefusal s) _ a;
+    states = every-at (unitInRange order s (core .units)) (unitsOf s) (if-not _ 4 (or-right (streamRefusal s) _ a));
+  }
+
+-- and of the network
 module _ (order : ValueOrder) (net : Network) (s pool : List ℕ) where
   pub check-room : length pool < poolSize → 13 ≡ networkRefusal order net s pool
   unfolding networkRefusal
   check-room l = rw (lt-ltb (length pool) poolSize l)
 
   module _ (room : poolSize ≤ length pool) where
-    pub check-table : (r : ℕ) → r ≡ streamRefusal s → (r ≡ 0 → ⊥) → r ≡ networkRefusal order net s pool
+    pub check-core : (r : ℕ) → r ≡ coreRefusal order (net .core) s → (r ≡ 0 → ⊥) → r ≡ networkRefusal order net s pool
     unfolding networkRefusal
-    check-table r e z = rw (le-ltb (length pool) poolSize room, ← e, or-first r _ z)
+    check-core r e z = rw (le-ltb (length pool) poolSize room, ← e, or-first r _ z)
 
-    module _ (table : streamRefusal s ≡ 0) where
-      pub check-states : every (unitInRange order s (net .core .units)) (unitsOf s) ≡ false → 5 ≡ networkRefusal order net s pool
-      unfolding networkRefusal networkInRange
-      check-states e = rw (le-ltb (length pool) poolSize room, table, e)
+    module _ (core : coreRefusal order (net .core) s ≡ 0) where
+      pub check-count : poolCells < net .used → 5 ≡ networkRefusal order net s pool
+      unfolding networkRefusal
+      check-count l = rw (le-ltb (length pool) poolSize room, core, lt-leb (net .used) poolCells l)
 
-      module _ (states : every (unitInRange order s (net .core .units)) (unitsOf s) ≡ true) where
-        pub check-count : poolCells < net .used → 5 ≡ networkRefusal order net s pool
-        unfolding networkRefusal networkInRange
-        check-count l = rw (le-ltb (length pool) poolSize room, table, states, lt-leb (net .used) poolCells l)
+      module _ (few : net .used ≤ poolCells) where
+        pub check-stopped : unitAt (net .core .units) 0 .stopped ≡ true → 12 ≡ networkRefusal order net s pool
+        unfolding networkRefusal
+        check-stopped e = rw (le-ltb (length pool) poolSize room, core, le-leb (net .used) poolCells few, e)
 
-        module _ (few : net .used ≤ poolCells) where
-          pub check-stopped : unitAt (net .core .units) 0 .stopped ≡ true → 12 ≡ networkRefusal order net s pool
-          unfolding networkRefusal networkInRange
-          check-stopped e = rw (le-ltb (length pool) poolSize room, table, states, le-leb (net .used) poolCells few, e)
-
-          pub check-running : unitAt (net .core .units) 0 .stopped ≡ false → 0 ≡ networkRefusal order net s pool
-          unfolding networkRefusal networkInRange
-          check-running e = rw (le-ltb (length pool) poolSize room, table, states, le-leb (net .used) poolCells few, e)
+        pub check-running : unitAt (net .core .units) 0 .stopped ≡ false → 0 ≡ networkRefusal order net s pool
+        unfolding networkRefusal
+        check-running e = rw (le-ltb (length pool) poolSize room, core, le-leb (net .used) poolCells few, e)
 
   pub passing : networkRefusal order net s pool ≡ 0 → Passing order net s pool
-  unfolding networkRefusal networkInRange Accepted
+  unfolding networkRefusal
   passing a =
       let b = or-right (cond (ltb (length pool) poolSize) 13 0) _ a in
-      let c = if-not _ 4 (or-left (cond (every (unitInRange order s (net .core .units)) (unitsOf s) && leb (net .used) poolCells) 0 5) _ (or-right (streamRefusal s) _ b)) in
+      let c = or-right (coreRefusal order (net .core) s) _ b in
       record {
         room = ltb-false (length pool) poolSize (if-so _ 12 (or-left (cond (ltb (length pool) poolSize) 13 0) _ a));
-        table = or-left (streamRefusal s) _ b;
-        states = every-at (unitInRange order s (net .core .units)) (unitsOf s) (and-left _ _ c);
-        few = leb-true (net .used) poolCells (and-right (every (unitInRange order s (net .core .units)) (unitsOf s)) _ c);
+        core = sound-core order (net .core) s (or-left (coreRefusal order (net .core) s) _ b);
+        few = leb-true (net .used) poolCells (if-not _ 4 (or-left (cond (leb (net .used) poolCells) 0 5) _ c));
       }
 
   -- ---- of an echo: a refusal ends it, and without one it goes on
@@ -191,7 +212,32 @@ receiver-range n bytes l = go (isUnit n (getD bytes 2 0)) refl
     go true e = unit-range n (getD bytes 2 0) e
     go false e = (omega arith, l)
 
--- ---- the gathered costs, in front of a buffer of 7,712 bytes or more
+-- ---- the gathered costs: of any unit, whether gathering refuses or not
+
+module _ (s : List ℕ) (own : ℕ) where
+  -- what is gathered fits
+  fits-in : (room : ℕ) → gatherRefusal s own room ≡ 0 → length (gathered s own) ≤ room
+  unfolding gatherRefusal
+  fits-in room e = go (eqb (streamRefusal s) 5) (isValue (unitsOf s) own) e
+    where
+      go : (t v : Bool) → cond t 5 (cond v (orElse (streamRefusal s) (cond (ltb room (length (gathered s own))) 13 0)) 10) ≡ 0 → length (gathered s own) ≤ room
+      go true v e = absurd (omega arith)
+      go false true e = ltb-false room (length (gathered s own)) (if-so _ 12 (or-right (streamRefusal s) _ e))
+      go false false e = absurd (omega arith)
+
+  pub gather-within : (room : ℕ) (g : Length) → g ≡ gatherOf s own room → g .length ≤ room
+  gather-within room g e = rw e (go (eqb (gatherRefusal s own room) 0) refl)
+    where
+      go : (t : Bool) → eqb (gatherRefusal s own room) 0 ≡ t → cond {A = Length} t (record { refusal = 0; length = length (gathered s own) }) (record { refusal = gatherRefusal s own room; length = 0 }) .length ≤ room
+      go true e = fits-in room (eqb-true (gatherRefusal s own room) 0 e)
+      go false e = omega arith
+
+  -- the part of the buffer that is lent
+  pub lent-part : (out : List ℕ) (g : Length) → g ≡ gatherOf s own costsSize → out ≡ gatherInto s own (replicate costsSize 0) → take (g .length - 0) (drop 0 out) ≡ lentOf s own
+  unfolding lentOf
+  lent-part out g e f = rw (sub-zero, e, f)
+
+-- ---- of one of the n units of a good stream, in front of a buffer of 7,712 bytes or more
 
 module _ (s : List ℕ) (ok : Accepted s) (own : ℕ) (first : 1 ≤ own) (last : own ≤ unitsOf s) where
   pub lent-count : (room : ℕ) (g : Length) → costsSize ≤ room → g ≡ gatherOf s own room → g .length ≤ costsSize
@@ -202,6 +248,14 @@ module _ (s : List ℕ) (ok : Accepted s) (own : ℕ) (first : 1 ≤ own) (last 
 
   pub lent-front : (l out : List ℕ) (g : Length) → costsSize ≤ length l → g ≡ gatherOf s own (length l) → out ≡ gatherInto s own l → take (g .length - 0) (drop 0 out) ≡ gathered s own
   lent-front l out g h e f = rw (sub-zero, e, f) (gather-front s ok own first last l h)
+
+  -- so these are what a unit is lent
+  pub lent-is : lentOf s own ≡ gathered s own
+  unfolding lentOf
+  lent-is =
+      let blank : List ℕ = replicate costsSize 0 in
+      let e : length blank ≡ costsSize = length-replicate {A = ℕ} costsSize 0 in
+      sym (ap (λ k. take k (gatherInto s own blank)) (sub-zero (gatherOf s own costsSize .length))) ∙ lent-front blank (gatherInto s own blank) (gatherOf s own costsSize) (omega (arith, e)) (ap (gatherOf s own) (sym e)) refl
 
 -- ---- the step
 
@@ -240,7 +294,7 @@ module _ (order : ValueOrder) (s : List ℕ) (ok : Accepted s) (us : List UnitSt
       (UL.step-kept order own (unitsOf s) (sizesIn s) (gathered s own) room most (unitAt us (pred own)) arrays bytes all))
 
 -- a refusal of it has a number
-step-numbered : (order : ValueOrder) (s : List ℕ) (us : List UnitState) (own : ℕ) (bytes : List ℕ) → Numbered (stepFrom8 order s us own bytes)
+pub step-numbered : (order : ValueOrder) (s : List ℕ) (us : List UnitState) (own : ℕ) (bytes : List ℕ) → Numbered (stepFrom8 order s us own bytes)
 unfolding stepFrom8
 step-numbered order s us own bytes =
     let p = parseFor (unitsOf s) (sizesIn s) own bytes in
@@ -260,14 +314,18 @@ step-told order s own u g n sizes costs bytes before after r units array lent fi
         ap (λ (x : UnitState). stepOut order x own (unitsOf s) (sizesIn s) (gathered s own) bytes (length before)) (sym at)
         ∙ step-is order s (g .table) us own (g .first) (g .last) (rw at (g .state)) bytes (length before) fits
 
+-- it never sends more than 16 packets
+pub few-sent : (order : ValueOrder) (s : List ℕ) (own : ℕ) (was : UnitState) (o : Decision) (r : Outcome) → r ≡ outcomeOf (unitsOf s) (pred own) was o
+    → Whenever (GoodDecision (unitsOf s) (sizesIn s) (viewBy order (instanceOf s) (pred own)) 16) o → r .sent ≤ 16
+few-sent order s own was (U.refused x) r e k = rw e (omega arith)
+few-sent order s own was (U.accepted u m ws) r e k = rw e (k .few)
+
 -- ---- what is stored
 
--- what storing asks: so many cells stay in use, what was sent stands in front of the buffer, and the unit is one of 16
-pub record Storing (left own : ℕ) (r : Outcome) (pool out : List ℕ) : Type 0 where
+-- what storing asks: so many cells stay in use, and what was sent stands in front of the buffer
+pub record Storing (left : ℕ) (r : Outcome) (pool out : List ℕ) : Type 0 where
   pub few : left ≤ poolCells
   pub room : poolSize ≤ length pool
-  pub first : 1 ≤ own
-  pub last : own ≤ 16
   pub sent : r .sent ≤ 16
   pub buffer : sendingSize ≤ length out
 
@@ -279,14 +337,6 @@ abbrev pub storedPool : List ℕ → ℕ → Outcome → List ℕ → List ℕ �
 storedPool cleared left r out pool = cond (leb (left + r .sent) poolCells) (paste cleared (messageSize * left) out (messageSize * r .sent)) pool
 
 module _ (order : ValueOrder) (net : Network) (s pool : List ℕ) (own : ℕ) (was : UnitState) (o : Decision) (r : Outcome) (told : r ≡ outcomeOf (unitsOf s) (pred own) was o) where
-  -- a step never sends more than 16 packets
-  pub few-sent : Whenever (GoodDecision (unitsOf s) (sizesIn s) (viewBy order (instanceOf s) (pred own)) 16) o → r .sent ≤ 16
-  few-sent k = go o told k
-    where
-      go : (o : Decision) → r ≡ outcomeOf (unitsOf s) (pred own) was o → Whenever (GoodDecision (unitsOf s) (sizesIn s) (viewBy order (instanceOf s) (pred own)) 16) o → r .sent ≤ 16
-      go (U.refused x) e k = rw e (omega arith)
-      go (U.accepted u m ws) e k = rw e (k .few)
-
   module _ (left : ℕ) (put : List Packet → List ℕ) where
     pub step-refuses : (r .refusal ≡ 0 → ⊥) → (record { refusal = r .refusal; network = net } ≡ stored net pool left put (unitsOf s) own o .answer) × (pool ≡ stored net pool left put (unitsOf s) own o .pool)
     step-refuses z = go o told
@@ -323,70 +373,86 @@ module _ (order : ValueOrder) (net : Network) (s pool : List ℕ) (own : ℕ) (w
             by-room true = (refl, puts (packets (unitsOf s) (pred own) m) bytes)
             by-room false = (refl, refl)
 
--- ---- a packet goes to its unit, once the checks have passed: n and own as the code has them, and the packet's bytes
+-- ---- a packet goes to its unit, once the units and counts are sound: n and own as the code has them, and the packet's bytes
 
-module _ (order : ValueOrder) (net : Network) (s pool : List ℕ) (checks : Passing order net s pool) (n own : ℕ) (bytes : List ℕ) (units : n ≡ unitsOf s) (named : own ≡ receiverOf n bytes) where
-  own-is : own ≡ receiverOf (unitsOf s) bytes
+module _ (order : ValueOrder) (core : Core) (s : List ℕ) (sound : SoundCore order core s) (n own : ℕ) (bytes : List ℕ) (units : n ≡ unitsOf s) (named : own ≡ receiverOf n bytes) where
+  pub own-is : own ≡ receiverOf (unitsOf s) bytes
   own-is = named ∙ rw units
 
   pub own-first : 1 ≤ own
-  own-first = rw own-is (receiver-range (unitsOf s) bytes (accepted-units s (checks .table) .0) .0)
+  own-first = rw own-is (receiver-range (unitsOf s) bytes (accepted-units s (sound .table) .0) .0)
 
   pub own-last : own ≤ unitsOf s
-  own-last = rw own-is (receiver-range (unitsOf s) bytes (accepted-units s (checks .table) .0) .1)
+  own-last = rw own-is (receiver-range (unitsOf s) bytes (accepted-units s (sound .table) .0) .1)
 
   pub own-most : own ≤ 16
-  own-most = omega (arith, own-last, accepted-units s (checks .table) .1)
+  own-most = omega (arith, own-last, accepted-units s (sound .table) .1)
 
-  module _ (u : UnitState) (at : u ≡ unitAt (net .core .units) (own - 1)) where
-    at-place : unitAt (net .core .units) (pred own) ≡ u
-    at-place = sym (at ∙ ap (λ (k : ℕ). unitAt (net .core .units) k) (sym (pred-sub own)))
+  module _ (u : UnitState) (at : u ≡ unitAt (core .units) (own - 1)) where
+    pub at-place : unitAt (core .units) (pred own) ≡ u
+    at-place = sym (at ∙ ap (λ (k : ℕ). unitAt (core .units) k) (sym (pred-sub own)))
 
-    in-range : unitInRange order s (net .core .units) (pred own) ≡ true
-    in-range = checks .states (pred own) (omega (arith, own-first, own-last, pred-sub own))
+    in-range : unitInRange order s (core .units) (pred own) ≡ true
+    in-range = sound .states (pred own) (omega (arith, own-first, own-last, pred-sub own))
 
     pub stepping : Stepping order s own u
-    stepping = record { table = checks .table; first = own-first; last = own-last; state = rw at-place at in-range }
+    stepping = record { table = sound .table; first = own-first; last = own-last; state = rw at-place at in-range }
 
-    module _ (before out : List ℕ) (r : Outcome) (told : Stepped order s own u bytes before r out) (arrays : SizedUnit u) (all : AllBytes bytes) where
-      abbrev o : Decision
-      o = stepFrom8 order s (net .core .units) own bytes
+    -- its step, as `core` gives it
+    pub hand-told : (before out : List ℕ) (r : Outcome) → sendingSize ≤ length before → r ≡ outcomeOf (unitsOf s) (pred own) u (stepLent order s u own bytes (length before))
+        → out ≡ bytesOf (unitsOf s) (pred own) before (stepLent order s u own bytes (length before)) → Stepped order s own u bytes before r out
+    hand-told before out r fits e f = step-told order s own u stepping (unitsOf s) (sizesIn s) (lentOf s own) bytes before out r refl refl (lent-is s (sound .table) own own-first own-last) fits e f
 
-      gives : r ≡ outcomeOf (unitsOf s) (pred own) u (stepFrom8 order s (net .core .units) own bytes)
-      gives = told .outcome (net .core .units) at-place
+    pub hand-keeps : SizedUnit u → AllBytes bytes → Whenever (GoodDecision (unitsOf s) (sizesIn s) (viewBy order (instanceOf s) (pred own)) 16) (stepFrom8 order s (core .units) own bytes)
+    hand-keeps arrays all = step-keeps order s (sound .table) (core .units) own own-first own-last in-range bytes sendingSize (omega arith) (subst (λ (x : UnitState). SizedUnit x) (sym at-place) arrays) all
 
-      keeps : Whenever (GoodDecision (unitsOf s) (sizesIn s) (viewBy order (instanceOf s) (pred own)) 16) (stepFrom8 order s (net .core .units) own bytes)
-      keeps = step-keeps order s (checks .table) (net .core .units) own own-first own-last in-range bytes sendingSize (omega arith) (subst (λ (x : UnitState). SizedUnit x) (sym at-place) arrays) all
+    pub hand-gives : (before out : List ℕ) (r : Outcome) → Stepped order s own u bytes before r out → r ≡ outcomeOf (unitsOf s) (pred own) u (stepFrom8 order s (core .units) own bytes)
+    hand-gives before out r told = told .outcome (core .units) at-place
 
-      pub hand-sent : r .sent ≤ 16
-      hand-sent = few-sent order net s pool own u o r gives keeps
+    pub hand-sent : (before out : List ℕ) (r : Outcome) → Stepped order s own u bytes before r out → SizedUnit u → AllBytes bytes → r .sent ≤ 16
+    hand-sent before out r told arrays all = few-sent order s own u (stepFrom8 order s (core .units) own bytes) r (hand-gives before out r told) (hand-keeps arrays all)
 
-      module _ (left : ℕ) (put : List Packet → List ℕ) where
-        refuses : (r .refusal ≡ 0 → ⊥) → (record { refusal = r .refusal; network = net } ≡ stored net pool left put (unitsOf s) own o .answer) × (pool ≡ stored net pool left put (unitsOf s) own o .pool)
-        refuses z = step-refuses order net s pool own u o r gives left put z
+-- ---- a packet goes to a unit of the network, once all checks have passed
 
-        stores : r .refusal ≡ 0 → (cleared : List ℕ) → ((ps : List Packet) → take (messageSize * length ps) out ≡ encodeAll ps → paste cleared (messageSize * left) out (messageSize * length ps) ≡ put ps)
-            → (storedAnswer net left own r ≡ stored net pool left put (unitsOf s) own o .answer) × (storedPool cleared left r out pool ≡ stored net pool left put (unitsOf s) own o .pool)
-        stores z cleared puts = step-stores order net s pool own u o r gives left put z (step-numbered order s (net .core .units) own bytes) keeps cleared out before (told .buffer (net .core .units) at-place) puts
+module _ (order : ValueOrder) (net : Network) (s pool : List ℕ) (checks : Passing order net s pool) (n own : ℕ) (bytes : List ℕ) (units : n ≡ unitsOf s) (named : own ≡ receiverOf n bytes)
+    (u : UnitState) (at : u ≡ unitAt (net .core .units) (own - 1)) (before out : List ℕ) (r : Outcome) (told : Stepped order s own u bytes before r out) (arrays : SizedUnit u) (all : AllBytes bytes) where
+  abbrev o : Decision
+  o = stepFrom8 order s (net .core .units) own bytes
 
-      -- of an echo
-      pub hear-refuses : (r .refusal ≡ 0 → ⊥) → (record { refusal = r .refusal; network = net } ≡ echoBy order 0 net s pool bytes .answer) × (pool ≡ echoBy order 0 net s pool bytes .pool)
-      hear-refuses z = rw (← own-is) (refuses (net .used) (λ (ps : List Packet). poolWith (net .used) ps pool) z)
+  receives : own ≡ receiverOf (unitsOf s) bytes
+  receives = own-is order (net .core) s (checks .core) n own bytes units named
 
-      pub hear-stores : r .refusal ≡ 0 → (storedAnswer net (net .used) own r ≡ echoBy order 0 net s pool bytes .answer) × (storedPool pool (net .used) r out pool ≡ echoBy order 0 net s pool bytes .pool)
-      hear-stores z = rw (← own-is) (stores (net .used) (λ (ps : List Packet). poolWith (net .used) ps pool) z pool (λ ps e. pool-added pool (net .used) ps out e))
+  gives : r ≡ outcomeOf (unitsOf s) (pred own) u (stepFrom8 order s (net .core .units) own bytes)
+  gives = hand-gives order (net .core) s (checks .core) n own bytes units named u at before out r told
 
-      -- of a delivery, from a cell that holds these bytes
-      module _ (cell : ℕ) (here : cell < net .used) (stands : bytes ≡ cellOf pool cell) where
-        pub hand-refuses : (r .refusal ≡ 0 → ⊥) → (record { refusal = r .refusal; network = net } ≡ deliverBy order 0 net s pool cell .answer) × (pool ≡ deliverBy order 0 net s pool cell .pool)
-        hand-refuses z = rw (← stands, ← own-is) (refuses (net .used - 1) (λ (ps : List Packet). poolAfter (net .used) cell ps pool) z)
+  module _ (left : ℕ) (put : List Packet → List ℕ) where
+    refuses : (r .refusal ≡ 0 → ⊥) → (record { refusal = r .refusal; network = net } ≡ stored net pool left put (unitsOf s) own o .answer) × (pool ≡ stored net pool left put (unitsOf s) own o .pool)
+    refuses z = step-refuses order net s pool own u o r gives left put z
 
-        pub hand-stores : r .refusal ≡ 0 → (storedAnswer net (net .used - 1) own r ≡ deliverBy order 0 net s pool cell .answer)
-            × (storedPool (closeGap pool (messageSize * cell) (messageSize * net .used)) (net .used - 1) r out pool ≡ deliverBy order 0 net s pool cell .pool)
-        hand-stores z =
-            rw (← stands, ← own-is)
-            (stores (net .used - 1) (λ (ps : List Packet). poolAfter (net .used) cell ps pool) z (closeGap pool (messageSize * cell) (messageSize * net .used))
-            (λ ps e. pool-stored pool (net .used) cell here (omega (arith, checks .room, checks .few)) ps out e))
+    stores : r .refusal ≡ 0 → (cleared : List ℕ) → ((ps : List Packet) → take (messageSize * length ps) out ≡ encodeAll ps → paste cleared (messageSize * left) out (messageSize * length ps) ≡ put ps)
+        → (storedAnswer net left own r ≡ stored net pool left put (unitsOf s) own o .answer) × (storedPool cleared left r out pool ≡ stored net pool left put (unitsOf s) own o .pool)
+    stores z cleared puts =
+        step-stores order net s pool own u o r gives left put z (step-numbered order s (net .core .units) own bytes) (hand-keeps order (net .core) s (checks .core) n own bytes units named u at arrays all) cleared out before
+        (told .buffer (net .core .units) (at-place order (net .core) s (checks .core) n own bytes units named u at)) puts
+
+  -- of an echo
+  pub hear-refuses : (r .refusal ≡ 0 → ⊥) → (record { refusal = r .refusal; network = net } ≡ echoBy order 0 net s pool bytes .answer) × (pool ≡ echoBy order 0 net s pool bytes .pool)
+  hear-refuses z = rw (← receives) (refuses (net .used) (λ (ps : List Packet). poolWith (net .used) ps pool) z)
+
+  pub hear-stores : r .refusal ≡ 0 → (storedAnswer net (net .used) own r ≡ echoBy order 0 net s pool bytes .answer) × (storedPool pool (net .used) r out pool ≡ echoBy order 0 net s pool bytes .pool)
+  hear-stores z = rw (← receives) (stores (net .used) (λ (ps : List Packet). poolWith (net .used) ps pool) z pool (λ ps e. pool-added pool (net .used) ps out e))
+
+  -- of a delivery, from a cell that holds these bytes
+  module _ (cell : ℕ) (here : cell < net .used) (stands : bytes ≡ cellOf pool cell) where
+    pub hand-refuses : (r .refusal ≡ 0 → ⊥) → (record { refusal = r .refusal; network = net } ≡ deliverBy order 0 net s pool cell .answer) × (pool ≡ deliverBy order 0 net s pool cell .pool)
+    hand-refuses z = rw (← stands, ← receives) (refuses (net .used - 1) (λ (ps : List Packet). poolAfter (net .used) cell ps pool) z)
+
+    pub hand-stores : r .refusal ≡ 0 → (storedAnswer net (net .used - 1) own r ≡ deliverBy order 0 net s pool cell .answer)
+        × (storedPool (closeGap pool (messageSize * cell) (messageSize * net .used)) (net .used - 1) r out pool ≡ deliverBy order 0 net s pool cell .pool)
+    hand-stores z =
+        rw (← stands, ← receives)
+        (stores (net .used - 1) (λ (ps : List Packet). poolAfter (net .used) cell ps pool) z (closeGap pool (messageSize * cell) (messageSize * net .used))
+        (λ ps e. pool-stored pool (net .used) cell here (omega (arith, checks .room, checks .few)) ps out e))
 
 -- ---- making
 
@@ -414,19 +480,16 @@ module _ (order : ValueOrder) (s pool : List ℕ) where
   make-refuses (suc r) e z = rw (← e) (refl, refl)
 
   -- unit 1 assigns
-  pub first-step : Accepted s → (room : ℕ) → sendingSize ≤ room → makeOut order 1 (unitsOf s) (sizesIn s) (gathered s 1) room ≡ assign (viewBy order (instanceOf s) 0) fresh
+  pub first-step : Accepted s → (room : ℕ) → sendingSize ≤ room → firstLent order s room ≡ assign (viewBy order (instanceOf s) 0) fresh
   unfolding makeOut UC.makeRefusal UC.seatRefusal
   first-step ok room fits =
       let last : 1 ≤ unitsOf s = accepted-units s ok .0 in
       let lent = gathered-good s ok 1 (omega arith) last (sizesIn s) (accepted-sizes-first s ok) in
-      rw (accepted-sizes-good s ok, le-leb 1 (unitsOf s) last, lent, le-ltb room sendingSize fits, gathered-view order s ok 1 (omega arith) last (sizesIn s) (accepted-sizes-first s ok))
+      rw (lent-is s ok 1 (omega arith) last, accepted-sizes-good s ok, le-leb 1 (unitsOf s) last, lent, le-ltb room sendingSize fits, gathered-view order s ok 1 (omega arith) last (sizesIn s) (accepted-sizes-first s ok))
 
 -- the network as making leaves it, by the outcome of unit 1's making
 abbrev pub begunAnswer : Outcome → Answer
-begunAnswer r = record {
-  refusal = 0;
-  network = record { core = record { units = set (replicate 16 fresh) 0 (r .unit); records = plus (r .records) zeroCount; deliveries = zeroCount }; used = r .sent };
-}
+begunAnswer r = record { refusal = 0; network = record { core = coreBegun (r .unit) (r .records); used = r .sent } }
 
 module _ (order : ValueOrder) (s pool : List ℕ) (r : Outcome) (out : List ℕ) (told : r ≡ outcomeOf (unitsOf s) 0 noUnit (assign (viewBy order (instanceOf s) 0) fresh))
     (sent : out ≡ bytesOf (unitsOf s) 0 pool (assign (viewBy order (instanceOf s) 0) fresh)) where

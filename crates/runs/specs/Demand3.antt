@@ -2,18 +2,18 @@
 -- the contracts of `network::make_by` and `network::deliver_by` cite, for either order of values. 02, job 9: "in a run, the making and every delivery ..
 -- name the same one". Its proof is `demand3` of Theorem.antt. Assumes nothing.
 --     Shed, shedAfter, runBytes     the run on bytes: the network and the pool after making and a list of cells
---     acceptedIn, handedIn          how many deliveries of a list are accepted, and the bytes that they handed over
 --     over, reportOf                whether the run has ended, and what it then reports
 --     Follows                       what the bytes have to do with the run over messages (Run.antt)
 --     Served                        what holds of one run
 --     Demand3                       two runs of one table
-use Rattle.base.specs.Library.{ℕ, _+_, _*_, _-_, _≤_, _≡_, _⊎_, Bool, true, false, cond, List, [], _∷_, _++_, map, eqb, length, take}
+use Rattle.base.specs.Library.{ℕ, _+_, _*_, _-_, _≤_, _≡_, _⊎_, Bool, true, false, cond, List, [], _∷_, map, length, take}
 use Rattle.base.specs.Limits.{messageSize}
 use Rattle.costs.specs.declared.ValueOrder.{ValueOrder}
 use Rattle.costs.specs.{Instance.Instance, Instance.instanceOf, Bounds.Reported, Bounds.N, Least.LeastFirst, Least.Padded}
 use Rattle.message.specs.Message.{Packet}
 use Rattle.rules.specs.{Send.packetBytes, Send.encodeAll, Units.unitAt, Units.Distinct}
 use Rattle.runs.specs.{declared.Network.Network, Count.valueOf, Pool.cellOf, Run.History, Run.run, Run.written, Calls.Result, Calls.makeOf, Calls.deliverOf}
+use Rattle.runs.specs.Deliveries.{Delivery, deliverAll, acceptedIn, handedIn}
 
 -- ---- the run on bytes
 
@@ -37,27 +37,17 @@ shedMade order stream pool = shedOf (makeOf order stream pool)
 abbrev pub shedAfter : ValueOrder → List ℕ → Shed → ℕ → Shed
 shedAfter order stream S cell = shedOf (deliverOf order (S .network) stream (S .pool) cell)
 
-unfoldable pub deliverAll : ValueOrder → List ℕ → Shed → List ℕ → Shed
-deliverAll order stream S [] = S
-deliverAll order stream S (c ∷ cs) = deliverAll order stream (shedAfter order stream S c) cs
-
--- 01: "A run is a list of deliveries to a shed as making left it."
-unfoldable pub runBytes : ValueOrder → List ℕ → List ℕ → List ℕ → Shed
-runBytes order stream pool cells = deliverAll order stream (shedMade order stream pool) cells
-
 -- the refusal of the next delivery, 0 where it is accepted
 abbrev pub refusalAt : ValueOrder → List ℕ → Shed → ℕ → ℕ
 refusalAt order stream S cell = deliverOf order (S .network) stream (S .pool) cell .answer .refusal
 
--- 01: "the others are accepted": how many of a list are
-unfoldable pub acceptedIn : ValueOrder → List ℕ → Shed → List ℕ → ℕ
-acceptedIn order stream S [] = 0
-acceptedIn order stream S (c ∷ cs) = cond (eqb (refusalAt order stream S c) 0) 1 0 + acceptedIn order stream (shedAfter order stream S c) cs
+-- the delivery of a cell, for a list of them (Deliveries.antt)
+abbrev pub delivery : ValueOrder → List ℕ → Delivery Shed
+delivery order stream = record { refusal = refusalAt order stream; after = shedAfter order stream; bytes = λ (S : Shed) (cell : ℕ). cellOf (S .pool) cell }
 
--- and what they handed over: the 64 bytes at the cell, for each
-unfoldable pub handedIn : ValueOrder → List ℕ → Shed → List ℕ → List (List ℕ)
-handedIn order stream S [] = []
-handedIn order stream S (c ∷ cs) = cond (eqb (refusalAt order stream S c) 0) (cellOf (S .pool) c ∷ []) [] ++ handedIn order stream (shedAfter order stream S c) cs
+-- 01: "A run is a list of deliveries to a shed as making left it."
+unfoldable pub runBytes : ValueOrder → List ℕ → List ℕ → List ℕ → Shed
+runBytes order stream pool cells = deliverAll (delivery order stream) (shedMade order stream pool) cells
 
 -- ---- its end
 
@@ -105,8 +95,8 @@ pub record Served (order : ValueOrder) (stream pool cells : List ℕ) : Type 0 w
   -- no beginning is written twice
   pub distinct : Distinct (written order stream cells)
   -- at most (3n - 1) × N deliveries are accepted, and with that many box 1 has stopped
-  pub bounded : acceptedIn order stream (shedMade order stream pool) cells ≤ most (instanceOf stream)
-  pub ends : acceptedIn order stream (shedMade order stream pool) cells ≡ most (instanceOf stream) → over (runBytes order stream pool cells) ≡ true
+  pub bounded : acceptedIn (delivery order stream) (shedMade order stream pool) cells ≤ most (instanceOf stream)
+  pub ends : acceptedIn (delivery order stream) (shedMade order stream pool) cells ≡ most (instanceOf stream) → over (runBytes order stream pool cells) ≡ true
   -- until then a message waits
   pub waits : over (runBytes order stream pool cells) ≡ false → 1 ≤ runBytes order stream pool cells .network .used
   -- and one of them can be delivered: the pool never refuses all by 14
@@ -119,11 +109,11 @@ pub record Served (order : ValueOrder) (stream pool cells : List ℕ) : Type 0 w
   -- what accepted deliveries handed over was sent, every message at most once
   pub handed : (t : Packet → Bool) → times t (run order (instanceOf stream) cells .handed) + times t (run order (instanceOf stream) cells .waiting) ≡ times t (run order (instanceOf stream) cells .sent)
   -- these messages, in this order, are the bytes that were handed over
-  pub taken : handedIn order stream (shedMade order stream pool) cells ≡ map packetBytes (run order (instanceOf stream) cells .handed)
+  pub taken : handedIn (delivery order stream) (shedMade order stream pool) cells ≡ map packetBytes (run order (instanceOf stream) cells .handed)
   -- the counts are exact
   pub records : valueOf (runBytes order stream pool cells .network .core .records) ≡ length (written order stream cells)
-  pub deliveries : valueOf (runBytes order stream pool cells .network .core .deliveries) ≡ acceptedIn order stream (shedMade order stream pool) cells
-  pub accepted : acceptedIn order stream (shedMade order stream pool) cells ≡ length (run order (instanceOf stream) cells .handed)
+  pub deliveries : valueOf (runBytes order stream pool cells .network .core .deliveries) ≡ acceptedIn (delivery order stream) (shedMade order stream pool) cells
+  pub accepted : acceptedIn (delivery order stream) (shedMade order stream pool) cells ≡ length (run order (instanceOf stream) cells .handed)
   -- no unit refuses another's packet: only 12 (after the stop), 14 and 15 are ever given
   pub honest : (cell : ℕ) → (refusalAt order stream (runBytes order stream pool cells) cell ≡ 0) ⊎ Honest (over (runBytes order stream pool cells)) (refusalAt order stream (runBytes order stream pool cells) cell)
 

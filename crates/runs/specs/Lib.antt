@@ -4,6 +4,7 @@ pub mod Count
 pub mod Digits
 pub mod Run
 pub mod Calls
+pub mod Deliveries
 pub mod Demand3
 pub mod Pool
 pub mod Proof

@@ -1,9 +1,9 @@
 -- A network of units over messages: making, a delivery, and a run, fed only the table and the list of cells. No byte is met here.
 -- 01, 'Runs, for demand 3': "A run is a list of deliveries to a shed as making left it." Assumes nothing.
 --     Pool                           what a pool is: the message at a cell, what is left without it, and with others put in
---     HistoryOf, byDecision, deliverIn    what has happened so far; a packet handed to its unit; a delivery, over any pool
+--     HistoryOf, byDecision, deliverIn, runIn   what has happened so far; a packet handed to its unit; a delivery and a list of them, over any pool
 --     cells                          01's pool: the messages that wait, one after the other
---     begin, handOver, run           making, one delivery, and a list of them, over 01's pool
+--     begin, handOver, run           making, one delivery, and a run, over 01's pool
 --     written                        the records that a run writes
 use Rattle.base.specs.Library.{ℕ, suc, Bool, cond, List, [], _∷_, _++_, Option, none, some, leb, length, set, take, drop, replicate}
 use Rattle.base.specs.Limits.{poolCells}
@@ -76,6 +76,11 @@ module _ {W : Type 0} (L : Pool W) where
   abbrev pub deliverIn : ValueOrder → Instance → HistoryOf W → ℕ → DeliveryOf W
   deliverIn order I H cell = cond (stopped H) (refusedBy 12) (takeCell order I H cell (L .at (H .waiting) cell))
 
+  -- 01: "A run is a list of deliveries"
+  unfoldable pub runIn : ValueOrder → Instance → HistoryOf W → List ℕ → HistoryOf W
+  runIn order I H [] = H
+  runIn order I H (c ∷ cs) = runIn order I (onward H (deliverIn order I H c)) cs
+
 -- ---- 01's pool: "The pool is 1,024 cells"
 
 abbrev pub firstOf : List Packet → Option Packet
@@ -98,15 +103,11 @@ History = HistoryOf (List Packet)
 unfoldable pub begin : ValueOrder → Instance → History
 begin order I = begunWith cells I (assign (viewBy order I 0) fresh)
 
-unfoldable pub handOver : ValueOrder → Instance → History → ℕ → DeliveryOf (List Packet)
+abbrev pub handOver : ValueOrder → Instance → History → ℕ → DeliveryOf (List Packet)
 handOver order I H cell = deliverIn cells order I H cell
 
-unfoldable pub runFrom : ValueOrder → Instance → History → List ℕ → History
-runFrom order I H [] = H
-runFrom order I H (c ∷ cs) = runFrom order I (onward H (handOver order I H c)) cs
-
 unfoldable pub run : ValueOrder → Instance → List ℕ → History
-run order I cs = runFrom order I (begin order I) cs
+run order I cs = runIn cells order I (begin order I) cs
 
 -- 01: "Which ones a run writes, those of making included, follows from the rules above, fed only the table and the list."
 abbrev pub written : ValueOrder → List ℕ → List ℕ → List Written

@@ -1,18 +1,16 @@
 -- DEMAND 3, proved (`demand3`): the statement is Demand3.antt's. A run keeps the invariant (Proof), and so its parts are read off the machine's theorem.
--- In order: a list of deliveries, from any point; one run, and that it can be brought to its end (`finishes`, `oldest-ends`); two runs of one table.
+-- In order: one run, and that it can be brought to its end (`finishes`, `oldest-ends`); two runs of one table.
 -- Assumes nothing.
 use Prim.Native.Nat.{ℕ, suc, _≤_}
 use mathlib.Core.Path.{_≡_, refl, sym, ap, _∙_, subst}
-use mathlib.Core.Logic.{_⊎_, inl, inr}
-use mathlib.Core.Bool.{Bool, true, false, cond}
-use mathlib.Core.List.{List, [], _∷_, _++_, append-nil, append-assoc, map}
+use mathlib.Core.Logic.{_⊎_}
+use mathlib.Core.Bool.{true, false}
+use mathlib.Core.List.{List, [], _∷_, _++_, map}
 use native.Mathlib.Omega.{arith}
-use lib.Dec.{eqb}
-use lib.ListN.{length, length-append, length-map, replicate}
+use lib.ListN.{length, replicate}
 use Rattle.base.specs.Limits.{poolCells}
 use Rattle.base.specs.Members.{In}
 use Rattle.base.specs.Members.Laws.{not-in-nil}
-use borrow.Author.Tests.{eq-eqb}
 use Rattle.table.specs.Stream.{Accepted}
 use Rattle.costs.specs.declared.ValueOrder.{ValueOrder}
 use Rattle.costs.specs.Least.{LeastFirst, Padded}
@@ -29,6 +27,7 @@ use Rattle.rules.specs.Units.{unitAt}
 use Rattle.rules.specs.Laws.Units.{best-padded}
 use Rattle.protocol.specs.Machine as M
 use Rattle.protocol.specs.Machine.{Network}
+use Rattle.protocol.specs.Problem.{Problem}
 use Rattle.protocol.specs.Demand3 as D
 use Rattle.protocol.specs.Theorem as T
 use Rattle.protocol.specs.Oldest.Run as O
@@ -36,47 +35,16 @@ use Rattle.protocol.specs.Simulation.Units.{read-length}
 use Rattle.protocol.specs.Simulation.First.{reports-first}
 use Rattle.protocol.specs.Simulation.Table.{laws}
 use Rattle.runs.specs.Count.{valueOf}
-use Rattle.runs.specs.Pool.{cellOf}
 use Rattle.runs.specs.Run as R
-use Rattle.runs.specs.Run.{History, DeliveryOf, stopped, onward, handOver, runFrom, run}
+use Rattle.runs.specs.Run.{DeliveryOf, cells, handOver, runIn, run}
 use Rattle.runs.specs.Calls.{deliverOf}
-use Rattle.runs.specs.Demand3.{Shed, shedOf, shedMade, shedAfter, deliverAll, runBytes, refusalAt, acceptedIn, handedIn, Made, over, reportOf, most, Honest, Served, Demand3}
-use Rattle.runs.specs.Proof.Stands.{numberOf}
+use Rattle.runs.specs.Deliveries.{deliverAll, acceptedIn, handedIn}
+use Rattle.runs.specs.Deliveries.Laws.{goes-on}
+use Rattle.runs.specs.Demand3.{shedOf, shedMade, shedAfter, runBytes, refusalAt, delivery, Made, over, reportOf, most, Honest, Served, Demand3}
+use Rattle.runs.specs.Proof.Follow as F
 use Rattle.runs.specs.Proof.Invariant.{Invariant, deliveries-exact}
 use Rattle.runs.specs.Proof.Making.{none-handed, accepted-table, make-invariant}
-use Rattle.runs.specs.Proof.Delivery.{HonestDelivery, Delivers, after-stop, delivers}
-
--- ---- a list of deliveries, from any point of a run
-
-accepted-length : (order : ValueOrder) (s : List ℕ) (S : Shed) (cs : List ℕ) → acceptedIn order s S cs ≡ length (handedIn order s S cs)
-unfolding acceptedIn handedIn
-accepted-length order s S [] = refl
-accepted-length order s S (c ∷ cs) =
-    let x : List (List ℕ) = cond (eqb (refusalAt order s S c) 0) (cellOf (S .pool) c ∷ []) [] in
-    omega (arith, one (eqb (refusalAt order s S c) 0), accepted-length order s (shedAfter order s S c) cs, length-append (cond (eqb (refusalAt order s S c) 0) (cellOf (S .pool) c ∷ []) []) (handedIn order s (shedAfter order s S c) cs))
-  where
-    one : (t : Bool) → length (cond t (cellOf (S .pool) c ∷ []) []) ≡ cond t 1 0
-    one true = refl
-    one false = refl
-
-module _ (order : ValueOrder) (s : List ℕ) (ok : Accepted s) where
-  -- what is kept, and what was handed over
-  pub record Ran (S : Shed) (H : History) (A : Network) (cs : List ℕ) : Type 0 where
-    pub invariant : Invariant order s ok (deliverAll order s S cs) (runFrom order (instanceOf s) H cs) (M.run (problemBy order (instanceOf s)) poolCells A cs)
-    pub bytes : map packetBytes (H .handed) ++ handedIn order s S cs ≡ map packetBytes (runFrom order (instanceOf s) H cs .handed)
-
-  pub ran : (cs : List ℕ) (S : Shed) (H : History) (A : Network) → Invariant order s ok S H A → Ran S H A cs
-  unfolding deliverAll runFrom handedIn
-  ran [] S H A i = record { invariant = i; bytes = append-nil (map packetBytes (H .handed)) }
-  ran (c ∷ cs) S H A i =
-      let d = delivers order s ok S H A i c in
-      let r = ran cs (shedAfter order s S c) (onward H (handOver order (instanceOf s) H c)) (M.deliver (problemBy order (instanceOf s)) poolCells A c) (d .next) in
-      record {
-        invariant = r .invariant;
-        bytes =
-            sym (append-assoc (map packetBytes (H .handed)) (cond (eqb (refusalAt order s S c) 0) (cellOf (S .pool) c ∷ []) []) (handedIn order s (shedAfter order s S c) cs))
-            ∙ ap (λ l. l ++ handedIn order s (shedAfter order s S c) cs) (d .bytes) ∙ r .bytes;
-      }
+use Rattle.runs.specs.Proof.Delivery.{Delivers, after-stop, delivers}
 
 -- ---- one run
 
@@ -84,27 +52,38 @@ module _ (order : ValueOrder) (s pool : List ℕ) (made : Made order s pool) whe
   abbrev pub ok : Accepted s
   ok = accepted-table order s pool made
 
-  all : (cs : List ℕ) → Ran order s ok (shedMade order s pool) (R.begin order (instanceOf s)) (M.make (problemBy order (instanceOf s))) cs
-  all cs = ran order s ok cs (shedMade order s pool) (R.begin order (instanceOf s)) (M.make (problemBy order (instanceOf s))) (make-invariant order s pool made)
+  abbrev P : Problem
+  P = problemBy order (instanceOf s)
+
+  each : F.Each (delivery order s) cells order (instanceOf s) (M.deliver P poolCells) Honest (Invariant order s ok)
+  each S H A i c = delivers order s ok S H A i c
 
   abbrev pub machine : List ℕ → Network
-  machine cs = M.run (problemBy order (instanceOf s)) poolCells (M.make (problemBy order (instanceOf s))) cs
+  machine cs = M.run P poolCells (M.make P) cs
+
+  -- the machine moves along
+  moves : (cs : List ℕ) (A : Network) → F.moved (delivery order s) cells order (instanceOf s) (M.deliver P poolCells) Honest (Invariant order s ok) A cs ≡ M.run P poolCells A cs
+  moves [] A = refl
+  moves (c ∷ cs) A = moves cs (M.deliver P poolCells A c)
 
   -- at each point of the run
   pub invariant : (cs : List ℕ) → Invariant order s ok (runBytes order s pool cs) (run order (instanceOf s) cs) (machine cs)
   unfolding runBytes run
-  invariant cs = all cs .invariant
+  invariant cs =
+      subst (Invariant order s ok (deliverAll (delivery order s) (shedMade order s pool) cs) (runIn cells order (instanceOf s) (R.begin order (instanceOf s)) cs)) (moves cs (M.make P))
+      (F.kept (delivery order s) cells order (instanceOf s) (M.deliver P poolCells) Honest (Invariant order s ok) each (shedMade order s pool) (R.begin order (instanceOf s)) (M.make P) (make-invariant order s pool made) (none-handed order s) cs)
 
-  taken : (cs : List ℕ) → handedIn order s (shedMade order s pool) cs ≡ map packetBytes (run order (instanceOf s) cs .handed)
+  taken : (cs : List ℕ) → handedIn (delivery order s) (shedMade order s pool) cs ≡ map packetBytes (run order (instanceOf s) cs .handed)
   unfolding run
-  taken cs = ap (λ l. map packetBytes l ++ handedIn order s (shedMade order s pool) cs) (sym (none-handed order s)) ∙ all cs .bytes
+  taken = F.taken (delivery order s) cells order (instanceOf s) (M.deliver P poolCells) Honest (Invariant order s ok) each (shedMade order s pool) (R.begin order (instanceOf s)) (M.make P) (make-invariant order s pool made) (none-handed order s)
 
-  counted : (cs : List ℕ) → acceptedIn order s (shedMade order s pool) cs ≡ length (run order (instanceOf s) cs .handed)
-  counted cs = accepted-length order s (shedMade order s pool) cs ∙ ap length (taken cs) ∙ length-map (run order (instanceOf s) cs .handed) packetBytes
+  counted : (cs : List ℕ) → acceptedIn (delivery order s) (shedMade order s pool) cs ≡ length (run order (instanceOf s) cs .handed)
+  unfolding run
+  counted = F.counted (delivery order s) cells order (instanceOf s) (M.deliver P poolCells) Honest (Invariant order s ok) each (shedMade order s pool) (R.begin order (instanceOf s)) (M.make P) (make-invariant order s pool made) (none-handed order s)
 
   next : (cs : List ℕ) (c : ℕ) → Delivers order s ok (runBytes order s pool cs) (run order (instanceOf s) cs) (machine cs) (invariant cs) c (handOver order (instanceOf s) (run order (instanceOf s) cs) c)
       (deliverOf order (runBytes order s pool cs .network) s (runBytes order s pool cs .pool) c)
-  next cs c = delivers order s ok (runBytes order s pool cs) (run order (instanceOf s) cs) (machine cs) (invariant cs) c
+  next cs c = each (runBytes order s pool cs) (run order (instanceOf s) cs) (machine cs) (invariant cs) c
 
   -- ---- unit 1, on bytes, over messages and in the machine
 
@@ -118,13 +97,8 @@ module _ (order : ValueOrder) (s pool : List ℕ) (made : Made order s pool) whe
 
   honest-next : (cs : List ℕ) (c : ℕ) → (refusalAt order s (runBytes order s pool cs) c ≡ 0) ⊎ Honest (over (runBytes order s pool cs)) (refusalAt order s (runBytes order s pool cs) c)
   honest-next cs c =
-      subst (λ r. (r ≡ 0) ⊎ Honest (over (runBytes order s pool cs)) r) (sym (next cs c .number))
-      (subst (λ (u : UnitState). (numberOf (handOver order (instanceOf s) (run order (instanceOf s) cs) c) ≡ 0) ⊎ Honest (u .stopped) (numberOf (handOver order (instanceOf s) (run order (instanceOf s) cs) c))) (sym (unit-is cs))
-      (go (handOver order (instanceOf s) (run order (instanceOf s) cs) c) (next cs c .honest)))
-    where
-      go : (d : DeliveryOf (List Packet)) → HonestDelivery (run order (instanceOf s) cs) d → (numberOf d ≡ 0) ⊎ Honest (stopped (run order (instanceOf s) cs)) (numberOf d)
-      go (R.refusedBy r) h = inr h
-      go (R.delivered K) h = inl refl
+      subst (λ (u : UnitState). (refusalAt order s (runBytes order s pool cs) c ≡ 0) ⊎ Honest (u .stopped) (refusalAt order s (runBytes order s pool cs) c)) (sym (unit-is cs))
+      (F.honest-next (delivery order s) cells order (instanceOf s) (M.deliver P poolCells) Honest (Invariant order s ok) each (runBytes order s pool cs) (run order (instanceOf s) cs) (machine cs) (invariant cs) c)
 
   -- one that the machine accepts is accepted
   accepted-by : (cs : List ℕ) (c : ℕ) → M.deliver (problemBy order (instanceOf s)) poolCells (machine cs) c .accepted ≡ suc (machine cs .accepted) → refusalAt order s (runBytes order s pool cs) c ≡ 0
@@ -139,17 +113,11 @@ module _ (order : ValueOrder) (s pool : List ℕ) (made : Made order s pool) whe
   pub one-counted : (cs : List ℕ) (c : ℕ) → refusalAt order s (runBytes order s pool cs) c ≡ 0
       → valueOf (shedAfter order s (runBytes order s pool cs) c .network .core .deliveries) ≡ suc (valueOf (runBytes order s pool cs .network .core .deliveries))
   one-counted cs c e =
-      let x = next cs c in
-      let h : List (List ℕ) = map packetBytes (run order (instanceOf s) cs .handed) in
-      let one = ap (λ t. length (h ++ cond t (cellOf (runBytes order s pool cs .pool) c ∷ []) [])) (sym (eq-eqb (refusalAt order s (runBytes order s pool cs) c) 0 e)) ∙ ap length (x .bytes) in
       omega (
         arith,
-        deliveries-exact order s ok _ _ _ (x .next),
+        deliveries-exact order s ok _ _ _ (next cs c .next),
         deliveries-exact order s ok _ _ _ (invariant cs),
-        one,
-        length-append h (cellOf (runBytes order s pool cs .pool) c ∷ []),
-        length-map (run order (instanceOf s) cs .handed) packetBytes,
-        length-map (onward (run order (instanceOf s) cs) (handOver order (instanceOf s) (run order (instanceOf s) cs) c) .handed) packetBytes,
+        F.one-more (delivery order s) cells order (instanceOf s) (M.deliver P poolCells) Honest (Invariant order s ok) each (runBytes order s pool cs) (run order (instanceOf s) cs) (machine cs) (invariant cs) c e,
       )
 
   -- once box 1 has stopped every delivery is refused by 12, and changes nothing
@@ -205,9 +173,8 @@ module _ (order : ValueOrder) (s pool : List ℕ) (made : Made order s pool) whe
 
   -- every list of cells goes on to one after which box 1 has stopped
   pub finishes : (cs : List ℕ) → (ds : List ℕ) × (over (runBytes order s pool (cs ++ ds)) ≡ true)
-  finishes cs =
-      let f = T.finishes (problemBy order (instanceOf s)) (laws order s ok) (sound-of s ok .n1) poolCells (T.enough-room (problemBy order (instanceOf s)) (laws order s ok) (sound-of s ok .n1) (sound-of s ok .n16)) cs in
-      (f .0, over-is (cs ++ f .0) ∙ f .1)
+  unfolding runBytes
+  finishes = goes-on (delivery order s) over (shedMade order s pool) (most (instanceOf s)) (λ cs. served cs .bounded) (λ cs. served cs .ends) (λ cs. served cs .progress)
 
   -- Oldest first, cell 0 each time, is accepted until box 1 stops, and brings the run to its end.
   pub oldest-accepted : (m : ℕ) → over (runBytes order s pool (replicate m 0)) ≡ false → refusalAt order s (runBytes order s pool (replicate m 0)) 0 ≡ 0

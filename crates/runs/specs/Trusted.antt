@@ -99,11 +99,11 @@ module _ (order : ValueOrder) (net : Network) (s pool : List ℕ) (cell : ℕ) (
 
     steps : Stepped order s own u (take m (drop (messageSize * cell) pool)) before r out
     steps =
-        trusted-told order s own u (net .core .units) (ap (λ (k : ℕ). unitAt (net .core .units) k) (pred-sub own) ∙ sym at) (stepping order net s pool (checks .passed) n own (take m (drop (messageSize * cell) pool)) units named u at) n sizes costs (take m (drop (messageSize * cell) pool))
+        trusted-told order s own u (net .core .units) (ap (λ (k : ℕ). unitAt (net .core .units) k) (pred-sub own) ∙ sym at) (stepping order (net .core) s (checks .passed .core) n own (take m (drop (messageSize * cell) pool)) units named u at) n sizes costs (take m (drop (messageSize * cell) pool))
         before out r units array lent fits (good .0) (good .1) told left
 
     pub trusted-sent : r .sent ≤ 16
-    trusted-sent = hand-sent order net s pool (checks .passed) n own (take m (drop (messageSize * cell) pool)) units named u at before out r steps arrays all
+    trusted-sent = hand-sent order (net .core) s (checks .passed .core) n own (take m (drop (messageSize * cell) pool)) units named u at before out r steps arrays all
 
     unrefused-step : r .refusal ≡ 0
     unrefused-step = go (eqb (r .refusal) 0) refl

@@ -1,5 +1,6 @@
-//! How fast the Rattle library's calls are, beside a yardstick: the tuned run of `harness::tuned` for settle, deliver, echo and step, the
-//! second implementation for the others. One table, a row for each call and sample; settle, deliver, echo and step in both orders of values.
+//! How fast the Rattle library's calls are, beside a yardstick: the tuned run of `harness::tuned` for settle, deliver, echo and step, and for settle
+//! and deliver over the pool of slots, the second implementation for the others. One table, a row for each call and sample; those of the tuned run
+//! in both orders of values.
 //!
 //! speed [--counts FOLDER] [WORD]   times; WORD: the rows alone whose name has it. FOLDER: callgrind's dumps of a run with --once
 //! speed --once [WORD]              does the work of every row once, with a call of `riksamoe_mark` before and after, for callgrind to dump at
@@ -14,7 +15,7 @@ use harness::reference::network::{self, Network};
 use harness::reference::order::ValueOrder;
 use harness::reference::table::{self, Form};
 use harness::reference::unit::{self, Unit};
-use harness::reference::{convert, costs, readings, search, Places};
+use harness::reference::{convert, costs, readings, search, slots, Places};
 use harness::{generate, sample, tuned};
 use std::cell::RefCell;
 use std::hint::black_box;
@@ -27,6 +28,10 @@ trait Library {
     fn deliver(&self, order: ValueOrder, stream: &[u8], pool: &mut [u8], most: u64) -> u64;
     /// Makes a network and echoes these packets, until one is refused.
     fn echo(&self, order: ValueOrder, stream: &[u8], pool: &mut [u8], packets: &[Vec<u8>]) -> u64;
+    /// The same as settle, over the pool of slots.
+    fn slots_settle(&self, order: ValueOrder, stream: &[u8], pool: &mut [u8]) -> u64;
+    /// Makes a network over the pool of slots and delivers these cells, until one is refused.
+    fn slots_deliver(&self, order: ValueOrder, stream: &[u8], pool: &mut [u8], cells: &[u64]) -> u64;
     fn step(&self, steps: &[Step], out: &mut [u8]) -> u64;
     /// The same, beside the second implementation.
     fn plain_step(&self, steps: &[Step], out: &mut [u8]) -> u64;
@@ -70,6 +75,16 @@ impl Library for Yardstick {
         let mut network = tuned::settle_by(order, stream, pool, 0).expect("an accepted table");
         let mut accepted = |packet: &&Vec<u8>| tuned::echo_by(order, &mut network, stream, pool, packet).is_ok();
         packets.iter().take_while(|packet| accepted(packet)).count() as u64
+    }
+
+    fn slots_settle(&self, order: ValueOrder, stream: &[u8], pool: &mut [u8]) -> u64 {
+        tuned::slots::settle_by(order, stream, pool, u128::MAX).map_or(0, |shed| shed.deliveries as u64)
+    }
+
+    fn slots_deliver(&self, order: ValueOrder, stream: &[u8], pool: &mut [u8], cells: &[u64]) -> u64 {
+        let mut shed = tuned::slots::settle_by(order, stream, pool, 0).expect("an accepted table");
+        let mut accepted = |cell: &&u64| tuned::slots::deliver_by(order, &mut shed, stream, pool, **cell).is_ok();
+        cells.iter().take_while(|cell| accepted(cell)).count() as u64
     }
 
     fn step(&self, steps: &[Step], out: &mut [u8]) -> u64 {
@@ -147,6 +162,21 @@ impl Library for Rattle {
             answer.refusal == 0
         };
         packets.iter().take_while(|packet| accepted(packet)).count() as u64
+    }
+
+    fn slots_settle(&self, order: ValueOrder, stream: &[u8], pool: &mut [u8]) -> u64 {
+        linked::slots_settle(Some(order.number()), stream, pool).core.deliveries.low
+    }
+
+    fn slots_deliver(&self, order: ValueOrder, stream: &[u8], pool: &mut [u8], cells: &[u64]) -> u64 {
+        let named = Some(order.number());
+        let mut core = linked::slots_make(named, stream, pool).core;
+        let mut accepted = |cell: &&u64| {
+            let answer = linked::slots_deliver(named, core, stream, pool, **cell);
+            core = answer.core;
+            answer.refusal == 0
+        };
+        cells.iter().take_while(|cell| accepted(cell)).count() as u64
     }
 
     fn step(&self, steps: &[Step], out: &mut [u8]) -> u64 {
@@ -247,6 +277,19 @@ fn steps(order: ValueOrder, stream: &[u8], most: usize) -> Vec<Step> {
     steps
 }
 
+/// The first cells that a run over the pool of slots delivers, the lowest in use each time.
+fn cells(order: ValueOrder, stream: &[u8], most: usize) -> Vec<u64> {
+    let mut pool = vec![0; slots::POOL];
+    let mut shed = slots::make_by(order, stream, &mut pool).expect("an accepted table");
+    let mut cells = Vec::new();
+    while cells.len() < most && !shed.has_stopped() {
+        let lowest = slots::waiting(table::head(stream).0, &pool)[0] as u64;
+        slots::deliver_by(order, &mut shed, stream, &mut pool, lowest).expect("a delivery of a run");
+        cells.push(lowest);
+    }
+    cells
+}
+
 /// Ascending, a call has its plain name.
 fn name(call: &str, order: ValueOrder, sample: &str) -> String {
     match order {
@@ -275,6 +318,19 @@ fn echo_row(order: ValueOrder, sample: &str, stream: Vec<u8>) -> Row {
     row(name("echo", order, sample), "echo", work)
 }
 
+fn slots_settle_row(order: ValueOrder, sample: &str, stream: Vec<u8>) -> Row {
+    let pool = RefCell::new(vec![0; slots::POOL]);
+    let work = move |library: &dyn Library| library.slots_settle(order, black_box(&stream), &mut pool.borrow_mut());
+    row(name("slots-settle", order, sample), "delivery", work)
+}
+
+fn slots_deliver_row(order: ValueOrder, sample: &str, stream: Vec<u8>) -> Row {
+    let (cells, pool) = (cells(order, &stream, 500), RefCell::new(vec![0; slots::POOL]));
+    let work =
+        move |library: &dyn Library| library.slots_deliver(order, black_box(&stream), &mut pool.borrow_mut(), &cells);
+    row(name("slots-deliver", order, sample), "delivery", work)
+}
+
 fn step_row(order: ValueOrder, sample: &str, stream: Vec<u8>) -> Row {
     let (steps, out) = (steps(order, &stream, 500), RefCell::new([0; unit::OUT]));
     let work = move |library: &dyn Library| library.step(black_box(&steps), &mut *out.borrow_mut());
@@ -284,11 +340,13 @@ fn step_row(order: ValueOrder, sample: &str, stream: Vec<u8>) -> Row {
 /// Of each call the rows in ascending order, then those cheapest first.
 fn run_rows() -> Vec<Row> {
     let mut rows = Vec::new();
-    for order in ValueOrder::BOTH {
-        let whole = sheds().into_iter().filter(|(_, _, whole)| *whole);
-        rows.extend(whole.map(|(name, stream, _)| settle_row(order, &name, stream)));
+    for make in [settle_row, slots_settle_row] {
+        for order in ValueOrder::BOTH {
+            let whole = sheds().into_iter().filter(|(_, _, whole)| *whole);
+            rows.extend(whole.map(|(name, stream, _)| make(order, &name, stream)));
+        }
     }
-    for make in [deliver_row, echo_row, step_row] {
+    for make in [deliver_row, echo_row, slots_deliver_row, step_row] {
         for order in ValueOrder::BOTH {
             rows.extend(sheds().into_iter().map(|(name, stream, _)| make(order, &name, stream)));
         }
@@ -431,7 +489,7 @@ fn main() {
         return once(&rows);
     }
     println!("{HEAD}");
-    print!("{:<33} {:<9} {:<9}", "call and sample", "yardstick", "counted");
+    print!("{:<39} {:<9} {:<9}", "call and sample", "yardstick", "counted");
     print!(" {:>14} {:>14} {:>7}", "Rattle/second", "yardstick/sec", "slower");
     println!(" {:>14} {:>14} {:>7}", "Rattle instr.", "yardst. instr.", "more");
     let mut means: Vec<(String, Vec<f64>, Vec<f64>)> = Vec::new();
@@ -441,7 +499,7 @@ fn main() {
         let cost = [0, 1]
             .map(|side| instructions(counts.as_deref(), 2 * k + side).map(|number| number as f64 / done[side] as f64));
         let slower = speed[1] / speed[0];
-        print!("{:<33} {:<9} {:<9}", row.name, row.beside, row.counted);
+        print!("{:<39} {:<9} {:<9}", row.name, row.beside, row.counted);
         print!(" {:>14.0} {:>14.0} {slower:>7.1}", speed[0], speed[1]);
         let rate = match row.bytes {
             0 => String::new(),
@@ -470,7 +528,7 @@ fn main() {
         let more = if numbers.is_empty() { "-".to_string() } else { format!("{:.1}", mean(&numbers)) };
         let what = format!("{call}, mean of all");
         println!(
-            "{what:<33} {:<9} {:<9} {:>14} {:>14} {:>7.1} {:>14} {:>14} {more:>7}",
+            "{what:<39} {:<9} {:<9} {:>14} {:>14} {:>7.1} {:>14} {:>14} {more:>7}",
             "",
             "",
             "",

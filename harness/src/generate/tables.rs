@@ -138,6 +138,20 @@ pub fn searched(random: &mut Random) -> Vec<u8> {
     }
 }
 
+/// The same of 7 to 16 units; as most of them have one value, no table has more than 64 assignments.
+pub fn searched_wide(random: &mut Random) -> Vec<u8> {
+    let n = random.between(7, 20).min(16);
+    let mut sizes = vec![1; n as usize];
+    for _ in 0..random.between(1, 6) {
+        sizes[random.below(n) as usize] = random.between(1, 2) as u8;
+    }
+    if random.once_in(4) {
+        stream_of(random, &sizes)
+    } else {
+        tied(random, &sizes)
+    }
+}
+
 /// Costs are the same, or differ by 1 or 2; half of the streams are in form two.
 fn tied(random: &mut Random, sizes: &[u8]) -> Vec<u8> {
     let least = *random.pick(&[0, 0, 0, 1, 7]);

@@ -1,4 +1,4 @@
-//! Documents 01 and 02 (jobs 1, 2, 3, 7 and 9) in plain Rust, one module for each part of them. Refusals are their numbers, the first in their
+//! Documents 01 and 02 (jobs 1, 2, 3, 4, 7 and 9) in plain Rust, one module for each part of them. Refusals are their numbers, the first in their
 //! order. A call that tries values has a twin whose name ends in `by`, and whose first argument is the order in which it tries them.
 
 pub mod checksum;
@@ -9,6 +9,7 @@ pub mod network;
 pub mod order;
 pub mod readings;
 pub mod search;
+pub mod slots;
 pub mod table;
 pub mod unit;
 

@@ -61,7 +61,7 @@ pub fn deliver_by(
     }
     let cell = cell as usize;
     let packet = &pool[SIZE * cell..SIZE * (cell + 1)];
-    let (own, decision) = step(order, network, stream, packet)?;
+    let (own, decision) = step(order, &network.units, stream, packet)?;
     check_room(network.count - 1, &decision)?;
     take(network, pool, cell);
     accept(network, pool, own, decision);
@@ -82,7 +82,7 @@ pub fn echo_by(
     packet: &[u8],
 ) -> Result<(), Refusal> {
     check_shed(order, network, stream, pool)?;
-    let (own, decision) = step(order, network, stream, packet)?;
+    let (own, decision) = step(order, &network.units, stream, packet)?;
     check_room(network.count, &decision)?;
     accept(network, pool, own, decision);
     Ok(())
@@ -109,30 +109,30 @@ fn check_shed(order: ValueOrder, network: &Network, stream: &[u8], pool: &[u8]) 
         return Err(13);
     }
     table::check_stream(stream)?;
-    check_states(order, network, stream)?;
+    check_states(order, &network.units, stream)?;
+    if network.count > CELLS as u64 {
+        return Err(5);
+    }
     if network.units[0].has_stopped() {
         return Err(12);
     }
     Ok(())
 }
 
-/// Refusal 5 for any unit's state or the pool count.
-fn check_states(order: ValueOrder, network: &Network, stream: &[u8]) -> Result<(), Refusal> {
+/// Refusal 5 for any unit's state.
+pub fn check_states(order: ValueOrder, units: &[Unit; 16], stream: &[u8]) -> Result<(), Refusal> {
     let (n, sizes) = table::head(stream);
     for own in 1..=n as usize {
         let costs = costs::of_unit(stream, own);
-        unit::check_state(&View::new_by(order, own, n as usize, &sizes, &costs), &network.units[own - 1])?;
-    }
-    if network.count > CELLS as u64 {
-        return Err(5);
+        unit::check_state(&View::new_by(order, own, n as usize, &sizes, &costs), &units[own - 1])?;
     }
     Ok(())
 }
 
 /// The unit that a packet goes to, and what it does with it: the step's refusals from 8 on.
-fn step(
+pub fn step(
     order: ValueOrder,
-    network: &Network,
+    units: &[Unit; 16],
     stream: &[u8],
     packet: &[u8],
 ) -> Result<(usize, unit::Decision), Refusal> {
@@ -140,7 +140,7 @@ fn step(
     let own = receiver_of(packet, n);
     let costs = costs::of_unit(stream, own);
     let view = View::new_by(order, own, n as usize, &sizes, &costs);
-    let decision = unit::step_packet(&view, &network.units[own - 1], packet)?;
+    let decision = unit::step_packet(&view, &units[own - 1], packet)?;
     Ok((own, decision))
 }
 

@@ -11,18 +11,19 @@ use borrow.Author.Tests.{leb-true, eqb-true, eqb-false}
 use lib.Dec.{leb, eqb}
 use lib.ListN.{length, getD, set, drop, length-append, length-set, drop-of-length-le, List·getD-append as getD-append}
 use lib.Seq.{drop-cons, set-at, getD-at, getD-set-same, getD-set-other, ext-getD}
-use Rattle.table.specs.Stream.{unitsOf}
+use Rattle.table.specs.Stream.{unitsOf, Accepted}
+use Rattle.table.specs.StreamLaws.{accepted-units}
 use Rattle.costs.specs.declared.ValueOrder.{ValueOrder}
 use Rattle.costs.specs.Instance.{View, viewBy, instanceOf}
 use Rattle.costs.specs.Gather.{sizesIn}
 use Rattle.base.specs.Every.Laws.{every-not}
 use Rattle.rules.specs.declared.Unit.{Unit}
 use Rattle.rules.specs.State.{emptyUnit, allAtMost, paidInRange, inRange}
-use Rattle.runs.specs.Run.{unitAt}
-use Rattle.runs.specs.Calls.{networkInRange}
+use Rattle.runs.specs.Calls.{coreRefusal}
+use Rattle.runs.specs.Code.{unitInRange, core-states}
 use Rattle.cabi.specs.declared.LentUnit.{LentUnit}
-use Rattle.cabi.specs.declared.LentNetwork.{LentNetwork}
-use Rattle.cabi.specs.Lent.{flagGood, unitFrom, unitBack, emptyLent, upTo, unitsFrom, unitsBack, networkFrom}
+use Rattle.cabi.specs.declared.LentCore.{LentCore}
+use Rattle.cabi.specs.Lent.{flagGood, unitFrom, unitBack, emptyLent, upTo, unitsFrom, unitsBack, coreFrom}
 
 -- ---- one unit
 
@@ -72,13 +73,14 @@ up-to-at (suc n) f k d h = go (eqb k n) refl (λ q. up-to-at n f k d q)
         let l : k < length (upTo n f) = rw (length-up-to n f) (omega arith) in
         getD-append (upTo n f) (f n ∷ []) d k l ∙ below (omega arith)
 
--- a network with such a byte in one of its n units is out of range, 5
-pub no-flag-network : (order : ValueOrder) (stream : List ℕ) (s : LentNetwork) (k : ℕ) → k < unitsOf stream → k < 16 → flagGood (getD (s .core .units) k emptyLent) ≡ false → networkInRange order stream (networkFrom s) ≡ false
-unfolding networkInRange
-no-flag-network order stream s k h h16 e =
-    let at = up-to-at 16 (λ (i : ℕ). unitFrom (getD (s .core .units) i emptyLent)) k emptyUnit h16 in
-    let out : inRange (sizesIn stream) (viewBy order (instanceOf stream) k) (unitAt (unitsFrom (s .core .units)) k) ≡ false = rw at (no-flag-out-of-range (sizesIn stream) (viewBy order (instanceOf stream) k) (getD (s .core .units) k emptyLent) e) in
-    rw (every-not (λ (i : ℕ). inRange (sizesIn stream) (viewBy order (instanceOf stream) i) (unitAt (unitsFrom (s .core .units)) i)) (unitsOf stream) k h out)
+-- units and counts with such a byte in one of the n units are refused by 5, whatever pool is lent beside them
+pub no-flag-network : (order : ValueOrder) (stream : List ℕ) (s : LentCore) (k : ℕ) → Accepted stream → k < unitsOf stream → flagGood (getD (s .units) k emptyLent) ≡ false → coreRefusal order (coreFrom s) stream ≡ 5
+unfolding Accepted
+no-flag-network order stream s k ok h e =
+    let few = accepted-units stream ok in
+    let at = up-to-at 16 (λ (i : ℕ). unitFrom (getD (s .units) i emptyLent)) k emptyUnit (omega (arith, few .1)) in
+    let out : unitInRange order stream (unitsFrom (s .units)) k ≡ false = rw at (no-flag-out-of-range (sizesIn stream) (viewBy order (instanceOf stream) k) (getD (s .units) k emptyLent) e) in
+    sym (core-states order (coreFrom s) stream ok (every-not (unitInRange order stream (unitsFrom (s .units))) (unitsOf stream) k h out))
 
 module _ (ss : List LentUnit) (sixteen : length ss ≡ 16) where
   kept : (us : List Unit) (i : ℕ) → i < 16 → getD us i emptyUnit ≡ getD (unitsFrom ss) i emptyUnit → unitBack (getD ss i emptyLent) (getD us i emptyUnit) ≡ getD ss i emptyLent

@@ -13,7 +13,7 @@ use borrow.Author.Tests.{eqb-true, eqb-false}
 use Rattle.base.specs.Members.{Every}
 use Rattle.protocol.specs.Problem.{Problem, Laws}
 use Rattle.protocol.specs.Machine.{Msg, down, back, request, estimate, solution, stop, to, Agent, fresh, Result, refused, done, halt, counted, isLast, giveBack, assign, step, Network, put, made, make}
-use Rattle.protocol.specs.Totals.{total, total-append, total-out, total-each, total-none}
+use Rattle.protocol.specs.Totals.{total, total-append, total-taken, total-each, total-none}
 use Rattle.protocol.specs.Walk.{take-bound-cases}
 use Rattle.protocol.specs.Safety.Facts.{ValidMsg}
 use Rattle.protocol.specs.Safety.Logs.{logs, Recorded, Safe}
@@ -92,7 +92,7 @@ module _ (P : Problem) (laws : Laws P) (S : Network) (r : SafeNetwork P S) (b a 
       → x + total (weight P) ms + out (to m) u + fee P (to m) * length (S .units (to m) .log) ≤ weight P m + out (to m) (S .units (to m)) + fee P (to m) * length (u .log)
       → 1 + total isStop ms + stopPays P (S .units 0 .stopped) ≤ x + isStop m + stopPays P (S′ .units 0 .stopped) → AirBalance P S → AirBalance P S′
   balanced x paid stops h =
-      omega (arith, h, stops, accept-weighs P S b a m u ms e lt x paid, total-append isStop (b ++ a) ms, ap (total isStop) e, total-out isStop b a m)
+      omega (arith, h, stops, accept-weighs P S m u ms ((b ++ a) ++ ms) (omega (arith, total-taken (weight P) b a m ms e)) lt x paid, total-taken isStop b a m ms e)
 
   other : NotStop m → AirBalance P S → AirBalance P S′
   other ns =

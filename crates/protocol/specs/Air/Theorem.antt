@@ -18,9 +18,9 @@ use Rattle.protocol.specs.Demand3.{mostEach, most}
 use Rattle.protocol.specs.Tests.{true-not-false}
 use Rattle.protocol.specs.Totals.{total, total-in, sum-le}
 use Rattle.protocol.specs.Safety.Network.{SafeNetwork, make-safe}
-use Rattle.protocol.specs.Safety.Run.{taken, never-refused, accept-safe}
+use Rattle.protocol.specs.Safety.Run.{in-pool, taken, never-refused, accept-safe}
 use Rattle.protocol.specs.Liveness.Chain.{live-waits}
-use Rattle.protocol.specs.Liveness.Run.{Chain, accept-chain, make-chain}
+use Rattle.protocol.specs.Liveness.Run.{Chain, list-delivered, accept-chain, make-chain}
 use Rattle.protocol.specs.Count.Weights.{weight}
 use Rattle.protocol.specs.Best.Pairs.{OneBest, accept-pairs, make-pairs}
 use Rattle.protocol.specs.Best.First.{First, accept-first, make-first}
@@ -57,7 +57,9 @@ module _ (P : Problem) (laws : Laws P) (n1 : 0 < P .n) where
   accept-kept S k b a m u ms e st d =
       record {
         network = accept-safe P laws S (k .network) m (b ++ a) (taken b a m e) u ms d;
-        chain = accept-chain P laws n1 S (k .network) (k .chain) b a m u ms e (λ q. subst (λ i. S .units i .stopped ≡ false) (sym q) st) d;
+        chain =
+            accept-chain P laws n1 S (k .network) (k .chain) m (in-pool b a m e) u ms ((b ++ a) ++ ms) (list-delivered (S .units) b a m ms (S .pool) e)
+            (λ q. subst (λ i. S .units i .stopped ≡ false) (sym q) st) d;
         pairs = accept-pairs P laws S (k .network) (k .pairs) m (b ++ a) (taken b a m e) u ms d;
         first = accept-first P laws S (k .network) (k .pairs) (k .first) m (b ++ a) (taken b a m e) u ms d;
         ends = accept-ends P laws n1 S (k .network) (k .pairs) b a m u ms e st d (k .ends);

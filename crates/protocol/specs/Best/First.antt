@@ -11,7 +11,7 @@ use mathlib.Core.Bool.{Bool, false}
 use mathlib.Core.List.{List, [], _∷_, _++_}
 use native.Mathlib.Omega.{arith}
 use lib.ListN.{length}
-use Rattle.base.specs.Members.{In}
+use Rattle.base.specs.Members.{In, Every}
 use Rattle.base.specs.Members.Laws.{in-cases, not-in-nil, in-append}
 use Rattle.protocol.specs.Problem.{Problem, Closed, Laws, closed-mono, closed-full, NONE, valid-le-none, Passed, passed-mono, cost-below}
 use Rattle.protocol.specs.Machine.{Msg, down, back, request, estimate, solution, stop, to, Record, valuesOf, Agent, recordOf, values, fresh, withBound, Result, refused, done, skip, write, counted, received, halt, solved, tryFrom, assign, resume, step, Network, put, made, make}
@@ -22,12 +22,16 @@ use Rattle.protocol.specs.Safety.Logs.{Added, Grown, try-grown, step-gro
 use Rattle.protocol.specs.Safety.Network.{before, put-all, put-at, put-other, SafeNetwork, make-safe}
 use Rattle.protocol.specs.Safety.Run.{Among, accept-safe}
 use Rattle.protocol.specs.Best.Told.{Carries, Has, Told, assign-told}
-use Rattle.protocol.specs.Best.Pairs.{Seen, OneBest, Known, PairStep, last-falls, old-or-new, accept-steps, accept-pairs, make-steps, make-pairs}
+use Rattle.protocol.specs.Best.Pairs.{Seen, OneBest, seen-fewer, Known, PairStep, last-falls, old-or-new, accept-steps, accept-pairs, make-steps, make-pairs}
 
 -- all before a best costs more than its bound; all before a prefix that a unit, not the last, has written costs at least unit n's bound
 pub record First (P : Problem) (S : Network) : Type 0 where
   pub pairs : (B : ℕ) (l : List ℕ) → Seen P S B l → Passed P l (suc B)
   pub records : (k : ℕ) → suc k < P .n → (r : Record) → In r (S .units k .log) → Passed P (valuesOf r) (S .units (pred (P .n)) .bound)
+
+-- where fewer messages wait
+pub first-fewer : (P : Problem) (S : Network) (new : List Msg) → Every (λ x. In x (S .pool)) new → First P S → First P (record { units = S .units; pool = new; accepted = S .accepted })
+first-fewer P S new fewer f = record { pairs = λ B l s. f .pairs B l (seen-fewer P S new fewer B l s); records = f .records }
 
 -- a prefix on record at the unit before, if what that unit has written is passed
 recorded-passed : (P : Problem) (W : ℕ → List Record) (C k s : ℕ) (c : List ℕ) → ((i : ℕ) → suc i ≡ k → (r : Record) → In r (W i) → Passed P (valuesOf r) C) → Recorded W k s c
@@ -101,7 +105,7 @@ module _ (P : Problem) (laws : Laws P) where
       (try-fresh k last (P .size k - 0) false (counted (withBound C c (received s b u)))
       (record { len = q .0; le-none = omega (arith, le₁, le); tried = λ v lo hi. absurd (omega (arith, lo, hi)); prefix = passed-mono P b (u .bound) C le₁ (q .1); best = ok′ }))))
   last-fresh Past u le (back k s b B l) last ok known own its = absurd (omega (arith, last, ok .0))
-  last-fresh Past u le (request k j s b) last ok known own its = request-walk P u (Fresh P) k j s b own own (λ lt. own)
+  last-fresh Past u le (request k j s b) last ok known own its = request-walk P u (Fresh P) k j s b own (λ e. own) (λ lt. own)
   last-fresh Past u le (estimate k j s x) last ok known own its = absurd (omega (arith, last, ok .1, ok .3))
   last-fresh Past u le (solution k B l) last ok known own its =
       take-bound-cases (λ C c. Passed P c (suc C)) (λ w. Fresh P (done w [])) B l u own (its B l (refl, refl)) (λ C c le₁ le₂ z. z)

@@ -27,6 +27,15 @@ pub record OneBest (P : Problem) (S : Network) : Type 0 where
   -- unit n's bound is the lowest
   pub last : (B : ℕ) (l : List ℕ) → Seen P S B l → S .units (pred (P .n)) .bound ≤ B
 
+-- where fewer messages wait
+module _ (P : Problem) (S : Network) (new : List Msg) (fewer : Every (λ x. In x (S .pool)) new) where
+  pub seen-fewer : (B : ℕ) (l : List ℕ) → Seen P (record { units = S .units; pool = new; accepted = S .accepted }) B l → Seen P S B l
+  seen-fewer B l (inl q) = inl q
+  seen-fewer B l (inr q) = inr (q .0, fewer (q .0) (q .1), q .2)
+
+  pub pairs-fewer : OneBest P S → OneBest P (record { units = S .units; pool = new; accepted = S .accepted })
+  pairs-fewer g = record { one = λ B l l′ s s′. g .one B l l′ (seen-fewer B l s) (seen-fewer B l′ s′); last = λ B l s. g .last B l (seen-fewer B l s) }
+
 -- ---- one unit's step: unit k becomes u and sends ms, with the messages `rest` still there
 
 -- its pair was there, or it is new, unit n's and lower

@@ -61,7 +61,7 @@ module _ (P : Problem) (laws : Laws P) (k : ℕ) where
       record {
         pair = inl (refl, refl);
         copies = every-append (Copies (backtracked k u)) (giveBack P k u) (announce P k better u)
-            (every-given-back P (Copies (backtracked k u)) k u (λ e j lo hi C c h. h) (λ i e C c h. h)) (every-announced P (Copies (backtracked k u)) k u better (λ j lt C c h. h));
+            (every-given-back P (Copies (backtracked k u)) k u (λ e j lo hi C c h. h) (λ i e C c h. h)) (every-announced P (Copies (backtracked k u)) k u better (λ j lt ne C c h. h));
       }
 
   try-told : (m : ℕ) (better : Bool) (u : Agent) → u .bound ≤ NONE → Told P k (u .bound) (u .best) (tryFrom P k m better u)
@@ -126,7 +126,7 @@ module _ (P : Problem) (laws : Laws P) (u : Agent) (le : u .bound ≤ NONE) wher
       back-walk P u (StepTold P u (back k s b B l)) k s b B l (λ st. stays (back k s b B l) u [] (refl, refl) (every-nil _))
       (λ ge e. took-told (back k s b B l) B l u (refl, refl) (refl, refl)) (λ ge e. tt)
   step-told (request k j s b) =
-      request-walk P u (StepTold P u (request k j s b)) k j s b (stays (request k j s b) u [] (refl, refl) (every-nil _)) (answered u (refl, refl))
+      request-walk P u (StepTold P u (request k j s b)) k j s b (stays (request k j s b) u [] (refl, refl) (every-nil _)) (λ e. answered u (refl, refl))
       (λ lt. answered (withThreshold (pad (k - suc j) s * 32) u) (refl, refl))
     where
       reply : Msg

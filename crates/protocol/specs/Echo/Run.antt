@@ -20,7 +20,7 @@ use Rattle.protocol.specs.Tests.{true-not-false}
 use Rattle.protocol.specs.Safety.Facts.{ValidMsg}
 use Rattle.protocol.specs.Safety.Logs.{logs, Recorded}
 use Rattle.protocol.specs.Safety.Network.{SafeNetwork, make-safe}
-use Rattle.protocol.specs.Safety.Run.{Among, taken, accept-safe}
+use Rattle.protocol.specs.Safety.Run.{Among, taken, heard, accept-safe}
 use Rattle.protocol.specs.Liveness.Moves.{Moved, try-moved}
 use Rattle.protocol.specs.Liveness.Chain.{Live, live-mono}
 use Rattle.protocol.specs.Liveness.ChainStep.{chain-step}
@@ -76,7 +76,7 @@ module _ (P : Problem) (laws : Laws P) (n1 : 0 < P .n) where
 
     -- of what was sent nothing leaves
     among : Among (T .sent) m (T .sent)
-    among = record { waits = was-sent; still = λ x i. i }
+    among = heard m was-sent
 
     ok : ValidMsg P (Recorded (logs us)) m
     ok = kept .network .msgs m was-sent

@@ -65,7 +65,7 @@ module _ (P : Problem) (k : ℕ) (lt : suc k < P .n) where
 step-sent : (P : Problem) (u : Agent) (m : Msg) (lt : suc (to m) < P .n) → Sent P (to m) lt (u .log) (step P u m)
 step-sent P u (down k s b B l) lt = down-walk P u (Sent P k lt (u .log)) k s b B l (λ st r i. inl i) (λ le. took-sent P k lt B l (received s b u))
 step-sent P u (back k s b B l) lt = back-walk P u (Sent P k lt (u .log)) k s b B l (λ st r i. inl i) (λ le e. took-sent P k lt B l u) (λ le e. tt)
-step-sent P u (request k j s b) lt = request-walk P u (Sent P k lt (u .log)) k j s b (λ r i. inl i) (λ r i. inl i) (λ h r i. inl i)
+step-sent P u (request k j s b) lt = request-walk P u (Sent P k lt (u .log)) k j s b (λ r i. inl i) (λ e r i. inl i) (λ h r i. inl i)
 step-sent P u (estimate k j s e) lt =
     estimate-walk P u (Sent P k lt (u .log)) k j s e (λ st r i. inl i) (λ le f full. try-sent P k lt (P .size k - u .own) false (counted (store j e u))) (λ le f r i. inl i) (λ le f. tt)
 step-sent P u (solution k B l) lt = take-bound-cases (λ C m. Unit {0}) (λ w. Sent P k lt (u .log) (done w [])) B l u tt tt (λ C m a b ok r i. inl i)

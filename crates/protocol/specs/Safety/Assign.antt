@@ -44,7 +44,7 @@ module _ (P : Problem) (laws : Laws P) (k : ℕ) (k<n : k < P .n) (Past : Histor
     },
     every-append _ (giveBack P k u) (announce P k better u)
         (every-given-back P _ k u (λ e j lo hi. (hi, lo, h .valid)) (λ i e. (omega arith, inl (subst (λ x. Past x (u .prefixStamp) (u .prefix)) (sym e) (h .past)), h .closed, h .valid)))
-        (every-announced P _ k u better (λ j lt. (omega arith, h .valid))),
+        (every-announced P _ k u better (λ j lt ne. (omega arith, h .valid))),
   )
 
   -- ---- the values in turn

@@ -2,7 +2,6 @@
 -- By the definitions. Assumes nothing.
 use Prim.Native.Nat.{ℕ, _≤_}
 use mathlib.Core.Path.{_≡_, refl, sym, ap, _∙_}
-use mathlib.Core.Bool.{Bool, true, false}
 use mathlib.Core.List.{List}
 use native.Mathlib.Omega.{arith}
 use lib.ListN.{length, take, drop, replicate}
@@ -19,12 +18,10 @@ use Rattle.search.specs.Search.{searchRefusal, searchOf}
 use Rattle.search.specs.Laws.{search-refusal}
 use Rattle.runs.specs.declared.Answer.{Answer}
 use Rattle.runs.specs.Settle.{settleOf}
-use Rattle.report.specs.Report.{fileRefusal, settleRefusal}
-
--- the number of a run, or that of the search
-abbrev pub refusalBy : Bool → ValueOrder → List ℕ → ℕ
-refusalBy true order s = settleRefusal order s
-refusalBy false order s = searchRefusal s
+use Rattle.slots.specs.declared.Answer.{Answer as SlotsAnswer}
+use Rattle.slots.specs.Slot.{slotPoolSize}
+use Rattle.slots.specs.Settle as S
+use Rattle.report.specs.Report.{fileRefusal, settleRefusal, slotsRefusal}
 
 module _ (f out : List ℕ) (r : Length) (e : r ≡ readOf f (length out)) (room : length out ≡ streamSize) where
   refusal-of : r .refusal ≡ readRefusal f streamSize
@@ -61,7 +58,11 @@ module _ (f out : List ℕ) (r : Length) (e : r ≡ readOf f (length out)) (room
 pub found-refusal : (s : List ℕ) (r : Found) → r ≡ searchOf s → r .refusal ≡ searchRefusal s
 found-refusal s r e = ap (λ (x : Found). x .refusal) e ∙ search-refusal s
 
--- the run's own number
+-- the run's own number, over either pool
 pub settled-refusal : (order : ValueOrder) (s : List ℕ) (a : Answer) → a ≡ settleOf order s (replicate poolSize 0) .answer → a .refusal ≡ settleRefusal order s
 unfolding settleRefusal
 settled-refusal order s a e = ap (λ (x : Answer). x .refusal) e
+
+pub slots-refusal : (order : ValueOrder) (s : List ℕ) (a : SlotsAnswer) → a ≡ S.settleOf order s (replicate slotPoolSize 0) .answer → a .refusal ≡ slotsRefusal order s
+unfolding slotsRefusal
+slots-refusal order s a e = ap (λ (x : SlotsAnswer). x .refusal) e

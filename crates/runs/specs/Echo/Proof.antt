@@ -51,7 +51,8 @@ use Rattle.runs.specs.Calls.{Result, refusedDelivery, deliverOf, echoOf}
 use Rattle.runs.specs.Demand3.{Shed, shedOf, shedMade, Made}
 use Rattle.runs.specs.Code.{check-network, check-cell, deliver-refused, echo-refused}
 use Rattle.runs.specs.Proof.Walk.{hand-cases, deliver-cases}
-use Rattle.runs.specs.Proof.Stands.{numberOf, Stands, sized, over-refuses, running-passes, echo-leaves, here-is, waits, cell-leaves, stands-after}
+use Rattle.runs.specs.Proof.Follow.{numberOf}
+use Rattle.runs.specs.Proof.Stands.{Stands, sized, over-refuses, running-passes, echo-leaves, here-is, waits, cell-leaves, stands-after}
 use Rattle.runs.specs.Proof.Making.{accepted-table, making-gives, start-stands}
 use Rattle.runs.specs.Echo.{Event, cell, echo, hear, resultOf, bytesAt, SentBefore, HonestTo}
 
@@ -215,7 +216,6 @@ module _ (order : ValueOrder) (s : List ℕ) (ok : Accepted s) where
               })
 
     pub hears : (e : Event) → SentBefore H e → Hears e (hear order (instanceOf s) H e) (resultOf order s S e)
-    unfolding R.handOver
     hears (cell c) sb =
         deliver-cases order (instanceOf s) H (λ d. Hears (cell c) d (deliverOf order (S .network) s (S .pool) c)) cells c
         (λ st. refuses (cell c) 11 (inl (refl, st)) (deliver-refused order (S .network) s (S .pool) c 11 (check-network order (S .network) s (S .pool) c 12 (over-refuses order s ok S H (i .trace .network .units) (i .stands) st) (λ z. omega (arith, z)))))

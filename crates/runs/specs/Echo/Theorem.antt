@@ -44,9 +44,11 @@ use Rattle.protocol.specs.Simulation.Table.{laws}
 use Rattle.runs.specs.Pool.{cellOf}
 use Rattle.runs.specs.Pool.Stored.{cell-in-use, cell-bytes}
 use Rattle.runs.specs.Run as R
-use Rattle.runs.specs.Run.{History, cells, onward, runFrom, run}
-use Rattle.runs.specs.Demand3.{Shed, shedOf, shedMade, shedAfter, deliverAll, runBytes, Made, over, reportOf}
-use Rattle.runs.specs.Proof.Stands.{numberOf, sized}
+use Rattle.runs.specs.Run.{History, cells, onward, runIn, run}
+use Rattle.runs.specs.Deliveries.{deliverAll}
+use Rattle.runs.specs.Demand3.{Shed, shedOf, shedMade, shedAfter, runBytes, delivery, Made, over, reportOf}
+use Rattle.runs.specs.Proof.Follow.{numberOf}
+use Rattle.runs.specs.Proof.Stands.{sized}
 use Rattle.runs.specs.Proof.Making.{none-handed, accepted-table}
 use Rattle.runs.specs.Echo.{Event, cell, hear, hearFrom, heard, resultOf, numberAt, hearBytes, heardBytes, bytesAt, takenIn, EchoesFrom, Echoes, HonestTo, HeardTwice, NoneRefused, bytesOf, AsAsked}
 use Rattle.runs.specs.Echo.Proof.{Traced, Hears, hears, make-traced}
@@ -218,17 +220,17 @@ two-heard s order pool made es sb order′ pool′ made′ es′ sb′ e e′ =
 
 pub deliveries-only : (order : ValueOrder) (s pool cs : List ℕ)
     → Echoes order (instanceOf s) (map cell cs) × (heardBytes order s pool (map cell cs) ≡ runBytes order s pool cs) × (heard order (instanceOf s) (map cell cs) ≡ run order (instanceOf s) cs)
-unfolding runBytes run hearBytes hearFrom deliverAll runFrom
+unfolding runBytes run hearBytes hearFrom deliverAll runIn
 deliveries-only order s pool cs = (were-sent cs (R.begin order (instanceOf s)), bytes cs (shedMade order s pool), messages cs (R.begin order (instanceOf s)))
   where
     were-sent : (cs : List ℕ) (H : History) → EchoesFrom order (instanceOf s) H (map cell cs)
     were-sent [] H = tt
     were-sent (c ∷ cs) H = (tt, were-sent cs (onward H (R.handOver order (instanceOf s) H c)))
 
-    bytes : (cs : List ℕ) (S : Shed) → hearBytes order s S (map cell cs) ≡ deliverAll order s S cs
+    bytes : (cs : List ℕ) (S : Shed) → hearBytes order s S (map cell cs) ≡ deliverAll (delivery order s) S cs
     bytes [] S = refl
     bytes (c ∷ cs) S = bytes cs (shedAfter order s S c)
 
-    messages : (cs : List ℕ) (H : History) → hearFrom order (instanceOf s) H (map cell cs) ≡ runFrom order (instanceOf s) H cs
+    messages : (cs : List ℕ) (H : History) → hearFrom order (instanceOf s) H (map cell cs) ≡ runIn cells order (instanceOf s) H cs
     messages [] H = refl
     messages (c ∷ cs) H = messages cs (onward H (R.handOver order (instanceOf s) H c))

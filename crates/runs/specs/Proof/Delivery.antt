@@ -9,7 +9,7 @@ use mathlib.Core.Bool.{Bool, true, false, cond}
 use mathlib.Core.List.{List, [], _∷_, _++_, map, append-nil, map-append}
 use mathlib.Core.Option.{some}
 use native.Mathlib.Omega.{arith}
-use lib.Dec.{leb, eqb}
+use lib.Dec.{leb}
 use lib.ListN.{length, take, drop, length-append}
 use borrow.Author.Tests.{leb-true, ne-eqb}
 use Rattle.base.specs.Limits.{poolCells}
@@ -41,19 +41,15 @@ use Rattle.protocol.specs.Simulation.Table.{laws, views}
 use Rattle.runs.specs.Pool.{cellOf, poolAfter}
 use Rattle.runs.specs.Pool.Stored.{AllSized, StandsAt, none-at, no-room, some-room, cell-bytes, put-stored}
 use Rattle.runs.specs.Run as R
-use Rattle.runs.specs.Run.{History, DeliveryOf, cells, stopped, onward, handOver}
+use Rattle.runs.specs.Run.{History, DeliveryOf, cells, stopped, handOver}
 use Rattle.runs.specs.Calls as C
 use Rattle.runs.specs.Calls.{Result, refusedDelivery, deliverOf}
-use Rattle.runs.specs.Demand3.{Shed, shedOf, times, Honest}
+use Rattle.runs.specs.Demand3.{Shed, shedOf, delivery, times, Honest}
 use Rattle.runs.specs.Code.{check-network, check-cell, deliver-refused}
 use Rattle.runs.specs.Proof.Walk.{hand-cases, deliver-cases}
-use Rattle.runs.specs.Proof.Stands.{numberOf, sized, over-refuses, running-passes, left-by, here-is, waits, cell-leaves, stands-after}
+use Rattle.runs.specs.Proof.Follow as F
+use Rattle.runs.specs.Proof.Stands.{sized, over-refuses, running-passes, left-by, here-is, waits, cell-leaves, stands-after}
 use Rattle.runs.specs.Proof.Invariant.{Invariant, same-stop, cut, step-accepted}
-
--- a refusal is 12 after the stop, 14 or 15
-abbrev pub HonestDelivery : History → DeliveryOf (List Packet) → Type 0
-HonestDelivery H (R.refusedBy r) = Honest (stopped H) r
-HonestDelivery H (R.delivered K) = Unit {0}
 
 -- ---- packets counted
 
@@ -72,11 +68,8 @@ times-none t = refl
 
 module _ (order : ValueOrder) (s : List ℕ) (ok : Accepted s) (S : Shed) (H : History) (A : Network) (i : Invariant order s ok S H A) (c : ℕ) where
   -- what a delivery gives: over messages d, on bytes r
-  pub record Delivers (d : DeliveryOf (List Packet)) (r : Result) : Type 0 where
-    pub number : r .answer .refusal ≡ numberOf d
-    pub honest : HonestDelivery H d
-    pub bytes : map packetBytes (H .handed) ++ cond (eqb (r .answer .refusal) 0) (cellOf (S .pool) c ∷ []) [] ≡ map packetBytes (onward H d .handed)
-    pub next : Invariant order s ok (shedOf r) (onward H d) (M.deliver (problemBy order (instanceOf s)) poolCells A c)
+  abbrev pub Delivers : DeliveryOf (List Packet) → Result → Type 0
+  Delivers d r = F.Delivers (delivery order s) cells order (instanceOf s) (M.deliver (problemBy order (instanceOf s)) poolCells) Honest (Invariant order s ok) S H A c d (r .answer .refusal) (shedOf r)
 
   -- ---- a delivery refused
 
@@ -204,7 +197,7 @@ module _ (order : ValueOrder) (s : List ℕ) (ok : Accepted s) (S : Shed) (H : H
   -- ---- any cell
 
   pub delivers : Delivers (handOver order (instanceOf s) H c) (deliverOf order (S .network) s (S .pool) c)
-  unfolding R.handOver Accepted
+  unfolding Accepted
   delivers =
       deliver-cases order (instanceOf s) H (λ d. Delivers d (deliverOf order (S .network) s (S .pool) c)) cells c
       (λ st. refuses 11 (inl (refl, st)) (deliver-stopped (problemBy order (instanceOf s)) poolCells A c (machine-stop ∙ st)) (after-stop st))

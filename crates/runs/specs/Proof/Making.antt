@@ -4,13 +4,11 @@ use Prim.Native.Nat.{ℕ, zero, suc}
 use mathlib.Core.Path.{_≡_, refl, sym, subst}
 use mathlib.Core.List.{List, []}
 use native.Mathlib.Omega.{arith}
-use lib.ListN.{replicate}
 use Rattle.table.specs.Stream.{unitsOf, Accepted}
 use Rattle.costs.specs.declared.ValueOrder.{ValueOrder}
 use Rattle.costs.specs.Instance.{viewBy, instanceOf}
 use Rattle.costs.specs.Laws.Tried.{problemBy}
 use Rattle.costs.specs.Laws.Stream.{sound-of}
-use Rattle.costs.specs.Gather.{sizesIn}
 use Rattle.rules.specs.declared.Unit.{Unit as UnitState}
 use Rattle.rules.specs.declared.Sending.{Sending}
 use Rattle.rules.specs.State.{fresh}
@@ -18,13 +16,10 @@ use Rattle.rules.specs.Step as U
 use Rattle.rules.specs.Step.{Decision, Written, assign}
 use Rattle.rules.specs.Send.{packets}
 use Rattle.rules.specs.Calls.{unlessRefused}
-use Rattle.rules.specs.Laws.Assign.{Whenever}
-use Rattle.rules.specs.Laws.Units.{Leaves, start-in-range}
 use Rattle.protocol.specs.Machine as M
 use Rattle.protocol.specs.Safety.Logs.{Safe}
 use Rattle.protocol.specs.Theorem.{Kept, make-kept}
-use Rattle.protocol.specs.Simulation.Units.{Simulated, StepsTo, start-simulated}
-use Rattle.protocol.specs.Simulation.Table.{stream-free, laws, views}
+use Rattle.protocol.specs.Simulation.Table.{laws}
 use Rattle.runs.specs.Run as R
 use Rattle.runs.specs.Run.{History}
 use Rattle.runs.specs.Calls as C
@@ -32,7 +27,7 @@ use Rattle.runs.specs.Calls.{makingRefusal, makeOf}
 use Rattle.runs.specs.Demand3.{Shed, shedOf, shedMade, Made, times}
 use Rattle.runs.specs.Code.{makeable}
 use Rattle.runs.specs.Pool.Stored.{start-stored}
-use Rattle.runs.specs.Proof.Core.{core-starts}
+use Rattle.runs.specs.Proof.Core.{Begun, unit-made, core-starts}
 use Rattle.runs.specs.Proof.Stands.{Stands, sized}
 use Rattle.runs.specs.Proof.Invariant.{Invariant}
 
@@ -57,36 +52,21 @@ module _ (order : ValueOrder) (s pool : List ℕ) (made : Made order s pool) whe
   pub accepted-table : Accepted s
   accepted-table = makeable s pool no-refusal .0
 
-  -- the machine's making
-  abbrev pub first-step : M.Result
-  first-step = M.assign (problemBy order (instanceOf s)) 0 M.fresh
-
-  -- unit 1 gave u, o and ws, as the machine's does
-  pub record Begun (u : UnitState) (o : Sending) (ws : List Written) : Type 0 where
-    pub steps : StepsTo order (instanceOf s) (replicate 16 fresh) [] (λ k. M.fresh) 0 first-step u o ws
-    pub leaves : Leaves order (instanceOf s) (sizesIn s) (replicate 16 fresh) 0 u o ws
-
-  -- so what holds then holds as making leaves it
-  pub making-gives : (Q : Shed → History → Type 0) → ((u : UnitState) (o : Sending) (ws : List Written) → Begun u o ws → Q (shedOf (C.made (unitsOf s) pool (U.accepted u o ws))) (R.begunWith R.cells (instanceOf s) (U.accepted u o ws)))
+  -- what holds of what unit 1 gives holds as making leaves it
+  pub making-gives : (Q : Shed → History → Type 0) → ((u : UnitState) (o : Sending) (ws : List Written) → Begun order s accepted-table u o ws → Q (shedOf (C.made (unitsOf s) pool (U.accepted u o ws))) (R.begunWith R.cells (instanceOf s) (U.accepted u o ws)))
       → Q (shedMade order s pool) (R.begin order (instanceOf s))
   unfolding makeOf R.begin
   making-gives Q f =
       subst (λ r. Q (shedOf (C.made (unitsOf s) pool (unlessRefused r (assign (viewBy order (instanceOf s) 0) fresh)))) (R.begunWith R.cells (instanceOf s) (assign (viewBy order (instanceOf s) 0) fresh))) (sym no-refusal)
-      (go (assign (viewBy order (instanceOf s) 0) fresh) (start-simulated order (instanceOf s) (sound-of s accepted-table) (stream-free s))
-      (start-in-range order (instanceOf s) (sizesIn s) (sound-of s accepted-table .n16) (views order s accepted-table) (sound-of s accepted-table .n1)))
-    where
-      go : (o : Decision) → Simulated order (instanceOf s) (replicate 16 fresh) [] (λ k. M.fresh) 0 first-step o → Whenever (Leaves order (instanceOf s) (sizesIn s) (replicate 16 fresh) 0) o
-          → Q (shedOf (C.made (unitsOf s) pool o)) (R.begunWith R.cells (instanceOf s) o)
-      go (U.refused r) x l = absurd x
-      go (U.accepted u o ws) x l = f u o ws (record { steps = x; leaves = l })
+      (unit-made order s accepted-table (λ o. Q (shedOf (C.made (unitsOf s) pool o)) (R.begunWith R.cells (instanceOf s) o)) f)
 
-  module _ (u : UnitState) (o : Sending) (ws : List Written) (b : Begun u o ws) where
+  module _ (u : UnitState) (o : Sending) (ws : List Written) (b : Begun order s accepted-table u o ws) where
     pub start-stands : Safe (problemBy order (instanceOf s)) (M.put (λ k. M.fresh) 0 (b .steps .agent))
         → Stands order s accepted-table (shedOf (C.made (unitsOf s) pool (U.accepted u o ws))) (R.begunWith R.cells (instanceOf s) (U.accepted u o ws)) (M.put (λ k. M.fresh) 0 (b .steps .agent))
     unfolding instanceOf
     start-stands safe =
         record {
-          core = core-starts order s accepted-table R.cells first-step u o ws (b .steps) (b .leaves) safe;
+          core = core-starts order s accepted-table R.cells u o ws b safe;
           sendable = b .leaves .sent;
           few = omega (arith, b .leaves .few);
           stored = start-stored (packets (unitsOf s) 0 o) pool (sized order s accepted-table (packets (unitsOf s) 0 o) (b .leaves .sent)) (omega (arith, b .leaves .few)) (makeable s pool no-refusal .1);

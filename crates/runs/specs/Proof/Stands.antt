@@ -11,8 +11,6 @@ use native.Mathlib.Omega.{arith}
 use lib.Dec.{leb}
 use lib.ListN.{length, take, length-append}
 use Rattle.base.specs.Limits.{poolCells}
-use Rattle.base.specs.Every.{every}
-use Rattle.base.specs.Every.Laws.{every-by}
 use Rattle.base.specs.Members.{In, here, Every}
 use Rattle.base.specs.Members.Laws.{in-right, every-append}
 use Rattle.table.specs.Stream.{unitsOf, Accepted}
@@ -37,17 +35,12 @@ use Rattle.protocol.specs.Simulation.Units.{StepsTo}
 use Rattle.runs.specs.Pool.{cellOf, poolAfter, poolWith}
 use Rattle.runs.specs.Pool.Stored.{AllSized, StandsAt, stands-at, Stored, cell-in-use, cell-bytes, used-after}
 use Rattle.runs.specs.Run as R
-use Rattle.runs.specs.Run.{History, DeliveryOf, cells, stopped}
+use Rattle.runs.specs.Run.{History, cells, stopped}
 use Rattle.runs.specs.Calls as C
-use Rattle.runs.specs.Calls.{networkRefusal, receiverOf, stepFrom8, deliverOf, echoOf}
+use Rattle.runs.specs.Calls.{coreRefusal, networkRefusal, receiverOf, stepFrom8, deliverOf, echoOf}
 use Rattle.runs.specs.Demand3.{Shed}
-use Rattle.runs.specs.Code.{unitInRange, check-stopped, check-running, check-none, deliver-goes, echo-goes}
-use Rattle.runs.specs.Proof.Core.{CoreFollows, receiver-is, step-is, core-steps}
-
--- the number of a refusal, 0 where the delivery was accepted
-abbrev pub numberOf : DeliveryOf (List Packet) → ℕ
-numberOf (R.refusedBy r) = r
-numberOf (R.delivered K) = 0
+use Rattle.runs.specs.Code.{check-stopped, check-running, check-none, deliver-goes, echo-goes}
+use Rattle.runs.specs.Proof.Core.{CoreFollows, core-passes, receiver-is, step-is, core-steps}
 
 module _ (order : ValueOrder) (s : List ℕ) (ok : Accepted s) where
   -- ---- what stands
@@ -66,9 +59,8 @@ module _ (order : ValueOrder) (s : List ℕ) (ok : Accepted s) where
   module _ (S : Shed) (H : History) (us : ℕ → Agent) (i : Stands S H us) where
     -- ---- the checks: all pass until unit 1 has stopped, and then it is 12
 
-    units-pass : every (unitInRange order s (S .network .core .units)) (unitsOf s) ≡ true
-    unfolding instanceOf
-    units-pass = every-by (unitInRange order s (S .network .core .units)) (unitsOf s) (λ k l. subst (λ hs. unitInRange order s hs k ≡ true) (sym (i .core .same)) (i .core .units .states k l))
+    sound : coreRefusal order (S .network .core) s ≡ 0
+    sound = core-passes order s ok (S .network .core) H us (i .core)
 
     in-use : S .network .used ≤ poolCells
     in-use = omega (arith, i .stored .count, i .few)
@@ -77,12 +69,10 @@ module _ (order : ValueOrder) (s : List ℕ) (ok : Accepted s) where
     stop-is = ap (λ hs. unitAt hs 0 .stopped) (i .core .same)
 
     pub over-refuses : stopped H ≡ true → 12 ≡ networkRefusal order (S .network) s (S .pool)
-    unfolding Accepted
-    over-refuses st = check-stopped order (S .network) s (S .pool) (i .stored .room) ok units-pass in-use (stop-is ∙ st)
+    over-refuses st = check-stopped order (S .network) s (S .pool) (i .stored .room) sound in-use (stop-is ∙ st)
 
     pub running-passes : stopped H ≡ false → networkRefusal order (S .network) s (S .pool) ≡ 0
-    unfolding Accepted
-    running-passes st = sym (check-running order (S .network) s (S .pool) (i .stored .room) ok units-pass in-use (stop-is ∙ st))
+    running-passes st = sym (check-running order (S .network) s (S .pool) (i .stored .room) sound in-use (stop-is ∙ st))
 
     -- ---- a packet that can be written goes to its unit
 

@@ -1,12 +1,11 @@
 -- The loop that runs a network to its end does what `settleOf` says. None of its deliveries is refused, as oldest first never fills the pool.
 -- In order: what holds after each of these deliveries (`After`), and how it ends; the turns of the loop.
 -- Assumes nothing.
-use Prim.Native.Nat.{ℕ, zero, suc, _+_, _-_, _≤_, _<_}
+use Prim.Native.Nat.{ℕ, zero, suc, _-_, _≤_, _<_}
 use mathlib.Core.Path.{_≡_, refl, sym, ap, _∙_, subst}
 use mathlib.Core.Bool.{true, false}
 use mathlib.Core.List.{List, []}
 use native.Mathlib.Omega.{arith}
-use native.Mathlib.Nat.{add-zero, add-suc}
 use Rattle.table.specs.Stream.{Accepted}
 use Rattle.costs.specs.declared.ValueOrder.{ValueOrder}
 use Rattle.costs.specs.Instance.{instanceOf}
@@ -14,7 +13,9 @@ use Rattle.runs.specs.declared.Network.{Network}
 use Rattle.runs.specs.declared.Answer.{Answer}
 use Rattle.runs.specs.Count.{valueOf}
 use Rattle.runs.specs.Calls.{Result, makeOf, deliverOf}
-use Rattle.runs.specs.Demand3.{Shed, shedOf, shedMade, shedAfter, deliverAll, runBytes, refusalAt, acceptedIn, Made, most, over}
+use Rattle.runs.specs.Deliveries.{deliverAll, acceptedIn}
+use Rattle.runs.specs.Deliveries.Ending as E
+use Rattle.runs.specs.Demand3.{Shed, shedOf, shedMade, shedAfter, runBytes, refusalAt, delivery, Made, most, over}
 use Rattle.runs.specs.Proof.Making.{accepted-table}
 use Rattle.runs.specs.Theorem.{served, one-counted, oldest-accepted, oldest-ends, stopped-stays}
 use Rattle.runs.specs.Settle.{cellZero, settled, unlessUnmade, settleOf}
@@ -25,10 +26,10 @@ abbrev countOf : Shed → ℕ
 countOf S = valueOf (S .network .core .deliveries)
 
 abbrev pub After : ValueOrder → List ℕ → Shed → Shed → Type 0
-After order s S₀ S = S ≡ deliverAll order s S₀ (cellZero (valueOf (S .network .core .deliveries)))
+After order s S₀ S = S ≡ deliverAll (delivery order s) S₀ (cellZero (valueOf (S .network .core .deliveries)))
 
 -- one more
-one-more : (order : ValueOrder) (s : List ℕ) (S : Shed) (k : ℕ) → deliverAll order s S (cellZero (suc k)) ≡ shedAfter order s (deliverAll order s S (cellZero k)) 0
+one-more : (order : ValueOrder) (s : List ℕ) (S : Shed) (k : ℕ) → deliverAll (delivery order s) S (cellZero (suc k)) ≡ shedAfter order s (deliverAll (delivery order s) S (cellZero k)) 0
 unfolding deliverAll
 one-more order s S zero = refl
 one-more order s S (suc k) = one-more order s (shedAfter order s S 0) k
@@ -36,46 +37,41 @@ one-more order s S (suc k) = one-more order s (shedAfter order s S 0) k
 module _ (order : ValueOrder) (s pool : List ℕ) (made : Made order s pool) where
   after-making : After order s (shedMade order s pool) (shedMade order s pool)
   unfolding runBytes deliverAll acceptedIn
-  after-making = ap (λ k. deliverAll order s (shedMade order s pool) (cellZero k)) (sym (served order s pool made [] .deliveries))
+  after-making = ap (λ k. deliverAll (delivery order s) (shedMade order s pool) (cellZero k)) (sym (served order s pool made [] .deliveries))
+
+  promise : E.Promise (delivery order s) (shedMade order s pool) over countOf (most (instanceOf s))
+  unfolding runBytes
+  promise =
+      record {
+        bounded = λ cs. let v = served order s pool made cs in subst (λ x. x ≤ most (instanceOf s)) (sym (v .deliveries)) (v .bounded);
+        counted = one-counted order s pool made;
+        stays = stopped-stays order s pool made;
+      }
+
+  accepts : (k : ℕ) → over (deliverAll (delivery order s) (shedMade order s pool) (cellZero k)) ≡ false → refusalAt order s (deliverAll (delivery order s) (shedMade order s pool) (cellZero k)) 0 ≡ 0
+  unfolding runBytes
+  accepts = oldest-accepted order s pool made
 
   module _ (S : Shed) (a : After order s (shedMade order s pool) S) where
     -- no run accepts more than (3n - 1) × N
     after-bounded : countOf S ≤ most (instanceOf s)
-    unfolding runBytes
-    after-bounded =
-        let v = served order s pool made (cellZero (countOf S)) in
-        subst (λ x. x ≤ most (instanceOf s)) (sym (ap countOf a ∙ v .deliveries)) (v .bounded)
+    after-bounded = E.after-bounded (delivery order s) (shedMade order s pool) over countOf (λ S. 0) (most (instanceOf s)) promise cellZero (one-more order s (shedMade order s pool)) accepts S a
 
     -- until unit 1 stops one more is accepted
     after-accepted : over S ≡ false → refusalAt order s S 0 ≡ 0
-    unfolding runBytes
-    after-accepted st = subst (λ (T : Shed). over T ≡ false → refusalAt order s T 0 ≡ 0) (sym a) (oldest-accepted order s pool made (countOf S)) st
+    after-accepted = E.after-accepted (delivery order s) (shedMade order s pool) over countOf (λ S. 0) (most (instanceOf s)) promise cellZero (one-more order s (shedMade order s pool)) accepts S a
 
     after-next : over S ≡ false → (countOf (shedAfter order s S 0) ≡ suc (countOf S)) × After order s (shedMade order s pool) (shedAfter order s S 0)
-    unfolding runBytes
-    after-next st =
-        let c : countOf (shedAfter order s S 0) ≡ suc (countOf S) =
-        subst (λ (T : Shed). over T ≡ false → countOf (shedAfter order s T 0) ≡ suc (countOf T)) (sym a) (λ e. one-counted order s pool made (cellZero (countOf S)) 0 (oldest-accepted order s pool made (countOf S) e)) st in (
-          c,
-          ap (λ T. shedAfter order s T 0) a ∙ sym (one-more order s (shedMade order s pool) (countOf S)) ∙ ap (λ k. deliverAll order s (shedMade order s pool) (cellZero k)) (sym c),
-        )
-
-    -- once it has stopped, longer runs are where it stands
-    after-stopped : over S ≡ true → (j : ℕ) → runBytes order s pool (cellZero (countOf S + j)) ≡ S
-    unfolding runBytes
-    after-stopped st zero = ap (λ k. deliverAll order s (shedMade order s pool) (cellZero k)) (add-zero (countOf S)) ∙ sym a
-    after-stopped st (suc j) =
-        ap (λ k. deliverAll order s (shedMade order s pool) (cellZero k)) (add-suc (countOf S) j) ∙ one-more order s (shedMade order s pool) (countOf S + j) ∙ ap (λ T. shedAfter order s T 0) (after-stopped st j)
-        ∙ subst (λ (T : Shed). over T ≡ true → shedAfter order s T 0 ≡ T) (sym a) (stopped-stays order s pool made (cellZero (countOf S)) 0) st
+    after-next st = (
+      E.after-counted (delivery order s) (shedMade order s pool) over countOf (λ S. 0) (most (instanceOf s)) promise cellZero (one-more order s (shedMade order s pool)) accepts S a st,
+      E.after-next (delivery order s) (shedMade order s pool) over countOf (λ S. 0) (most (instanceOf s)) promise cellZero (one-more order s (shedMade order s pool)) accepts S a st,
+    )
 
     pub settles-stopped : over S ≡ true → settleOf order s pool ≡ settled S
-    unfolding settleOf
+    unfolding settleOf runBytes
     settles-stopped st =
-        ap (λ r. unlessUnmade order r s pool) made ∙ ap (λ k. settled (runBytes order s pool (cellZero k))) (split (most (instanceOf s)) (countOf S) after-bounded)
-        ∙ ap settled (after-stopped st (most (instanceOf s) - countOf S))
-      where
-        split : (x k : ℕ) → k ≤ x → x ≡ k + (x - k)
-        split x k l = omega arith
+        ap (λ r. unlessUnmade order r s pool) made
+        ∙ ap settled (E.after-all (delivery order s) (shedMade order s pool) over countOf (λ S. 0) (most (instanceOf s)) promise cellZero (one-more order s (shedMade order s pool)) accepts S a st)
 
   -- the network that is handed back has come to its end
   pub settle-ends : over (shedOf (settleOf order s pool)) ≡ true

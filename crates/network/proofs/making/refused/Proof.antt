@@ -4,7 +4,7 @@ use Rattle.network.proofs.making.refused.Statement.{statement}
 use Rattle.network.proofs.making.refused.Tie as tie
 
 returns : tie.Need-returns
-returns c = rw (c .before .no-unit .ensures, c .no-count .ensures)
+returns c = rw (c .no-core .ensures)
 
 pub refused-spec : {M : Type 1} → statement M
-refused-spec = tie.close (tie.spec (λ c κs. search needs) (λ c κs. search needs) returns)
+refused-spec = tie.close (tie.spec (λ c κs. search needs) returns)

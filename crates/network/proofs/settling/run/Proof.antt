@@ -65,11 +65,11 @@ part-receiver-end c = let l = passed (c .before) .passed .room in search needs
 module _ (c : tie.After-receiver Inv-loop μ-loop) where
   first : 1 ≤ c .receiver .result
   first =
-      own-first (c .before .before .before .before .before .before .before .before .before .before .before .before .before .before .args .order) (record { core = c .before .before .before .before .loop .core; used = c .before .before .before .before .loop .used }) (c .before .before .before .before .before .before .before .before .before .before .before .before .before .before .args .stream .now) (c .before .before .before .before .loop .pool) (passed (c .before .before .before) .passed) (c .before .before .before .before .before .before .before .before .before .before .before .units-of .result) (c .receiver .result) (take 64 (drop 0 (c .before .before .before .before .loop .pool))) (c .before .before .before .before .before .before .before .before .before .before .before .units-of .ensures) (c .receiver .ensures .0)
+      own-first (c .before .before .before .before .before .before .before .before .before .before .before .before .before .before .args .order) (c .before .before .before .before .loop .core) (c .before .before .before .before .before .before .before .before .before .before .before .before .before .before .args .stream .now) (passed (c .before .before .before) .passed .core) (c .before .before .before .before .before .before .before .before .before .before .before .units-of .result) (c .receiver .result) (take 64 (drop 0 (c .before .before .before .before .loop .pool))) (c .before .before .before .before .before .before .before .before .before .before .before .units-of .ensures) (c .receiver .ensures .0)
 
   last : c .receiver .result ≤ unitsOf (c .before .before .before .before .before .before .before .before .before .before .before .before .before .before .args .stream .now)
   last =
-      own-last (c .before .before .before .before .before .before .before .before .before .before .before .before .before .before .args .order) (record { core = c .before .before .before .before .loop .core; used = c .before .before .before .before .loop .used }) (c .before .before .before .before .before .before .before .before .before .before .before .before .before .before .args .stream .now) (c .before .before .before .before .loop .pool) (passed (c .before .before .before) .passed) (c .before .before .before .before .before .before .before .before .before .before .before .units-of .result) (c .receiver .result) (take 64 (drop 0 (c .before .before .before .before .loop .pool))) (c .before .before .before .before .before .before .before .before .before .before .before .units-of .ensures) (c .receiver .ensures .0)
+      own-last (c .before .before .before .before .before .before .before .before .before .before .before .before .before .before .args .order) (c .before .before .before .before .loop .core) (c .before .before .before .before .before .before .before .before .before .before .before .before .before .before .args .stream .now) (passed (c .before .before .before) .passed .core) (c .before .before .before .before .before .before .before .before .before .before .before .units-of .result) (c .receiver .result) (take 64 (drop 0 (c .before .before .before .before .loop .pool))) (c .before .before .before .before .before .before .before .before .before .before .before .units-of .ensures) (c .receiver .ensures .0)
 
   place : c .receiver .result - 1 < 16
   place = omega (arith, first, last, accepted-units (c .before .before .before .before .before .before .before .before .before .before .before .before .before .before .args .stream .now) (table (c .before .before .before .before .before .before .before .before .before .before .before .before .before .before)) .1)
