@@ -383,12 +383,12 @@ uint64_t riksamoe_slot_of(uint8_t n, uint8_t kind, uint8_t sender, uint8_t recei
  * With it a box that can't step at once needs no queue, only a slot for each sender and kind, 19 at most:
  *
  *   1. When a packet arrives, riksamoe_message_parse gives its kind, sender and receiver. Drop it where that refuses it, or it is for another box.
- *   2. If its slot is empty, it goes in. If not, call riksamoe_newer with the slot first and the packet second: 2, it takes the place of the one
- *      there; 1, drop it. It is not 0 here.
+ *   2. If its slot is empty, it goes in. If not, call riksamoe_newer with the packet first and the slot second: 1, it takes the place of the one
+ *      there; 2, drop it. It is not 0 here.
  *   3. To step, copy a packet out of its slot, empty the slot, and go on as in 3 at the top.
  *
- * The older of the two is never needed. This is proved of a network over slots, as above, where a packet is overwritten when a fresh one is sent;
- * the fresh one is never the older of the two. */
+ * The older of the two is never needed. This is proved of a network over slots, as above, where a packet is overwritten when a fresh one is sent:
+ * of these two riksamoe_newer, lent the fresh one first, gives 1. */
 uint8_t riksamoe_newer(uint8_t n, riksamoe_sizes_t sizes, const uint8_t *first, size_t first_length, const uint8_t *second,
                        size_t second_length);
 uint8_t riksamoe_newer_refusal(uint8_t n, riksamoe_sizes_t sizes, const uint8_t *first, size_t first_length, const uint8_t *second,

@@ -11,5 +11,6 @@ pub use handing::receiver;
 pub use handing::step;
 pub use making::begun;
 pub use making::first_step;
+pub use making::make_refusal;
 pub use making::no_core;
 pub use states::refusal;

@@ -11,7 +11,7 @@ ghost use Rattle.table.specs.Stream.{unitsOf};
 ghost use Rattle.rules.specs.State.{noUnit};
 ghost use Rattle.rules.specs.Calls.{outcomeOf, bytesOf};
 ghost use Rattle.runs.specs.Count.{zeroCount};
-ghost use Rattle.runs.specs.Calls.{noCore, coreBegun, firstLent};
+ghost use Rattle.runs.specs.Calls.{noCore, coreBegun, makingRefusal, firstLent};
 
 // Unit 1 is made, with the costs gathered from the stream, and what it sends is laid at the front of `out`.
 pub fn first_step(order: ValueOrder, stream: &[u8], out: &mut [u8]) -> Outcome
@@ -60,4 +60,18 @@ fn no_count() -> Count
     ensures { λ r. ⌜ r ≡ zeroCount ⌝ }
 {
     Count { low: 0, high: 0 }
+}
+
+// The first refusal of making that applies, or 0, for a pool of `room` bytes that needs `size` of them.
+pub fn make_refusal(stream: &[u8], room: usize, size: usize) -> u8
+    ensures { λ r. ⌜ r ≡ makingRefusal size (now (stream .entry)) room ⌝ }
+{
+    let refusal = table::stream_refusal(stream);
+    if refusal != 0 {
+        return refusal;
+    }
+    if room < size {
+        return 13;
+    }
+    0
 }

@@ -5,11 +5,8 @@ use runs::Answer;
 use runs::Network;
 use unit::Outcome;
 ghost use mathlib.Core.Path.{_≡_};
-ghost use mathlib.Core.List.{List};
-ghost use Prim.Native.Nat.{ℕ};
-ghost use lib.ListN.{length};
 ghost use Rattle.costs.specs.Order.{defaultOrder};
-ghost use Rattle.runs.specs.Calls.{noNetwork, makingRefusal, makeOf};
+ghost use Rattle.runs.specs.Calls.{noNetwork, makeOf};
 ghost use Rattle.runs.specs.Code.{begunAnswer};
 
 // A network of a stream's table, its messages at the front of the pool. Refusals 5, 6, 7, 13 in order.
@@ -23,26 +20,12 @@ pub fn make(stream: &[u8], pool: &mut [u8]) -> Answer
 pub fn make_by(order: ValueOrder, stream: &[u8], pool: &mut [u8]) -> Answer
     ensures { λ r. ⌜ (r ≡ makeOf order (now (stream .entry)) (now (pool .entry)) .answer) × (now (pool .exit) ≡ makeOf order (now (stream .entry)) (now (pool .entry)) .pool) ⌝ }
 {
-    let refusal = make_refusal(stream, pool.len());
+    let refusal = core::make_refusal(stream, pool.len(), base::POOL_SIZE);
     if refusal != 0 {
         return refused(refusal);
     }
     let r = core::first_step(order, stream, pool);
     begun(r)
-}
-
-// The first refusal of making that applies, or 0.
-fn make_refusal(stream: &[u8], room: usize) -> u8
-    ensures { λ r. ⌜ ((pool : List ℕ) → length pool ≡ room → r ≡ makingRefusal (now (stream .entry)) pool) ⌝ }
-{
-    let refusal = table::stream_refusal(stream);
-    if refusal != 0 {
-        return refusal;
-    }
-    if room < base::POOL_SIZE {
-        return 13;
-    }
-    0
 }
 
 // The network after unit 1's making: what it sent waits in the pool.

@@ -22,7 +22,7 @@ use Rattle.readings.specs.Readings.{linesOf}
 use Rattle.readings.specs.Table.{lines-accepted}
 
 -- making refuses no accepted stream, in a pool that is long enough
-no-refusal : (s pool : List ℕ) → Accepted s → poolSize ≤ length pool → makingRefusal s pool ≡ 0
+no-refusal : (s pool : List ℕ) → Accepted s → poolSize ≤ length pool → makingRefusal poolSize s (length pool) ≡ 0
 unfolding makingRefusal Accepted
 no-refusal s pool ok room = rw (ok, le-ltb (length pool) poolSize room)
 

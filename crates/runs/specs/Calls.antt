@@ -24,6 +24,10 @@ coreBegun u records = record { units = set (replicate 16 fresh) 0 u; records = p
 abbrev pub coreAfter : Core → ℕ → Unit → ℕ → Core
 coreAfter core own u records = record { units = set (core .units) (pred own) u; records = plus records (core .records); deliveries = plus 1 (core .deliveries) }
 
+-- 01, of making: "5, 6, 7, 13", for a pool of `room` bytes that needs `size` of them
+unfoldable pub makingRefusal : ℕ → List ℕ → ℕ → ℕ
+makingRefusal size stream room = orElse (streamRefusal stream) (cond (ltb room size) 13 0)
+
 -- the first of 5 (n, sizes), 6, 7, 5 (any unit's state) that applies, or 0; units 1 to n only
 unfoldable pub coreRefusal : ValueOrder → Core → List ℕ → ℕ
 coreRefusal order core stream =
@@ -57,13 +61,9 @@ made n pool (accepted u s ws) =
     let ps = packets n 0 s in
     record { answer = record { refusal = 0; network = record { core = coreBegun u (length ws); used = length ps } }; pool = laid ps pool }
 
--- 01: "5, 6, 7, 13"
-unfoldable pub makingRefusal : List ℕ → List ℕ → ℕ
-makingRefusal stream pool = orElse (streamRefusal stream) (cond (ltb (length pool) poolSize) 13 0)
-
 -- 01: "Making unit 1 assigns"
 unfoldable pub makeOf : ValueOrder → List ℕ → List ℕ → Result
-makeOf order stream pool = made (unitsOf stream) pool (unlessRefused (makingRefusal stream pool) (assign (viewBy order (instanceOf stream) 0) fresh))
+makeOf order stream pool = made (unitsOf stream) pool (unlessRefused (makingRefusal poolSize stream (length pool)) (assign (viewBy order (instanceOf stream) 0) fresh))
 
 -- ---- a delivery
 

@@ -456,25 +456,25 @@ module _ (order : ValueOrder) (net : Network) (s pool : List ℕ) (checks : Pass
 
 -- ---- making
 
-module _ (s pool : List ℕ) where
-  pub make-table : (r : ℕ) → r ≡ streamRefusal s → (r ≡ 0 → ⊥) → r ≡ makingRefusal s pool
+module _ (size : ℕ) (s : List ℕ) (room : ℕ) where
+  pub make-table : (r : ℕ) → r ≡ streamRefusal s → (r ≡ 0 → ⊥) → r ≡ makingRefusal size s room
   unfolding makingRefusal
   make-table r e z = rw (← e, or-first r _ z)
 
-  pub make-room : streamRefusal s ≡ 0 → length pool < poolSize → 13 ≡ makingRefusal s pool
+  pub make-room : streamRefusal s ≡ 0 → room < size → 13 ≡ makingRefusal size s room
   unfolding makingRefusal
-  make-room e l = rw (e, lt-ltb (length pool) poolSize l)
+  make-room e l = rw (e, lt-ltb room size l)
 
-  pub make-none : streamRefusal s ≡ 0 → poolSize ≤ length pool → 0 ≡ makingRefusal s pool
+  pub make-none : streamRefusal s ≡ 0 → size ≤ room → 0 ≡ makingRefusal size s room
   unfolding makingRefusal
-  make-none e l = rw (e, le-ltb (length pool) poolSize l)
+  make-none e l = rw (e, le-ltb room size l)
 
-  pub makeable : makingRefusal s pool ≡ 0 → Accepted s × (poolSize ≤ length pool)
+  pub makeable : makingRefusal size s room ≡ 0 → Accepted s × (size ≤ room)
   unfolding makingRefusal Accepted
-  makeable z = (or-left (streamRefusal s) _ z, ltb-false (length pool) poolSize (if-so _ 12 (or-right (streamRefusal s) _ z)))
+  makeable z = (or-left (streamRefusal s) _ z, ltb-false room size (if-so _ 12 (or-right (streamRefusal s) _ z)))
 
 module _ (order : ValueOrder) (s pool : List ℕ) where
-  pub make-refuses : (r : ℕ) → r ≡ makingRefusal s pool → (r ≡ 0 → ⊥) → (record { refusal = r; network = noNetwork } ≡ makeOf order s pool .answer) × (pool ≡ makeOf order s pool .pool)
+  pub make-refuses : (r : ℕ) → r ≡ makingRefusal poolSize s (length pool) → (r ≡ 0 → ⊥) → (record { refusal = r; network = noNetwork } ≡ makeOf order s pool .answer) × (pool ≡ makeOf order s pool .pool)
   unfolding makeOf
   make-refuses zero e z = absurd (z refl)
   make-refuses (suc r) e z = rw (← e) (refl, refl)
@@ -493,7 +493,7 @@ begunAnswer r = record { refusal = 0; network = record { core = coreBegun (r .un
 
 module _ (order : ValueOrder) (s pool : List ℕ) (r : Outcome) (out : List ℕ) (told : r ≡ outcomeOf (unitsOf s) 0 noUnit (assign (viewBy order (instanceOf s) 0) fresh))
     (sent : out ≡ bytesOf (unitsOf s) 0 pool (assign (viewBy order (instanceOf s) 0) fresh)) where
-  pub make-begins : makingRefusal s pool ≡ 0 → (begunAnswer r ≡ makeOf order s pool .answer) × (out ≡ makeOf order s pool .pool)
+  pub make-begins : makingRefusal poolSize s (length pool) ≡ 0 → (begunAnswer r ≡ makeOf order s pool .answer) × (out ≡ makeOf order s pool .pool)
   unfolding makeOf
   make-begins z = rw z (go (assign (viewBy order (instanceOf s) 0) fresh) (assign-accepts (viewBy order (instanceOf s) 0) fresh) told sent)
     where

@@ -16,7 +16,7 @@ use Rattle.costs.specs.declared.ValueOrder.{ValueOrder}
 use Rattle.costs.specs.Least.{LeastFirst, Padded}
 use Rattle.costs.specs.Least.Laws.{first-unique}
 use Rattle.costs.specs.Laws.Prefix.{reported-same}
-use Rattle.costs.specs.Instance.{instanceOf}
+use Rattle.costs.specs.Instance.{Instance, instanceOf}
 use Rattle.costs.specs.Laws.Tried.{problemBy}
 use Rattle.costs.specs.Laws.Stream.{sound-of}
 use Rattle.costs.specs.Gather.{sizesIn}
@@ -40,7 +40,7 @@ use Rattle.runs.specs.Run.{DeliveryOf, cells, handOver, runIn, run}
 use Rattle.runs.specs.Calls.{deliverOf}
 use Rattle.runs.specs.Deliveries.{deliverAll, acceptedIn, handedIn}
 use Rattle.runs.specs.Deliveries.Laws.{goes-on}
-use Rattle.runs.specs.Demand3.{shedOf, shedMade, shedAfter, runBytes, refusalAt, delivery, Made, over, reportOf, most, Honest, Served, Demand3}
+use Rattle.runs.specs.Demand3.{ShedReport, shedOf, shedMade, shedAfter, runBytes, refusalAt, delivery, Made, over, reportOf, most, Honest, Served, Demand3}
 use Rattle.runs.specs.Proof.Follow as F
 use Rattle.runs.specs.Proof.Invariant.{Invariant, deliveries-exact}
 use Rattle.runs.specs.Proof.Making.{none-handed, accepted-table, make-invariant}
@@ -187,21 +187,26 @@ module _ (order : ValueOrder) (s pool : List ℕ) (made : Made order s pool) whe
 
 -- ---- two runs of one table
 
+-- what unit 1 reports, told an order
+abbrev Told : ValueOrder → Instance → ShedReport → Type 0
+Told order I r = LeastFirst order I (r .total) (r .assignment) × Padded (I .n) (r .assignment)
+
+-- Two such reports have the same total, and, told one order, the same lotting, whatever pools they come from.
+pub one-report : (I : Instance) (order order′ : ValueOrder) (r r′ : ShedReport) → Told order I r → Told order′ I r′ → (r .total ≡ r′ .total) × (order ≡ order′ → r .assignment ≡ r′ .assignment)
+one-report I order order′ r r′ a b = (
+  reported-same I _ _ _ _ (a .0 .reported) (b .0 .reported),
+  λ q. first-unique order′ I _ _ _ _ (subst (λ (o : ValueOrder). LeastFirst o I (r .total) (r .assignment)) q (a .0)) (b .0) (a .1) (b .1),
+)
+
 -- DEMAND 3: for every table that making accepts, any two orders of values, any two pools, and any two lists of cells.
 pub demand3 : (s : List ℕ) (order : ValueOrder) (pool : List ℕ) → Made order s pool → (cells : List ℕ) (order′ : ValueOrder) (pool′ : List ℕ) → Made order′ s pool′ → (cells′ : List ℕ)
     → Demand3 s order pool cells order′ pool′ cells′
 demand3 s order pool made cells order′ pool′ made′ cells′ =
+    let one = served order s pool made cells in
+    let other = served order′ s pool′ made′ cells′ in
     record {
       one = one;
       other = other;
-      agree = λ e e′. reported-same (instanceOf s) _ _ _ _ (one .reported e) (other .reported e′);
-      same = λ q e e′.
-          let l = subst (λ (o : ValueOrder). LeastFirst o (instanceOf s) (reportOf (runBytes order s pool cells) .total) (reportOf (runBytes order s pool cells) .assignment)) q (one .lotting e .0) in
-          first-unique order′ (instanceOf s) _ _ _ _ l (other .lotting e′ .0) (one .lotting e .1) (other .lotting e′ .1);
+      agree = λ e e′. one-report (instanceOf s) order order′ _ _ (one .lotting e) (other .lotting e′) .0;
+      same = λ q e e′. one-report (instanceOf s) order order′ _ _ (one .lotting e) (other .lotting e′) .1 q;
     }
-  where
-    one : Served order s pool cells
-    one = served order s pool made cells
-
-    other : Served order′ s pool′ cells′
-    other = served order′ s pool′ made′ cells′

@@ -3,13 +3,13 @@
 -- 02, job 4: "This pool has no count for check 5", and no 14. Assumes nothing.
 use Rattle.base.specs.Library.{ℕ, zero, suc, pred, Bool, false, cond, not, List, ltb, eqb, length}
 use Rattle.base.specs.{Refusal.orElse}
-use Rattle.table.specs.Stream.{unitsOf, streamRefusal}
+use Rattle.table.specs.Stream.{unitsOf}
 use Rattle.costs.specs.declared.ValueOrder.{ValueOrder}
 use Rattle.costs.specs.{Instance.viewBy, Instance.instanceOf, Gather.sizesIn}
 use Rattle.message.specs.{declared.Read.the-variants.Good, declared.Read.the-variants.Refused, declared.Message.Message, declared.Read.Read, Decode.parseFor}
 use Rattle.rules.specs.{State.fresh, Send.packets, Calls.unlessRefused, Units.unitAt}
 use Rattle.rules.specs.Step.{Decision, refused, accepted, assign}
-use Rattle.runs.specs.{declared.Core.Core, Pool.cellOf, Calls.noCore, Calls.coreBegun, Calls.coreAfter, Calls.coreRefusal, Calls.receiverOf, Calls.stepFrom8}
+use Rattle.runs.specs.{declared.Core.Core, Pool.cellOf, Calls.noCore, Calls.coreBegun, Calls.makingRefusal, Calls.coreAfter, Calls.coreRefusal, Calls.receiverOf, Calls.stepFrom8}
 use Rattle.slots.specs.{declared.Answer.Answer, Slot.slotPoolSize, Slot.slotNumber, Bytes.takeOut, Bytes.placeBytes, Bytes.zeroCells, Bytes.isEmpty}
 
 -- what a call gives: the answer, and the bytes of the lent pool
@@ -26,13 +26,9 @@ abbrev pub made : ℕ → List ℕ → Decision → Result
 made n pool (refused r) = refusedWith noCore pool r
 made n pool (accepted u s ws) = record { answer = record { refusal = 0; core = coreBegun u (length ws) }; pool = placeBytes n (zeroCells n pool) (packets n 0 s) }
 
--- 01: "5, 6, 7, 13"; 02: "The pool is 19,200 bytes, and 13 reads so for this pool"
-unfoldable pub makingRefusal : List ℕ → List ℕ → ℕ
-makingRefusal stream pool = orElse (streamRefusal stream) (cond (ltb (length pool) slotPoolSize) 13 0)
-
--- 01: "Making unit 1 assigns"
+-- 01: "Making unit 1 assigns"; 02: "The pool is 19,200 bytes, and 13 reads so for this pool"
 unfoldable pub makeOf : ValueOrder → List ℕ → List ℕ → Result
-makeOf order stream pool = made (unitsOf stream) pool (unlessRefused (makingRefusal stream pool) (assign (viewBy order (instanceOf stream) 0) fresh))
+makeOf order stream pool = made (unitsOf stream) pool (unlessRefused (makingRefusal slotPoolSize stream (length pool)) (assign (viewBy order (instanceOf stream) 0) fresh))
 
 -- ---- a delivery
 

@@ -12,11 +12,11 @@ use mathlib.Core.Option.{none}
 use native.Mathlib.Omega.{arith}
 use lib.Dec.{ltb, eqb}
 use lib.ListN.{length, take, length-replicate}
-use borrow.Author.Tests.{lt-ltb, le-ltb, ltb-false}
-use Rattle.base.specs.Refusal.Laws.{or-left, or-right, or-first}
+use borrow.Author.Tests.{ltb-false}
+use Rattle.base.specs.Refusal.Laws.{or-left, or-right}
 use Rattle.base.specs.Limits.{sendingSize, messageSize}
 use Rattle.base.specs.Bytes.Laws.{AllBytes}
-use Rattle.table.specs.Stream.{unitsOf, streamRefusal, Accepted}
+use Rattle.table.specs.Stream.{unitsOf, Accepted}
 use Rattle.table.specs.StreamLaws.{accepted-units}
 use Rattle.costs.specs.declared.ValueOrder.{ValueOrder}
 use Rattle.costs.specs.Instance.{viewBy, instanceOf, lentView}
@@ -44,14 +44,14 @@ use Rattle.runs.specs.declared.Core.{Core}
 use Rattle.runs.specs.Pool.{cellOf}
 use Rattle.runs.specs.Pool.Laws.{sent-front}
 use Rattle.runs.specs.Pool.Stored.{encode-all-length}
-use Rattle.runs.specs.Calls.{noCore, coreBegun, coreAfter, coreRefusal, receiverOf, lentOf, stepLent, firstLent, stepFrom8}
+use Rattle.runs.specs.Calls.{noCore, makingRefusal, coreBegun, coreAfter, coreRefusal, receiverOf, lentOf, stepLent, firstLent, stepFrom8}
 use Rattle.runs.specs.Code.{if-so, few-sent, step-numbered, SoundCore, sound-core, Stepped, lent-is, first-step, own-is, own-first, own-most, at-place, hand-told, hand-keeps}
 use Rattle.slots.specs.Slot.{slotPoolSize, usedSlots, mayCarry, slotOrNone}
 use Rattle.slots.specs.Bytes.{slotBytes, takeOut, placeBytes, zeroCells}
 use Rattle.slots.specs.Bytes.Laws.{length-put, length-zeroed}
 use Rattle.slots.specs.Checks.{deliver-refused}
 use Rattle.slots.specs.Slot.Laws.{used-fits, read-allowed}
-use Rattle.slots.specs.Calls.{made, makingRefusal, makeOf, deliverRefusal, isStray, stored, deliverBy, deliverOf}
+use Rattle.slots.specs.Calls.{made, makeOf, deliverRefusal, isStray, stored, deliverBy, deliverOf}
 use Rattle.slots.specs.Placing.{placeSent, not-empty, sent-placed}
 
 -- ---- what a step sent, placed
@@ -66,25 +66,8 @@ module _ (s : List ℕ) (ok : Accepted s) (order : ValueOrder) (k : ℕ) where
 
 -- ---- making
 
-module _ (s pool : List ℕ) where
-  pub make-table : (r : ℕ) → r ≡ streamRefusal s → (r ≡ 0 → ⊥) → r ≡ makingRefusal s pool
-  unfolding makingRefusal
-  make-table r e z = rw (← e, or-first r _ z)
-
-  pub make-room : streamRefusal s ≡ 0 → length pool < slotPoolSize → 13 ≡ makingRefusal s pool
-  unfolding makingRefusal
-  make-room e l = rw (e, lt-ltb (length pool) slotPoolSize l)
-
-  pub make-none : streamRefusal s ≡ 0 → slotPoolSize ≤ length pool → 0 ≡ makingRefusal s pool
-  unfolding makingRefusal
-  make-none e l = rw (e, le-ltb (length pool) slotPoolSize l)
-
-  pub makeable : makingRefusal s pool ≡ 0 → Accepted s × (slotPoolSize ≤ length pool)
-  unfolding makingRefusal Accepted
-  makeable z = (or-left (streamRefusal s) _ z, ltb-false (length pool) slotPoolSize (if-so _ 12 (or-right (streamRefusal s) _ z)))
-
 module _ (order : ValueOrder) (s pool : List ℕ) where
-  pub make-refuses : (r : ℕ) → r ≡ makingRefusal s pool → (r ≡ 0 → ⊥) → (record { refusal = r; core = noCore } ≡ makeOf order s pool .answer) × (pool ≡ makeOf order s pool .pool)
+  pub make-refuses : (r : ℕ) → r ≡ makingRefusal slotPoolSize s (length pool) → (r ≡ 0 → ⊥) → (record { refusal = r; core = noCore } ≡ makeOf order s pool .answer) × (pool ≡ makeOf order s pool .pool)
   unfolding makeOf
   make-refuses zero e z = absurd (z refl)
   make-refuses (suc r) e z = rw (← e) (refl, refl)
@@ -113,7 +96,7 @@ module _ (order : ValueOrder) (s : List ℕ) (ok : Accepted s) where
     pub first-sent : r .sent ≤ 16
     first-sent = few-sent order s 1 noUnit first r told-first first-keeps
 
-    pub make-begins : (pool : List ℕ) → makingRefusal s pool ≡ 0 → slotPoolSize ≤ length pool
+    pub make-begins : (pool : List ℕ) → makingRefusal slotPoolSize s (length pool) ≡ 0 → slotPoolSize ≤ length pool
         → (record { refusal = 0; core = coreBegun (r .unit) (r .records) } ≡ makeOf order s pool .answer) × (placeSent (unitsOf s) (zeroCells (unitsOf s) pool) out 0 (r .sent) ≡ makeOf order s pool .pool)
     unfolding makeOf
     make-begins pool z room =

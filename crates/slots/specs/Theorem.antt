@@ -12,8 +12,6 @@ use Rattle.base.specs.Members.{In}
 use Rattle.table.specs.Stream.{Accepted}
 use Rattle.costs.specs.declared.ValueOrder.{ValueOrder}
 use Rattle.costs.specs.Least.{LeastFirst, Padded}
-use Rattle.costs.specs.Least.Laws.{first-unique}
-use Rattle.costs.specs.Laws.Prefix.{reported-same}
 use Rattle.costs.specs.Instance.{instanceOf}
 use Rattle.costs.specs.Laws.Tried.{problemBy}
 use Rattle.costs.specs.Laws.Stream.{sound-of}
@@ -34,6 +32,7 @@ use Rattle.runs.specs.Deliveries.Laws.{goes-on}
 use Rattle.runs.specs.Demand3 as D
 use Rattle.runs.specs.Demand3.{most}
 use Rattle.runs.specs.Theorem as O
+use Rattle.runs.specs.Theorem.{one-report}
 use Rattle.runs.specs.Proof.Follow as F
 use Rattle.slots.specs.Run.{slots, begin, run}
 use Rattle.slots.specs.Bytes.{isEmpty}
@@ -157,20 +156,14 @@ module _ (order : ValueOrder) (s pool : List ℕ) (made : Made order s pool) whe
 pub demand3 : (s : List ℕ) (order : ValueOrder) (pool : List ℕ) → Made order s pool → (cells : List ℕ) (order′ : ValueOrder) (pool′ : List ℕ) → Made order′ s pool′ → (cells′ : List ℕ)
     → Demand3 s order pool cells order′ pool′ cells′
 demand3 s order pool made cells order′ pool′ made′ cells′ =
+    let one = served order s pool made cells in
+    let other = served order′ s pool′ made′ cells′ in
     record {
       one = one;
       other = other;
-      agree = λ e e′. reported-same (instanceOf s) _ _ _ _ (one .reported e) (other .reported e′);
-      same = λ q e e′.
-          let l = subst (λ (o : ValueOrder). LeastFirst o (instanceOf s) (reportOf (runBytes order s pool cells) .total) (reportOf (runBytes order s pool cells) .assignment)) q (one .lotting e .0) in
-          first-unique order′ (instanceOf s) _ _ _ _ l (other .lotting e′ .0) (one .lotting e .1) (other .lotting e′ .1);
+      agree = λ e e′. one-report (instanceOf s) order order′ _ _ (one .lotting e) (other .lotting e′) .0;
+      same = λ q e e′. one-report (instanceOf s) order order′ _ _ (one .lotting e) (other .lotting e′) .1 q;
     }
-  where
-    one : Served order s pool cells
-    one = served order s pool made cells
-
-    other : Served order′ s pool′ cells′
-    other = served order′ s pool′ made′ cells′
 
 -- ---- a run over this pool and one over 01's
 
@@ -180,10 +173,4 @@ pub two-pools : (s : List ℕ) (order : ValueOrder) (pool : List ℕ) → Made o
     → (reportOf (runBytes order s pool cells) .total ≡ D.reportOf (D.runBytes order′ s pool′ cells′) .total)
     × (order ≡ order′ → reportOf (runBytes order s pool cells) .assignment ≡ D.reportOf (D.runBytes order′ s pool′ cells′) .assignment)
 two-pools s order pool made cells order′ pool′ made′ cells′ e e′ =
-    let a = served order s pool made cells in
-    let b = O.served order′ s pool′ made′ cells′ in (
-      reported-same (instanceOf s) _ _ _ _ (a .reported e) (b .reported e′),
-      λ q.
-          let l = subst (λ (o : ValueOrder). LeastFirst o (instanceOf s) (reportOf (runBytes order s pool cells) .total) (reportOf (runBytes order s pool cells) .assignment)) q (a .lotting e .0) in
-          first-unique order′ (instanceOf s) _ _ _ _ l (b .lotting e′ .0) (a .lotting e .1) (b .lotting e′ .1),
-    )
+    one-report (instanceOf s) order order′ _ _ (served order s pool made cells .lotting e) (O.served order′ s pool′ made′ cells′ .lotting e′)

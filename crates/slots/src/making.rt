@@ -6,11 +6,8 @@ use crate::cells::place_all;
 use crate::cells::zero_cells;
 use costs::ValueOrder;
 ghost use mathlib.Core.Path.{_≡_};
-ghost use mathlib.Core.List.{List};
-ghost use Prim.Native.Nat.{ℕ};
-ghost use lib.ListN.{length};
 ghost use Rattle.costs.specs.Order.{defaultOrder};
-ghost use Rattle.slots.specs.Calls.{makingRefusal, makeOf};
+ghost use Rattle.slots.specs.Calls.{makeOf};
 
 // A network of a stream's table, its messages each in its own cell. Refusals 5, 6, 7, 13 in order.
 pub fn make(stream: &[u8], pool: &mut [u8]) -> Answer
@@ -23,7 +20,7 @@ pub fn make(stream: &[u8], pool: &mut [u8]) -> Answer
 pub fn make_by(order: ValueOrder, stream: &[u8], pool: &mut [u8]) -> Answer
     ensures { λ r. ⌜ (r ≡ makeOf order (now (stream .entry)) (now (pool .entry)) .answer) × (now (pool .exit) ≡ makeOf order (now (stream .entry)) (now (pool .entry)) .pool) ⌝ }
 {
-    let refusal = make_refusal(stream, pool.len());
+    let refusal = core::make_refusal(stream, pool.len(), SLOT_POOL_SIZE);
     if refusal != 0 {
         return Answer {
             refusal,
@@ -39,18 +36,4 @@ pub fn make_by(order: ValueOrder, stream: &[u8], pool: &mut [u8]) -> Answer
         refusal: 0,
         core: core::begun(r),
     }
-}
-
-// The first refusal of making that applies, or 0.
-fn make_refusal(stream: &[u8], room: usize) -> u8
-    ensures { λ r. ⌜ ((pool : List ℕ) → length pool ≡ room → r ≡ makingRefusal (now (stream .entry)) pool) ⌝ }
-{
-    let refusal = table::stream_refusal(stream);
-    if refusal != 0 {
-        return refusal;
-    }
-    if room < SLOT_POOL_SIZE {
-        return 13;
-    }
-    0
 }

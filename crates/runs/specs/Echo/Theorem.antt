@@ -17,7 +17,6 @@ use Rattle.table.specs.Stream.{unitsOf, Accepted}
 use Rattle.costs.specs.declared.ValueOrder.{ValueOrder}
 use Rattle.costs.specs.Instance.{instanceOf}
 use Rattle.costs.specs.Least.{LeastFirst, Padded}
-use Rattle.costs.specs.Least.Laws.{least-unique, first-unique}
 use Rattle.costs.specs.Laws.Tried.{problemBy}
 use Rattle.costs.specs.Laws.Stream.{sound-of}
 use Rattle.costs.specs.Gather.{sizesIn}
@@ -46,6 +45,7 @@ use Rattle.runs.specs.Pool.Stored.{cell-in-use, cell-bytes}
 use Rattle.runs.specs.Run as R
 use Rattle.runs.specs.Run.{History, cells, onward, runIn, run}
 use Rattle.runs.specs.Deliveries.{deliverAll}
+use Rattle.runs.specs.Theorem.{one-report}
 use Rattle.runs.specs.Demand3.{Shed, shedOf, shedMade, shedAfter, runBytes, delivery, Made, over, reportOf}
 use Rattle.runs.specs.Proof.Follow.{numberOf}
 use Rattle.runs.specs.Proof.Stands.{sized}
@@ -208,13 +208,7 @@ pub two-heard : (s : List ℕ) (order : ValueOrder) (pool : List ℕ) → Made o
     → (reportOf (heardBytes order s pool events) .total ≡ reportOf (heardBytes order′ s pool′ events′) .total)
     × (order ≡ order′ → reportOf (heardBytes order s pool events) .assignment ≡ reportOf (heardBytes order′ s pool′ events′) .assignment)
 two-heard s order pool made es sb order′ pool′ made′ es′ sb′ e e′ =
-    let l = heard-twice order s pool made es sb .lotting e in
-    let l′ = heard-twice order′ s pool′ made′ es′ sb′ .lotting e′ in (
-      least-unique order order′ (instanceOf s) _ _ _ _ (l .0) (l′ .0),
-      (λ q.
-          first-unique order′ (instanceOf s) _ _ _ _
-          (subst (λ (o : ValueOrder). LeastFirst o (instanceOf s) (reportOf (heardBytes order s pool es) .total) (reportOf (heardBytes order s pool es) .assignment)) q (l .0)) (l′ .0) (l .1) (l′ .1)),
-    )
+    one-report (instanceOf s) order order′ _ _ (heard-twice order s pool made es sb .lotting e) (heard-twice order′ s pool′ made′ es′ sb′ .lotting e′)
 
 -- ---- no echoes: the run of demand 3, to which its limit applies
 

@@ -4,6 +4,8 @@ use Prim.Native.Nat.{ℕ, zero, suc}
 use mathlib.Core.Path.{_≡_, refl, sym, subst}
 use mathlib.Core.List.{List, []}
 use native.Mathlib.Omega.{arith}
+use lib.ListN.{length}
+use Rattle.base.specs.Limits.{poolSize}
 use Rattle.table.specs.Stream.{unitsOf, Accepted}
 use Rattle.costs.specs.declared.ValueOrder.{ValueOrder}
 use Rattle.costs.specs.Instance.{viewBy, instanceOf}
@@ -41,16 +43,16 @@ none-handed order s = go (assign (viewBy order (instanceOf s) 0) fresh)
     go (U.accepted u o ws) = refl
 
 module _ (order : ValueOrder) (s pool : List ℕ) (made : Made order s pool) where
-  no-refusal : makingRefusal s pool ≡ 0
+  no-refusal : makingRefusal poolSize s (length pool) ≡ 0
   unfolding makeOf
-  no-refusal = go (makingRefusal s pool) made
+  no-refusal = go (makingRefusal poolSize s (length pool)) made
     where
       go : (r : ℕ) → C.made (unitsOf s) pool (unlessRefused r (assign (viewBy order (instanceOf s) 0) fresh)) .answer .refusal ≡ 0 → r ≡ 0
       go zero e = refl
       go (suc r) e = absurd (omega arith)
 
   pub accepted-table : Accepted s
-  accepted-table = makeable s pool no-refusal .0
+  accepted-table = makeable poolSize s (length pool) no-refusal .0
 
   -- what holds of what unit 1 gives holds as making leaves it
   pub making-gives : (Q : Shed → History → Type 0) → ((u : UnitState) (o : Sending) (ws : List Written) → Begun order s accepted-table u o ws → Q (shedOf (C.made (unitsOf s) pool (U.accepted u o ws))) (R.begunWith R.cells (instanceOf s) (U.accepted u o ws)))
@@ -69,7 +71,7 @@ module _ (order : ValueOrder) (s pool : List ℕ) (made : Made order s pool) whe
           core = core-starts order s accepted-table R.cells u o ws b safe;
           sendable = b .leaves .sent;
           few = omega (arith, b .leaves .few);
-          stored = start-stored (packets (unitsOf s) 0 o) pool (sized order s accepted-table (packets (unitsOf s) 0 o) (b .leaves .sent)) (omega (arith, b .leaves .few)) (makeable s pool no-refusal .1);
+          stored = start-stored (packets (unitsOf s) 0 o) pool (sized order s accepted-table (packets (unitsOf s) 0 o) (b .leaves .sent)) (omega (arith, b .leaves .few)) (makeable poolSize s (length pool) no-refusal .1);
         }
 
   pub make-invariant : Invariant order s accepted-table (shedMade order s pool) (R.begin order (instanceOf s)) (M.make (problemBy order (instanceOf s)))

@@ -36,9 +36,10 @@ use Rattle.slots.specs.Slot.{slotPoolSize, usedSlots, slotOf}
 use Rattle.slots.specs.Run.{waitingIn, place, overwrittenBy, slots, begin}
 use Rattle.slots.specs.Bytes.{placeBytes, zeroCells}
 use Rattle.slots.specs.Calls as C
-use Rattle.slots.specs.Calls.{makingRefusal, makeOf}
+use Rattle.slots.specs.Calls.{makeOf}
 use Rattle.slots.specs.Demand3.{shedOf, shedMade, Made, Fresher}
-use Rattle.slots.specs.Code.{makeable}
+use Rattle.runs.specs.Calls.{makingRefusal}
+use Rattle.runs.specs.Code.{makeable}
 use Rattle.slots.specs.Proof.Cells.{none-at, none-wait, place-weighs, overwritten-from}
 use Rattle.slots.specs.Proof.Messages.{MayGo, all-used, AllStand, stand-placed}
 use Rattle.slots.specs.Proof.Fresh.{packets-spread}
@@ -57,19 +58,19 @@ none-handed order s = go (assign (viewBy order (instanceOf s) 0) fresh)
     go (U.accepted u o ws) = refl
 
 module _ (order : ValueOrder) (s pool : List ℕ) (made : Made order s pool) where
-  no-refusal : makingRefusal s pool ≡ 0
+  no-refusal : makingRefusal slotPoolSize s (length pool) ≡ 0
   unfolding makeOf
-  no-refusal = go (makingRefusal s pool) made
+  no-refusal = go (makingRefusal slotPoolSize s (length pool)) made
     where
       go : (r : ℕ) → C.made (unitsOf s) pool (unlessRefused r (assign (viewBy order (instanceOf s) 0) fresh)) .answer .refusal ≡ 0 → r ≡ 0
       go zero e = refl
       go (suc r) e = absurd (omega arith)
 
   pub accepted-table : Accepted s
-  accepted-table = makeable s pool no-refusal .0
+  accepted-table = makeable slotPoolSize s (length pool) no-refusal .0
 
   room : slotPoolSize ≤ length pool
-  room = makeable s pool no-refusal .1
+  room = makeable slotPoolSize s (length pool) no-refusal .1
 
   module _ (u : UnitState) (o : Sending) (ws : List Written) (b : Begun order s accepted-table u o ws) where
     abbrev n : ℕ

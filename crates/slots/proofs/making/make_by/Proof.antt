@@ -1,5 +1,5 @@
 -- `slots::making::make_by` meets its contract: a refusal with all zero, or unit 1's making placed in a pool of zeros. Assumes nothing.
-use mathlib.Core.Path.{_≡_, refl, sym, ap, _∙_}
+use mathlib.Core.Path.{_≡_, sym, ap, _∙_}
 use Prim.Native.Nat.{ℕ, _≤_}
 use mathlib.Core.List.{List}
 use native.Mathlib.Omega.{arith}
@@ -7,9 +7,10 @@ use lib.ListN.{length, replicate, length-replicate}
 use Rattle.table.specs.Stream.{Accepted}
 use Rattle.table.specs.StreamLaws.{accepted-units}
 use Rattle.runs.specs.declared.Core.{Core}
-use Rattle.slots.specs.Calls.{makingRefusal}
+use Rattle.runs.specs.Calls.{makingRefusal}
+use Rattle.runs.specs.Code.{makeable}
 use Rattle.slots.specs.Placing.{placeSent}
-use Rattle.slots.specs.Code.{makeable, make-refuses, first-sent, make-begins}
+use Rattle.slots.specs.Code.{make-refuses, first-sent, make-begins}
 use borrow.Author.Needs.{needs}
 use Rattle.slots.proofs.making.make_by.Statement.{statement}
 use Rattle.slots.proofs.making.make_by.Tie as tie
@@ -18,16 +19,16 @@ returns : tie.Need-returns
 returns c =
     let a = c .before .before .before .before .before .args in
     let r = c .before .before .make-refusal in
-    let e = make-refuses (a .order) (a .stream .now) (a .pool .now) (r .result) (r .ensures (a .pool .now) refl) (c .before .if1 .taken) in
+    let e = make-refuses (a .order) (a .stream .now) (a .pool .now) (r .result) (r .ensures) (c .before .if1 .taken) in
     (ap (λ (x : Core). record { refusal = r .result; core = x }) (c .no-core .ensures) ∙ e .0, e .1)
 
 -- nothing is refused, so the table is accepted and the pool is long enough
 module _ (c : tie.Else1) where
-  unrefused : makingRefusal (c .before .before .before .before .args .stream .now) (c .before .before .before .before .args .pool .now) ≡ 0
-  unrefused = sym (c .before .make-refusal .ensures (c .before .before .before .before .args .pool .now) refl) ∙ c .if1 .left
+  unrefused : makingRefusal 19200 (c .before .before .before .before .args .stream .now) (length (c .before .before .before .before .args .pool .now)) ≡ 0
+  unrefused = sym (c .before .make-refusal .ensures) ∙ c .if1 .left
 
   passed : Accepted (c .before .before .before .before .args .stream .now) × (19200 ≤ length (c .before .before .before .before .args .pool .now))
-  passed = makeable (c .before .before .before .before .args .stream .now) (c .before .before .before .before .args .pool .now) unrefused
+  passed = makeable 19200 (c .before .before .before .before .args .stream .now) (length (c .before .before .before .before .args .pool .now)) unrefused
 
 few : (c : tie.After-first-step) → c .first-step .result .sent ≤ 16
 few c = let f = c .first-step in first-sent (c .before .before .before .before .before .before .before .args .order) (c .before .before .before .before .before .before .before .args .stream .now) (passed (c .before .before .before) .0) (replicate 1024 0) (f .last .1 .1 .0) (omega (arith, length-replicate {A = ℕ} 1024 0)) (f .result) (f .ensures .0) (f .ensures .1)
