@@ -9,8 +9,10 @@
 //! - what is sent was handed over, waits or was overwritten, and that by a newer one of the same slot;
 //! - what is refused changes nothing, and nothing changes past the cells used.
 //!
-//! And box 1 reports the same where the shed is settled, over this pool and over 01's.
+//! And box 1 reports the same where the shed is settled, over this pool and over 01's. Boxes on the air that keep the newer of two packets hold the
+//! same, too: `held`.
 
+pub mod held;
 pub mod run;
 
 use crate::boxes::problem::{beginnings, check_stopped, check_written, Problem};
@@ -23,6 +25,7 @@ use crate::reference::order::ValueOrder;
 use crate::reference::slots;
 use crate::reference::{table, NONE};
 use crate::trials::{self, Library, Report};
+use held::Held;
 use run::{Delivered, Run, Schedule};
 
 // Trials
@@ -52,9 +55,25 @@ fn try_table(
         report.count_run(run.delivered.iter().map(|delivered| delivered.refusal));
         report.count(|case| run_comes_to(case, problem, &run));
     }
+    for schedule in held::Schedule::some(random, problem.units()) {
+        let seed = random.word();
+        let held = try_held(libraries, problem, schedule, seed);
+        let held = held.map_err(|fault| format!("held, {schedule:?}, seed {seed}: {fault}"))?;
+        report.count_run(held.run.handed.iter().map(|handed| handed.refusal));
+        report.count(|case| held_comes_to(case, &held));
+    }
     libraries.iter().try_for_each(|library| {
         try_settled(library, problem).map_err(|fault| format!("{}, settled: {fault}", library.name))
     })
+}
+
+fn try_held(libraries: &[Library], problem: &Problem, schedule: held::Schedule, seed: u64) -> Result<Held, String> {
+    let checked = |library: &Library| {
+        let held = held::run(library, problem, schedule, seed)?;
+        problem.check(&held.run)?;
+        Ok(held)
+    };
+    trials::by_each(libraries, checked, |one, other| trials::same_start(&one.run.handed, &other.run.handed))
 }
 
 fn try_schedule(libraries: &[Library], problem: &Problem, schedule: Schedule, seed: u64) -> Result<Run, String> {
@@ -213,6 +232,9 @@ pub enum Case {
     NoSuchCell,
     /// A cell is named after box 1 has stopped.
     After,
+    /// A packet that a box holds gives way to a newer one; one that arrives gives way to a newer one there.
+    Replaced,
+    Dropped,
 }
 
 fn cases() -> Vec<Case> {
@@ -220,7 +242,15 @@ fn cases() -> Vec<Case> {
     let of_tables = [Tie, OrderDecides, Forbidden, Unary, AllCells, NoneMade, NoneSearched];
     let overwritten = (message::CPA..=message::SOLUTION).map(Overwritten);
     let of_runs = [ManyOverwritten, NothingOverwritten, Most, Quiet, Empty, Past, NoSuchCell, After];
-    of_tables.into_iter().chain(overwritten).chain(of_runs).collect()
+    of_tables.into_iter().chain(overwritten).chain(of_runs).chain([Replaced, Dropped]).collect()
+}
+
+fn held_comes_to(case: Case, held: &Held) -> bool {
+    match case {
+        Case::Replaced => held.replaced > 0,
+        Case::Dropped => held.dropped > 0,
+        _ => false,
+    }
 }
 
 fn table_comes_to(case: Case, problem: &Problem) -> bool {

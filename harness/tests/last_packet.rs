@@ -271,6 +271,31 @@ fn two_runs_that_differ_are_found() {
     assert!(fault.contains("differ after"), "{fault}");
 }
 
+/// Boxes that keep the older of two packets never get the newer one, and some wait for it for ever; two that may be compared are refused.
+#[test]
+fn boxes_that_keep_the_older_one_are_found() {
+    let older = |input: Input| {
+        let newer = matches!(input, Input::Newer { .. });
+        let mut outcome = calls::reference(input);
+        if newer && outcome.refusal == 0 {
+            outcome.numbers[0] = 3 - outcome.numbers[0];
+        }
+        outcome
+    };
+    for order in ValueOrder::BOTH {
+        let fault = fault_of(order, &older);
+        assert!(
+            fault.starts_with("held") && fault.contains("has not stopped, and nothing more is accepted"),
+            "{fault}"
+        );
+    }
+    let refused = |input: Input| match input {
+        Input::Newer { .. } => Outcome { refusal: 9, numbers: vec![0], ..Outcome::default() },
+        input => calls::reference(input),
+    };
+    assert!(fault_of(Ascending, &refused).contains("two packets of one slot are refused by 9"));
+}
+
 /// Settling that goes on in another order than the lowest cell first.
 #[test]
 fn another_run_settled_is_found() {

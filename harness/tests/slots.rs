@@ -54,6 +54,9 @@ fn a_cell_each() {
         assert_eq!(cells, (0..all.len()).collect(), "{n} units");
     }
     assert_eq!(slots::slots(16).len(), CELLS);
+    // two CPAs, a request or an estimate of each other unit, news and a stop: as include/riksamoe.h counts them
+    let to = |receiver: u8| slots::slots(16).iter().filter(|slot| slot.receiver == receiver).count();
+    assert_eq!((1..=16).map(to).max(), Some(19));
     let of_kind = |kind: u8| slots::slots(16).iter().filter(|slot| slot.kind == kind).count();
     assert_eq!([1, 2, 3, 4, 5].map(of_kind), [30, 120, 120, 15, 15]);
 }

@@ -111,8 +111,7 @@ impl Run {
 /// a box can't be made.
 pub fn run(library: &Library, problem: &Problem, schedule: Schedule, seed: u64) -> Result<Run, String> {
     let mut random = Random::new(seed);
-    let mut air = Air { library, seats: Vec::new(), run: Run::default() };
-    (1..=problem.units()).try_for_each(|own| air.make(problem, own))?;
+    let mut air = Air::make_all(library, problem)?;
     for _ in 0..=problem.most {
         let places = schedule.places(&mut random, &air.run.air);
         if air.run.has_ended() || !places.into_iter().any(|at| air.hand(at)) {
@@ -137,13 +136,20 @@ fn seat(library: &Library, problem: &Problem, own: u8) -> Result<Seat, String> {
 }
 
 /// A run on its way, with the seats of the boxes made so far.
-struct Air<'a> {
+pub struct Air<'a> {
     library: &'a Library<'a>,
     seats: Vec<Seat>,
-    run: Run,
+    pub run: Run,
 }
 
-impl Air<'_> {
+impl<'a> Air<'a> {
+    /// Every box made, and nothing handed over. Fails where one can't be.
+    pub fn make_all(library: &'a Library, problem: &Problem) -> Result<Air<'a>, String> {
+        let mut air = Air { library, seats: Vec::new(), run: Run::default() };
+        (1..=problem.units()).try_for_each(|own| air.make(problem, own))?;
+        Ok(air)
+    }
+
     fn make(&mut self, problem: &Problem, own: u8) -> Result<(), String> {
         let seat = seat(self.library, problem, own)?;
         let made = (self.library.call)(Input::Make {
@@ -165,7 +171,7 @@ impl Air<'_> {
     }
 
     /// The packet at this place goes to its box. Accepted, it leaves the air; refused, it stays. Whether it was accepted.
-    fn hand(&mut self, at: usize) -> bool {
+    pub fn hand(&mut self, at: usize) -> bool {
         let packet = self.run.air[at];
         let own = receiver(&packet);
         let seat = &self.seats[own - 1];

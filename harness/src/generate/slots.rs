@@ -199,7 +199,7 @@ impl Ran {
         let (kind, message) = message::fields(&self.packet);
         let own = slots::cell_of(self.n, Slot::of(kind, &message));
         self.cell = match own {
-            Some(cell) if !random.once_in(6) => cell as u64,
+            Some(cell) if !random.once_in(5) => cell as u64,
             _ => random.below(self.used().max(1) as u64),
         };
     }
@@ -225,7 +225,7 @@ fn ran(random: &mut Random, order: ValueOrder, stream: &[u8]) -> Ran {
         let before = ran.clone();
         let cell = ran.any_waiting(random);
         ran.deliver(order, stream, cell);
-        if ran.shed.has_stopped() && random.once_in(2) {
+        if ran.shed.has_stopped() && !random.once_in(5) {
             return before;
         }
     }
@@ -250,33 +250,33 @@ fn some_run(random: &mut Random, order: ValueOrder) -> (Ran, Vec<u8>) {
 /// One damage to a shed, to its pool or to the cell that will be named, in this order.
 fn damage(random: &mut Random, order: ValueOrder, ran: &mut Ran, stream: &[u8]) {
     let used = ran.used() as u64;
-    match random.below(31) {
-        0 | 1 => {
+    match random.below(44) {
+        0..=3 => {
             let own = random.below(ran.n.into()) as usize;
             damage_unit(random, &mut ran.shed.units[own]);
         }
         // a message in a cell that is not its own
-        2..=6 => ran.cell = random.below(used.max(1)),
-        7 => {
+        4..=8 => ran.cell = random.below(used.max(1)),
+        9 => {
             // of its kind, if there is another
             let kind = ran.packet[0];
             let cells: Vec<u64> =
                 (0..).zip(slots::slots(ran.n)).filter(|(_, slot)| slot.kind == kind).map(|c| c.0).collect();
             ran.cell = cells.get(random.below(cells.len() as u64) as usize).copied().unwrap_or(ran.cell);
         }
-        8 => ran.packet = vec![0; SIZE],
-        9 => {
+        10 => ran.packet = vec![0; SIZE],
+        11 => {
             ran.packet = vec![0; SIZE];
             ran.packet[random.below(64) as usize] = random.between(1, 255) as u8;
         }
-        10 => ran.cell = random.between(used.min(299), 299),
-        11 => ran.pool.truncate(*random.pick(&[0, 64, SIZE * used as usize, slots::POOL - 1])),
-        12 => ran.pool.extend([7; 100]),
-        13 => {
+        12 => ran.cell = random.between(used.min(299), 299),
+        13 => ran.pool.truncate(*random.pick(&[0, 64, SIZE * used as usize, slots::POOL - 1])),
+        14 => ran.pool.extend([7; 100]),
+        15 => {
             ran.shed.records = *random.pick(&[u64::MAX.into(), u128::MAX, u128::MAX - 1, 1 << 64]);
             ran.shed.deliveries = *random.pick(&[u64::MAX.into(), u128::MAX, u128::MAX - 1, 1 << 64]);
         }
-        14 => {
+        16 => {
             // units past n are not looked at
             for unit in ran.shed.units.iter_mut().skip(ran.n.into()) {
                 unit.threshold = [255; 16];
@@ -284,34 +284,34 @@ fn damage(random: &mut Random, order: ValueOrder, ran: &mut Ran, stream: &[u8]) 
                 unit.stopped = random.byte();
             }
         }
-        15 | 16 => {
+        17 | 18 => {
             damage_packet(random, &mut ran.packet);
             ran.packet.resize(SIZE, 1);
         }
-        17 | 18 => ran.crowd(random),
-        19 => {
+        19 | 20 => ran.crowd(random),
+        21 => {
             // no messages at all in the other cells
             let length = SIZE * used as usize;
             ran.pool[..length].fill(random.byte());
         }
-        20 => {
+        22 => {
             // only this one waits
             ran.pool[..SIZE * used as usize].fill(0);
         }
-        21 if !ran.sent.is_empty() => {
+        23 if !ran.sent.is_empty() => {
             ran.packet = random.pick(&ran.sent).clone();
             ran.name_own(random);
         }
-        22..=27 => {
+        24..=40 => {
             meet_another_run(random, order, &mut ran.shed.units, &mut ran.packet, stream);
             ran.name_own(random);
         }
-        28 => {
+        41 => {
             // a unit that has stopped
             let own = (ran.packet[2] as usize).clamp(1, 16);
             ran.shed.units[own - 1].stopped = 1;
         }
-        29 => {
+        42 => {
             ran.packet = bytes(random, SIZE as u64);
             message::seal(ran.packet.as_mut_slice().try_into().expect("64 bytes"));
         }
