@@ -5,3 +5,4 @@ pub mod Later
 pub mod Trying
 pub mod Rules
 pub mod Ranges
+pub mod Ways

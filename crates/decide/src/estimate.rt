@@ -5,6 +5,7 @@ use crate::bound::quiet;
 use crate::bound::refuse;
 use crate::receive::follow;
 use crate::receive::is_stamp_out;
+use crate::short::reply;
 use crate::state::compare;
 use costs::Seat;
 use message::Message;
@@ -42,18 +43,7 @@ fn answer(seat: Seat, costs: &[u8], u: Unit, m: Message) -> Decided
     requires { ⌜ Own (seat .own) ⌝ }
     ensures { λ r. ⌜ ((was : Unit) → r ≡ decidedOf was (accepted u (reply (viewFrom seat (now (costs .entry))) m) [])) ⌝ }
 {
-    let stamp = m.stamp;
-    let values = m.values;
-    let cost = costs::estimate(seat, costs, values, m.sender);
-    let message = Message {
-        sender: seat.own,
-        receiver: m.sender,
-        stamp,
-        values: [0u8; 16],
-        cost,
-        bound: 0,
-        best: [0u8; 16],
-    };
+    let message = reply(seat, costs, m);
     Decided {
         refusal: 0,
         unit: u,
@@ -108,7 +98,7 @@ fn store(m: Message, u: Unit) -> Unit
 }
 
 // The estimates of the units after this one, together; wide, so that no sum wraps.
-fn sum_later(seat: Seat, estimates: [u32; 16]) -> u64
+pub(crate) fn sum_later(seat: Seat, estimates: [u32; 16]) -> u64
     requires { ⌜ (seat .own ≤ seat .n) × (seat .n ≤ 16) ⌝ }
     ensures { λ r. ⌜ (r ≤ NONE * places) × ((w : View) → suc (w .place) ≡ seat .own → w .n ≡ seat .n → r ≡ sumLater w estimates) ⌝ }
 {

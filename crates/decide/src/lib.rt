@@ -7,6 +7,7 @@ mod estimate; // requests and the estimates that answer them
 mod order; // the value tried after another
 mod receive; // a cpa that comes in
 mod state; // whether a state is in range, the order of stamps, and the parts of a state set
+mod short; // the way of a message that changes little
 
 use bound::on_solution;
 use bound::on_stop;
@@ -20,6 +21,8 @@ use message::Message;
 use receive::on_cpa;
 use rules::Decided;
 use rules::Unit;
+pub use short::reply;
+pub use short::way;
 pub use state::compare_stamps;
 pub use state::in_range;
 pub use state::in_range_paid;

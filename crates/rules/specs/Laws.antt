@@ -11,6 +11,7 @@
 --     Units                     many units in range: a step of one leaves all in range, and sends what can be written
 --     Readiness                 what a step has checked is what the deciding functions ask
 --     Trusted                   the step on what is known to be good is the step on what a step accepts
+--     Ways                      a unit decides what the way of a message says
 pub mod Views
 pub mod Stamps
 pub mod Filled
@@ -26,3 +27,4 @@ pub mod Refusals
 pub mod Units
 pub mod Readiness
 pub mod Trusted
+pub mod Ways

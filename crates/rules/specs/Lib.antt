@@ -6,6 +6,7 @@ pub mod Send
 pub mod Laying
 pub mod Calls
 pub mod Trusted
+pub mod Way
 pub mod Ready
 pub mod Units
 pub mod Laws

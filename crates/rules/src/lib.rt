@@ -33,6 +33,17 @@ pub enum Plan {
     Reply,
 }
 
+// How a message goes where it changes little: the state stays; the same, and an estimate is sent; the threshold becomes the message's
+// stamp, and an estimate is sent; its cost is stored as an estimate; its bound and best are taken. Or `Whole`: what it does is not said.
+pub enum Way {
+    Quiet,
+    Reply,
+    Follow,
+    Store,
+    Lower,
+    Whole,
+}
+
 // The fields that the messages of a plan carry, the plan, and whether unit n improved its bound in this step.
 pub struct Sending {
     pub message: Message,

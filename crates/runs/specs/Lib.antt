@@ -14,3 +14,4 @@ pub mod Lending
 pub mod Settle
 pub mod Code
 pub mod Trusted
+pub mod Short

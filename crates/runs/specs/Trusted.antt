@@ -160,6 +160,10 @@ module _ {order : ValueOrder} {u : UnitState} {own n : ℕ} {sizes costs pool : 
   pub oldest-open : Open order (t .net) (t .stream) pool 0
   oldest-open = checks order (t .net) (t .stream) pool 0 (t .accepted)
 
+  pub oldest-unrefused : r .refusal ≡ 0
+  oldest-unrefused =
+      unrefused-step order (t .net) (t .stream) pool 0 (t .accepted) n own messageSize (t .units) refl (t .named) u (t .unit) sizes costs before out (t .array) (t .lent) fits r told left arrays (t .bytes)
+
   pub oldest-sent : r .sent ≤ 16
   oldest-sent =
       trusted-sent order (t .net) (t .stream) pool 0 (t .accepted) n own messageSize (t .units) refl (t .named) u (t .unit) sizes costs before out (t .array) (t .lent) fits r told left arrays (t .bytes)

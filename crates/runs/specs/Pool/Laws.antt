@@ -61,6 +61,12 @@ module _ (pool : List ℕ) (used cell : ℕ) (inside : cell < used) (fits : mess
       let g : messageSize * used - messageSize ≡ messageSize * (used - 1) = omega arith in
       rw (e, f, g, append-assoc)
 
+  pub length-closed : length (closeGap pool (messageSize * cell) (messageSize * used)) ≡ length pool
+  length-closed =
+      let p : List ℕ = take (messageSize * cell) pool ++ laterCells pool used cell in
+      let d : length (drop (messageSize * (used - 1)) pool) ≡ length pool - messageSize * (used - 1) = length-drop (messageSize * (used - 1)) pool in
+      rw closed (length-append p (drop (messageSize * (used - 1)) pool) ∙ omega (arith, closed-front, d))
+
   -- the gap closed, then what was sent copied in behind
   pub pool-stored : (ps : List Packet) (s : List ℕ) → take (messageSize * length ps) s ≡ encodeAll ps
       → paste (closeGap pool (messageSize * cell) (messageSize * used)) (messageSize * (used - 1)) s (messageSize * length ps) ≡ poolAfter used cell ps pool
