@@ -88,7 +88,7 @@ fn on_own_estimate(seat: Seat, costs: &[u8], u: Unit, m: Message) -> Decided
 }
 
 // The estimate is stored.
-fn store(m: Message, u: Unit) -> Unit
+pub(crate) fn store(m: Message, u: Unit) -> Unit
     requires { ⌜ Own (m .sender) ⌝ }
     ensures { λ r. ⌜ r ≡ stored m u ⌝ }
 {

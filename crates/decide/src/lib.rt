@@ -21,6 +21,7 @@ use message::Message;
 use receive::on_cpa;
 use rules::Decided;
 use rules::Unit;
+pub use short::changed;
 pub use short::reply;
 pub use short::way;
 pub use state::compare_stamps;

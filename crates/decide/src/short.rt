@@ -1,8 +1,11 @@
 // The way of a message that changes little, told from a few parts of the state; and the estimate that answers a request.
 
+use crate::estimate::store;
 use crate::estimate::sum_later;
+use crate::receive::follow;
 use crate::state::compare;
 use crate::state::same;
+use crate::state::with_best;
 use costs::Seat;
 use message::Kind;
 use message::Message;
@@ -15,7 +18,7 @@ ghost use Prim.Native.Nat.{ℕ, _-_, _≤_};
 ghost use Rattle.message.specs.declared.Read.the-variants.{Good};
 ghost use Rattle.message.specs.declared.Kind.the-variants.{Solution};
 ghost use Rattle.rules.specs.State.{compareOn};
-ghost use Rattle.rules.specs.Way.{requestWay, estimateWay, staysBelow, wayBy, wayOf, replyTo};
+ghost use Rattle.rules.specs.Way.{requestWay, estimateWay, staysBelow, wayBy, wayOf, changedBy, replyTo};
 ghost use Rattle.rules.specs.Ready.{Own};
 
 // Which way a message goes that was read so.
@@ -117,6 +120,31 @@ fn solution_way(u: Unit, m: Message) -> Way
         return Way::Lower;
     }
     Way::Quiet
+}
+
+// The state with what a way changes.
+pub fn changed(way: Way, m: Message, u: Unit) -> Unit
+    ensures { λ r. ⌜ r ≡ changedBy way m u ⌝ }
+{
+    let best = m.best;
+    match way {
+        Way::Quiet => u,
+        Way::Reply => u,
+        Way::Follow => follow(m, u),
+        Way::Store => keep(m, u),
+        Way::Lower => with_best(m.bound, best, u),
+        Way::Whole => u,
+    }
+}
+
+// An estimate of one of 16 units is stored.
+fn keep(m: Message, u: Unit) -> Unit
+    ensures { λ r. ⌜ r ≡ changedBy Way.Store m u ⌝ }
+{
+    if !message::is_unit(16, m.sender) {
+        return u;
+    }
+    store(m, u)
 }
 
 // The estimate that answers a request.

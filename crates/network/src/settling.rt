@@ -4,11 +4,17 @@ use crate::lending::LENT_SIZE;
 use crate::lending::lend;
 use crate::make_by;
 use crate::pool::take_oldest;
+use crate::short::changed;
+use crate::short::first_seat;
+use crate::short::hear;
+use crate::short::seat_of;
+use costs::Seat;
 use costs::ValueOrder;
 use runs::Answer;
 use runs::Network;
 use unit::Outcome;
 use unit::Unit;
+use unit::Way;
 ghost use mathlib.Core.Path.{_≡_};
 ghost use Prim.Native.Nat.{_≤_};
 ghost use lib.ListN.{length};
@@ -42,70 +48,71 @@ pub fn settle_by(order: ValueOrder, stream: &[u8], pool: &mut [u8]) -> Answer
 }
 
 // Delivers cell 0 of a new network until unit 1 stops. No delivery is asked what the making has seen: the costs of each unit are gathered
-// once, and the packets are those that the units sent.
+// once, and the packets are those that the units sent. Most go a short way, on which the unit stays where it is.
 fn run(order: ValueOrder, stream: &[u8], net: Network, pool: &mut [u8]) -> Network
     requires { ⌜ Begun order (now stream) net (now pool) ⌝ }
     ensures { λ r. ⌜ Ended order (now (stream .entry)) net (now (pool .entry)) r (now (pool .exit)) ⌝ }
 {
-    let n = table::units_of(stream);
-    let sizes = costs::sizes_of(stream);
     let mut lent = [0u8; LENT_SIZE];
     let starts = lend(stream, &mut lent);
+    let first = first_seat(order, stream);
     let mut out = [0u8; base::SENDING_SIZE];
     let mut core = net.core;
     let mut used = net.used;
-    let first = core.units[0];
-    let mut over = first.stopped;
-    while !over {
-        let own = core::receiver(n, &pool[0..base::MESSAGE_SIZE]);
-        let place = (own - 1) as usize;
-        let u = core.units[place];
+    loop {
+        let one = core.units[0];
+        if one.stopped {
+            return Network { core, used };
+        }
+        let seat = seat_of(first, &pool[0..base::MESSAGE_SIZE]);
+        let place = (seat.own - 1) as usize;
         let lo = starts[place];
         let hi = starts[place + 1];
-        let r = hand_oldest(
-            order,
-            u,
-            own,
-            n,
-            sizes,
-            &lent[lo..hi],
-            pool,
-            used as usize,
-            &mut out,
-        );
-        used = used - 1 + r.sent as u64;
-        let w = r.unit;
-        core.units[place] = w;
-        let records = core.records;
-        core.records = core::plus(records, r.records as u64);
+        let u = core.units[place];
+        let turn = hear(seat, &lent[lo..hi], u, pool, used as usize);
+        let way = turn.way;
+        let mut sent = turn.sent;
+        match way {
+            Way::Quiet | Way::Reply => {}
+            Way::Follow | Way::Store | Way::Lower => {
+                let w = core.units[place];
+                core.units[place] = changed(turn, w);
+            }
+            Way::Whole => {
+                let w = core.units[place];
+                let r = hand_oldest(seat, &lent[lo..hi], w, pool, used as usize, &mut out);
+                let w = r.unit;
+                core.units[place] = w;
+                let records = core.records;
+                core.records = core::plus(records, r.records as u64);
+                sent = r.sent;
+            }
+        }
+        used = used - 1 + sent as u64;
         let deliveries = core.deliveries;
         core.deliveries = core::plus(deliveries, 1);
-        let first = core.units[0];
-        over = first.stopped;
     }
-    Network { core, used }
 }
 
 // The message at cell 0 goes to its unit, which is lent its costs; the gap is closed, and what the unit sends is added at the end.
 fn hand_oldest(
-    order: ValueOrder,
-    u: Unit,
-    own: u8,
-    n: u8,
-    sizes: [u8; 16],
+    seat: Seat,
     costs: &[u8],
+    u: Unit,
     pool: &mut [u8],
     used: usize,
     out: &mut [u8],
 ) -> Outcome
-    requires { ⌜ Oldest order u own n sizes (now costs) (now pool) used × (sendingSize ≤ length (now out)) ⌝ }
-    ensures { λ r. ⌜ ((t : Oldest order u own n sizes (now (costs .entry)) (now (pool .entry)) used) → Handed t r (now (pool .exit))) ⌝ }
+    requires { ⌜ Oldest (seat .order) u (seat .own) (seat .n) (seat .sizes) (now costs) (now pool) used × (sendingSize ≤ length (now out)) ⌝ }
+    ensures { λ r. ⌜ ((t : Oldest (seat .order) u (seat .own) (seat .n) (seat .sizes) (now (costs .entry)) (now (pool .entry)) used) → Handed t r (now (pool .exit))) ⌝ }
 {
+    let order = seat.order;
+    let sizes = seat.sizes;
     let r = unit::step_trusted_by(
         order,
         u,
-        own,
-        n,
+        seat.own,
+        seat.n,
         sizes,
         costs,
         &pool[0..base::MESSAGE_SIZE],

@@ -55,3 +55,12 @@ byWay Whole w u m o = o
 -- the estimate that answers a request, from a seat
 abbrev pub replyTo : Seat → List ℕ → Message → Message
 replyTo seat costs m = record { sender = seat .own; receiver = m .sender; stamp = m .stamp; values = zeros; cost = asNumber (estimate (viewFrom seat costs) (m .values) (m .sender)); bound = 0; best = zeros }
+
+-- the state with what a way changes; no estimate is stored but of one of 16 units
+abbrev pub changedBy : Way → Message → Unit → Unit
+changedBy Quiet m u = u
+changedBy Reply m u = u
+changedBy Follow m u = withThreshold (m .stamp) u
+changedBy Store m u = cond (isUnit 16 (m .sender)) (stored m u) u
+changedBy Lower m u = withBest (m .bound) (m .best) u
+changedBy Whole m u = u

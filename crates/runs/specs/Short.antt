@@ -1,15 +1,21 @@
 -- The delivery of the oldest message where it changes little: what the way of the message says is what the delivery gives.
 -- From the step that trusts: as it is not refused, the unit decides by the message's kind. Assumes nothing.
-use Prim.Native.Nat.{ℕ, pred, _+_, _*_, _-_, _≤_}
-use mathlib.Core.Path.{_≡_, refl, sym, ap, _∙_}
+use Prim.Native.Nat.{ℕ, suc, pred, _+_, _*_, _-_, _≤_, _<_}
+use mathlib.Core.Path.{_≡_, refl, sym, ap, _∙_, subst}
+use mathlib.Core.Logic.{_⊎_, ⊎-elim}
 use mathlib.Core.List.{List, [], _∷_, append-nil}
 use native.Mathlib.Omega.{arith}
-use lib.ListN.{length, take, drop, replicate, length-replicate}
-use lib.Seq.{paste, paste-zero}
+use lib.ListN.{length, getD, set, take, drop, replicate, length-replicate}
+use lib.Seq.{paste, paste-zero, set-getD}
 use Rattle.base.specs.Limits.{sendingSize, messageSize, poolCells}
+use Rattle.base.specs.Bytes.Laws.{AllBytes}
+use Rattle.table.specs.Stream.{unitsOf}
+use Rattle.table.specs.StreamLaws.{accepted-units}
 use Rattle.costs.specs.declared.Seat.{Seat}
 use Rattle.costs.specs.declared.ValueOrder.{ValueOrder}
 use Rattle.costs.specs.Instance.{View, viewFrom}
+use Rattle.costs.specs.Gather.{sizesIn}
+use Rattle.costs.specs.Gathered.{gathered}
 use Rattle.message.specs.declared.Kind.{Kind}
 use Rattle.message.specs.declared.Kind.the-variants.{Estimate}
 use Rattle.message.specs.declared.Message.{Message}
@@ -25,19 +31,27 @@ use Rattle.rules.specs.declared.Unit.{Unit as UnitState}
 use Rattle.rules.specs.declared.Outcome.{Outcome}
 use Rattle.rules.specs.declared.Way.{Way}
 use Rattle.rules.specs.declared.Way.the-variants.{Quiet, Reply, Follow, Store, Lower, Whole}
-use Rattle.rules.specs.State.{withThreshold, withBest}
+use Rattle.rules.specs.State.{emptyUnit, withThreshold, withBest}
 use Rattle.rules.specs.Step.{Decision, accepted, quiet, reply, byKind}
 use Rattle.rules.specs.Tests.{stored}
 use Rattle.rules.specs.Send.{packet, packets, encodeAll, laid}
 use Rattle.rules.specs.Laying.{wide-one}
+use Rattle.rules.specs.Units.{unitAt}
 use Rattle.rules.specs.Calls.{outcomeOf, bytesOf}
-use Rattle.rules.specs.Trusted.{respondTo, trustedOut}
-use Rattle.rules.specs.Way.{wayOf, byWay, replyTo}
+use Rattle.rules.specs.Trusted.{trustedOut}
+use Rattle.rules.specs.Way.{wayOf, byWay, replyTo, changedBy}
 use Rattle.rules.specs.Laws.Range.{SizedUnit}
 use Rattle.rules.specs.Laws.Trusted.{seatAt, trusted-on}
-use Rattle.rules.specs.Laws.Ways.{way-decides, reply-is, unrefused-by-kind, way-unread}
+use Rattle.rules.specs.Laws.Ways.{way-decides, reply-is, store-sender, unrefused-by-kind, way-unread}
+use Rattle.runs.specs.declared.Count.{Count}
+use Rattle.runs.specs.declared.Core.{Core}
+use Rattle.runs.specs.declared.Network.{Network}
+use Rattle.runs.specs.Count.{plus}
+use Rattle.runs.specs.Count.Laws.{Words, plus-none}
+use Rattle.runs.specs.Calls.{networkAfter, receiverOf, deliverOf}
+use Rattle.runs.specs.Lending.{Lent, part-order, part-end, part-costs}
 use Rattle.runs.specs.Pool.Laws.{closeGap, length-closed, sent-front}
-use Rattle.runs.specs.Code.{Open, own-first}
+use Rattle.runs.specs.Code.{Open, own-first, own-last, pred-sub}
 use Rattle.runs.specs.Trusted.{checks, Oldest, Handed, oldest-unrefused, oldest-handed}
 
 -- what a unit gives that writes no record
@@ -54,6 +68,15 @@ Passed Follow seat costs m pool used sent after =
 Passed Store seat costs m pool used sent after = (sent ≡ 0) × (after ≡ closeGap pool 0 (messageSize * used))
 Passed Lower seat costs m pool used sent after = (sent ≡ 0) × (after ≡ closeGap pool 0 (messageSize * used))
 Passed Whole seat costs m pool used sent after = (sent ≡ 0) × (after ≡ pool)
+
+-- the oldest message was heard: handed over where it goes a short way, else all is as it was
+abbrev pub Heard : {order : ValueOrder} {u : UnitState} {own n : ℕ} {sizes costs pool : List ℕ} {used : ℕ} → Oldest order u own n sizes costs pool used → Way → Message → ℕ → List ℕ → Type 0
+Heard {u = u} t Quiet m sent after = Handed t (shortOutcome (changedBy Quiet m u) sent) after
+Heard {u = u} t Reply m sent after = Handed t (shortOutcome (changedBy Reply m u) sent) after
+Heard {u = u} t Follow m sent after = Handed t (shortOutcome (changedBy Follow m u) sent) after
+Heard {u = u} t Store m sent after = Handed t (shortOutcome (changedBy Store m u) sent) after
+Heard {u = u} t Lower m sent after = Handed t (shortOutcome (changedBy Lower m u) sent) after
+Heard {pool = pool} t Whole m sent after = after ≡ pool
 
 -- the pool with one packet behind the others
 pub one-sent : (pool : List ℕ) (at : ℕ) (m : Message) (out : List ℕ) → Sized m → at + messageSize ≤ length pool → paste pool at (laid (packet Estimate m ∷ []) out) messageSize ≡ putInto Estimate m pool at
@@ -132,22 +155,156 @@ module _ {order : ValueOrder} {u : UnitState} {own n : ℕ} {sizes costs pool : 
     decided : (x : Way) → way ≡ x → decision ≡ byWay x view u (p .message) decision
     decided x e = by-way ∙ ap (λ (y : Way). byWay y view u (p .message) decision) (sym is ∙ e)
 
-    module _ (after : List ℕ) (closed : after ≡ closeGap pool 0 (messageSize * used)) where
-      pub quiet-handed : way ≡ Quiet → Handed t (shortOutcome u 0) after
-      quiet-handed e = quietly u (decided Quiet e) after closed
+    module _ (sent : ℕ) (after : List ℕ) where
+      -- nothing was sent
+      still : (x : Way) (v : UnitState) → way ≡ x → byWay x view u (p .message) decision ≡ quiet v → (sent ≡ 0) × (after ≡ closeGap pool 0 (messageSize * used)) → Handed t (shortOutcome v sent) after
+      still x v e f q = rw (q .0) (quietly v (decided x e ∙ f) after (q .1))
 
-      pub store-handed : way ≡ Store → Handed t (shortOutcome (stored (p .message) u) 0) after
-      store-handed e = quietly (stored (p .message) u) (decided Store e) after closed
+      -- the estimate was
+      answered : (x : Way) (v : UnitState) → way ≡ x → byWay x view u (p .message) decision ≡ accepted v (reply view (p .message)) []
+          → (sent ≡ 1) × Sized (replyTo seat costs (p .message)) × (after ≡ putInto Estimate (replyTo seat costs (p .message)) (closeGap pool 0 (messageSize * used)) (messageSize * (used - 1))) → Handed t (shortOutcome v sent) after
+      answered x v e f q =
+          let first = own-first order (t .net .core) (t .stream) (short-open .passed .core) n own (take messageSize (drop 0 pool)) (t .units) (t .named) in
+          rw (q .0) (answering v (decided x e ∙ f) (replyTo seat costs (p .message)) (reply-is seat costs (p .message) first) (q .1) after (q .2))
 
-      pub lower-handed : way ≡ Lower → Handed t (shortOutcome (withBest (p .message .bound) (p .message .best) u) 0) after
-      lower-handed e = quietly (withBest (p .message .bound) (p .message .best) u) (decided Lower e) after closed
+      stored-is : way ≡ Store → changedBy Store (p .message) u ≡ stored (p .message) u
+      stored-is e = rw (store-sender seat (p .answer) u (p .message) (sym is ∙ e))
 
-    module _ (sized : Sized (replyTo seat costs (p .message))) (after : List ℕ) (sent : after ≡ putInto Estimate (replyTo seat costs (p .message)) (closeGap pool 0 (messageSize * used)) (messageSize * (used - 1))) where
-      answered : replyTo seat costs (p .message) ≡ reply view (p .message) .message
-      answered = reply-is seat costs (p .message) (own-first order (t .net .core) (t .stream) (short-open .passed .core) n own (take messageSize (drop 0 pool)) (t .units) (t .named))
+      pub heard : Passed way seat costs (p .message) pool used sent after → Heard t way (p .message) sent after
+      heard = go way refl
+        where
+          go : (x : Way) → way ≡ x → Passed x seat costs (p .message) pool used sent after → Heard t x (p .message) sent after
+          go Quiet e q = still Quiet u e refl q
+          go Reply e q = answered Reply u e refl q
+          go Follow e q = answered Follow (withThreshold (p .message .stamp) u) e refl q
+          go Store e q = rw (stored-is e) (still Store (stored (p .message) u) e refl q)
+          go Lower e q = still Lower (withBest (p .message .bound) (p .message .best) u) e refl q
+          go Whole e q = q .1
 
-      pub reply-handed : way ≡ Reply → Handed t (shortOutcome u 1) after
-      reply-handed e = answering u (decided Reply e) (replyTo seat costs (p .message)) answered sized after sent
+-- ---- the units and counts once it is handed over, but for the delivery itself
 
-      pub follow-handed : way ≡ Follow → Handed t (shortOutcome (withThreshold (p .message .stamp) u) 1) after
-      follow-handed e = answering (withThreshold (p .message .stamp) u) (decided Follow e) (replyTo seat costs (p .message)) answered sized after sent
+abbrev pub stepped : Core → ℕ → Outcome → Core
+stepped core place r = record { units = set (core .units) place (r .unit); records = plus (r .records) (core .records); deliveries = core .deliveries }
+
+pub record Turned {order : ValueOrder} {u : UnitState} {own n : ℕ} {sizes costs pool : List ℕ} {used : ℕ} (t : Oldest order u own n sizes costs pool used) (core : Core) (place : ℕ) (after : List ℕ) (next : Core) (sent : ℕ) : Type 0 where
+  pub outcome : Outcome
+  pub handed : Handed t outcome after
+  pub state : next ≡ stepped core place outcome
+  pub count : sent ≡ outcome .sent
+
+-- ---- a turn of the loop: the unit that the message is for, by its seat, and the costs lent with it
+
+module _ (order : ValueOrder) (s : List ℕ) (net : Network) (pool : List ℕ) (accepted : deliverOf order net s pool 0 .answer .refusal ≡ 0) (one seat : Seat) (table : one ≡ seatAt order 1 (unitsOf s) (sizesIn s))
+    (its : seat ≡ seatAt (one .order) (receiverOf (one .n) (take messageSize (drop 0 pool))) (one .n) (one .sizes)) (bytes : AllBytes (take messageSize (drop 0 pool))) (starts lent : List ℕ) (laid : Lent s starts lent) where
+  pub turn-open : Open order net s pool 0
+  turn-open = checks order net s pool 0 accepted
+
+  pub units-are : seat .n ≡ unitsOf s
+  units-are = rw (its, table)
+
+  pub named-is : seat .own ≡ receiverOf (seat .n) (take messageSize (drop 0 pool))
+  named-is = rw its
+
+  pub turn-first : 1 ≤ seat .own
+  turn-first = own-first order (net .core) s (turn-open .passed .core) (seat .n) (seat .own) (take messageSize (drop 0 pool)) units-are named-is
+
+  below : seat .own - 1 < unitsOf s
+  below = omega (arith, turn-first, own-last order (net .core) s (turn-open .passed .core) (seat .n) (seat .own) (take messageSize (drop 0 pool)) units-are named-is)
+
+  pub turn-place : seat .own - 1 < 16
+  turn-place = omega (arith, below, accepted-units s (turn-open .passed .core .table) .1)
+
+  pub turn-order : getD starts (seat .own - 1) 0 ≤ getD starts (seat .own - 1 + 1) 0
+  turn-order = part-order s starts lent laid (seat .own - 1) below
+
+  pub turn-end : getD starts (seat .own - 1 + 1) 0 ≤ length lent
+  turn-end = part-end s starts lent laid (seat .own - 1) below
+
+  pub costs-are : take (getD starts (seat .own - 1 + 1) 0 - getD starts (seat .own - 1) 0) (drop (getD starts (seat .own - 1) 0) lent) ≡ gathered s (seat .own)
+  costs-are =
+      let e : suc (seat .own - 1) ≡ seat .own = omega (arith, turn-first) in
+      part-costs s starts lent laid (seat .own - 1) below ∙ ap (gathered s) e
+
+  abbrev pub turn-oldest : Oldest (seat .order) (unitAt (net .core .units) (seat .own - 1)) (seat .own) (seat .n) (seat .sizes) (take (getD starts (seat .own - 1 + 1) 0 - getD starts (seat .own - 1) 0) (drop (getD starts (seat .own - 1) 0) lent)) pool (net .used)
+  turn-oldest = record {
+    stream = s;
+    net = net;
+    accepted = rw (its, table) accepted;
+    units = units-are;
+    array = rw (its, table);
+    named = named-is;
+    unit = refl;
+    lent = costs-are;
+    count = refl;
+    bytes = bytes;
+  }
+
+  -- what it gives is the delivery's
+  pub turn-gives : (r : Outcome) (after : List ℕ) → Handed turn-oldest r after
+      → (record { refusal = 0; network = networkAfter net (seat .own) (r .unit) (net .used - 1 + r .sent) (r .records) } ≡ deliverOf order net s pool 0 .answer) × (after ≡ deliverOf order net s pool 0 .pool)
+  turn-gives r after h =
+      let o : seat .order ≡ order = rw (its, table) in
+      (h .0 ∙ ap (λ (x : ValueOrder). deliverOf x net s pool 0 .answer) o, h .1 ∙ ap (λ (x : ValueOrder). deliverOf x net s pool 0 .pool) o)
+
+  -- once it is counted, what is left is the delivery's
+  pub turn-delivers : (next : Core) (sent : ℕ) (after : List ℕ) → Turned turn-oldest (net .core) (seat .own - 1) after next sent → (count : Count) → count ≡ plus 1 (next .deliveries)
+      → (record { refusal = 0; network = record { core = record { units = next .units; records = next .records; deliveries = count }; used = net .used - 1 + sent } } ≡ deliverOf order net s pool 0 .answer)
+      × (after ≡ deliverOf order net s pool 0 .pool)
+  turn-delivers next sent after t count e = let g = turn-gives (t .outcome) after (t .handed) in (rw (e, t .state, t .count, ← pred-sub (seat .own)) (g .0), g .1)
+
+-- ---- what each way leaves
+
+-- the ways by number
+abbrev pub wayCode : Way → ℕ
+wayCode Quiet = 0
+wayCode Reply = 1
+wayCode Follow = 2
+wayCode Store = 3
+wayCode Lower = 4
+wayCode Whole = 5
+
+module _ (core : Core) (place : ℕ) {order : ValueOrder} {own n : ℕ} {sizes costs pool : List ℕ} {used : ℕ} (t : Oldest order (unitAt (core .units) place) own n sizes costs pool used) (words : Words (core .records)) (m : Message) (sent : ℕ) (after : List ℕ) where
+  -- the unit stays as it is
+  pub kept-turned : (way : Way) → (wayCode way ≡ 0) ⊎ (wayCode way ≡ 1) → Heard t way m sent after → Turned t core place after core sent
+  kept-turned = go
+    where
+      kept : Handed t (shortOutcome (unitAt (core .units) place) sent) after → Turned t core place after core sent
+      kept h = record { outcome = shortOutcome (unitAt (core .units) place) sent; handed = h; state = rw (set-getD (core .units) place emptyUnit, plus-none (core .records) words); count = refl }
+
+      other : (k : ℕ) → 1 < k → (k ≡ 0) ⊎ (k ≡ 1) → ⊥
+      other k l e = ⊎-elim (λ q. omega arith) (λ q. omega arith) e
+
+      go : (way : Way) → (wayCode way ≡ 0) ⊎ (wayCode way ≡ 1) → Heard t way m sent after → Turned t core place after core sent
+      go Quiet e h = kept h
+      go Reply e h = kept h
+      go Follow e h = absurd (other 2 (omega arith) e)
+      go Store e h = absurd (other 3 (omega arith) e)
+      go Lower e h = absurd (other 4 (omega arith) e)
+      go Whole e h = absurd (other 5 (omega arith) e)
+
+  -- a part of it changes
+  module _ (v : UnitState) where
+    abbrev pub changedCore : Core
+    changedCore = record { units = set (core .units) place v; records = core .records; deliveries = core .deliveries }
+
+    pub changed-turned : (way : Way) → (wayCode way ≡ 2) ⊎ (wayCode way ≡ 3) ⊎ (wayCode way ≡ 4) → Heard t way m sent after → v ≡ changedBy way m (unitAt (core .units) place) → Turned t core place after changedCore sent
+    changed-turned = go
+      where
+        other : (k : ℕ) → k < 2 → (k ≡ 2) ⊎ (k ≡ 3) ⊎ (k ≡ 4) → ⊥
+        other k l e = ⊎-elim (λ q. omega arith) (λ q. ⊎-elim (λ q. omega arith) (λ q. omega arith) q) e
+
+        went : (x : UnitState) → Handed t (shortOutcome x sent) after → v ≡ x → Turned t core place after changedCore sent
+        went x h f = record { outcome = shortOutcome x sent; handed = h; state = rw (f, plus-none (core .records) words); count = refl }
+
+        go : (way : Way) → (wayCode way ≡ 2) ⊎ (wayCode way ≡ 3) ⊎ (wayCode way ≡ 4) → Heard t way m sent after → v ≡ changedBy way m (unitAt (core .units) place) → Turned t core place after changedCore sent
+        go Quiet e h f = absurd (other 0 (omega arith) e)
+        go Reply e h f = absurd (other 1 (omega arith) e)
+        go Follow e h f = went _ h f
+        go Store e h f = went _ h f
+        go Lower e h f = went _ h f
+        go Whole e h f = absurd (⊎-elim (λ (q : _≡_ {A = ℕ} 5 2). omega arith) (λ q. ⊎-elim (λ (q : _≡_ {A = ℕ} 5 3). omega arith) (λ (q : _≡_ {A = ℕ} 5 4). omega arith) q) e)
+
+-- the whole way is gone with the pool as it was
+pub whole-handed : {order : ValueOrder} {u : UnitState} {own n : ℕ} {sizes costs pool : List ℕ} {used : ℕ} (t : Oldest order u own n sizes costs pool used) (was : List ℕ) → was ≡ pool → (r : Outcome) (after : List ℕ)
+    → ((o : Oldest order u own n sizes costs was used) → Handed o r after) → Handed t r after
+whole-handed {order} {u} {own} {n} {sizes} {costs} {pool} {used} t was e r after f = subst (λ (q : List ℕ). (o : Oldest order u own n sizes costs q used) → Handed o r after) e f t

@@ -4,6 +4,7 @@ mod send; // what is sent, laid into the lent buffer
 
 use costs::Seat;
 pub use costs::ValueOrder;
+pub use decide::changed;
 pub use decide::compare_stamps;
 pub use decide::fresh;
 pub use decide::in_range_paid;

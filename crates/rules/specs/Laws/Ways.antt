@@ -6,7 +6,6 @@ use mathlib.Core.Path.{_≡_, refl, sym, ap, _∙_}
 use mathlib.Core.Bool.{Bool, true, false, cond, _&&_}
 use mathlib.Core.List.{List}
 use lib.Dec.{ltb, leb}
-use lib.ListN.{getD}
 use borrow.Author.Tests.{ltb-true, lt-leb}
 use Rattle.base.specs.Shape.Laws.{and-left, and-right}
 use Rattle.costs.specs.declared.Seat.{Seat}
@@ -14,14 +13,15 @@ use Rattle.costs.specs.Instance.{View, lentView, viewFrom}
 use Rattle.message.specs.declared.Kind.{Kind}
 use Rattle.message.specs.declared.Kind.the-variants.{Cpa, Request, Estimate, Solution, Stop}
 use Rattle.message.specs.declared.Message.{Message}
+use Rattle.message.specs.declared.Read.{Read}
 use Rattle.message.specs.declared.Read.the-variants.{Good, Refused}
 use Rattle.message.specs.Message.{isUnit}
 use Rattle.rules.specs.declared.Unit.{Unit as State}
 use Rattle.rules.specs.declared.Ordering.{Ordering}
 use Rattle.rules.specs.declared.Ordering.the-variants.{Less, Equal, Greater}
 use Rattle.rules.specs.declared.Way.{Way}
-use Rattle.rules.specs.declared.Way.the-variants.{Lower, Quiet, Whole}
-use Rattle.rules.specs.State.{withBest, compareOn, sameOn}
+use Rattle.rules.specs.declared.Way.the-variants.{Quiet, Reply, Follow, Store, Lower, Whole}
+use Rattle.rules.specs.State.{compareOn, sameOn}
 use Rattle.rules.specs.Step.{Decision, refused, quiet, reply, isOut, onFresh, onRequest, onOwnEstimate, onTimely, onEstimate, onSolution, byKind, respond}
 use Rattle.rules.specs.Tests.{stored, sumLater, reachedByEstimates, takeLower, unlessStopped}
 use Rattle.rules.specs.Calls.{outcomeOf}
@@ -111,6 +111,23 @@ way-unread seat r u m = go (isUnit (seat .n) (seat .own) && leb (seat .n) 16 && 
     go : (t : Bool) → cond {A = Way} t Whole Whole ≡ Whole
     go true = refl
     go false = refl
+
+-- an estimate that is stored is of one of 16 units
+pub store-sender : (seat : Seat) (read : Read) (u : State) (m : Message) → wayOf seat read u m ≡ Store → isUnit 16 (m .sender) ≡ true
+unfolding wayOf
+store-sender seat read u m e = go (isUnit (seat .n) (seat .own) && leb (seat .n) 16 && isUnit 16 (m .sender)) refl e
+  where
+    go : (t : Bool) → (isUnit (seat .n) (seat .own) && leb (seat .n) 16 && isUnit 16 (m .sender)) ≡ t → cond t (wayBy (seat .own) (seat .n) read u m) Whole ≡ Store → isUnit 16 (m .sender) ≡ true
+    go true f e = and-right (isUnit (seat .n) (seat .own) && leb (seat .n) 16) _ f
+    go false f e = let c : _≡_ {A = ℕ} 0 1 = ap code e in absurd (omega arith)
+      where
+        code : Way → ℕ
+        code Quiet = 2
+        code Reply = 2
+        code Follow = 2
+        code Store = 1
+        code Lower = 2
+        code Whole = 0
 
 -- the estimate that it sends
 pub reply-is : (seat : Seat) (costs : List ℕ) (m : Message) → 1 ≤ seat .own → replyTo seat costs m ≡ reply (viewFrom seat costs) m .message

@@ -25,6 +25,22 @@ pub plus-value : (m : ℕ) (c : Count) → valueOf (plus m c) ≡ (valueOf c + m
 unfolding plus
 plus-value m c = digits-plus (2 ^ 64) (c .low) (c .high) m (omega arith)
 
+-- what the types say of a count; it has these words still with m more, and none more is the same count
+abbrev pub Words : Count → Type 0
+Words c = (c .low < 2 ^ 64) × (c .high < 2 ^ 64)
+
+pub plus-words : (m : ℕ) (c : Count) → Words (plus m c)
+unfolding plus
+plus-words m c = (omega arith, omega arith)
+
+pub plus-none : (c : Count) → Words c → plus 0 c ≡ c
+unfolding plus
+plus-none c w =
+    let l : (c .low + 0) % 2 ^ 64 ≡ c .low = omega (arith, w .0) in
+    let z : (c .low + 0) / 2 ^ 64 ≡ 0 = omega (arith, w .0) in
+    let h : (c .high + (c .low + 0) / 2 ^ 64) % 2 ^ 64 ≡ c .high = rw z (omega (arith, w .1)) in
+    rw (l, h)
+
 -- without the modulus, while it lasts
 pub plus-exact : (m : ℕ) (c : Count) → valueOf c + m < 2 ^ 64 * 2 ^ 64 → valueOf (plus m c) ≡ valueOf c + m
 plus-exact m c h = plus-value m c ∙ mod-eq-of-lt h

@@ -1,165 +1,230 @@
 -- `network::settling::run` meets its contract. The loop's invariant: the network and the pool are what as many deliveries of cell 0 as are
--- counted have left of what was lent. So the next delivery is accepted, and handing over the oldest message does what it says.
--- The measure is (3n - 1) × N less the accepted deliveries, in the two count words: demand 3 bounds them.
-use Prim.Native.Nat.{ℕ, suc, _+_, _-_, _≤_, _<_}
-use mathlib.Core.Path.{_≡_, refl, sym, ap, _∙_}
+-- counted have left of what was lent. So the next delivery is accepted, and each way of its message does what the delivery says.
+-- The measure is (3n - 1) × N less the accepted deliveries, in the two count words: demand 3 bounds them. Assumes nothing.
+use Prim.Native.Nat.{ℕ, _+_, _-_, _≤_, _<_}
+use mathlib.Core.Path.{_≡_, refl}
+use mathlib.Core.Logic.{⊎-elim}
 use mathlib.Core.Bool.{false}
 use mathlib.Core.List.{List}
 use native.Mathlib.Omega.{arith}
-use lib.ListN.{length, take, drop, getD, set, length-replicate}
+use lib.ListN.{length, take, drop, getD, length-replicate}
+use denote.Enum.Declared.{tagOf}
 use borrow.Author.Needs.{needs}
-use borrow.Author.Tests.{not-true, not-false}
-use Rattle.table.specs.Stream.{unitsOf, Accepted}
-use Rattle.table.specs.StreamLaws.{accepted-units}
+use Rattle.table.specs.Stream.{Accepted}
 use Rattle.costs.specs.Instance.{instanceOf}
-use Rattle.costs.specs.Gathered.{gathered}
+use Rattle.rules.proofs.Way.{the-type}
+use Rattle.rules.specs.declared.Unit.{Unit as UnitState}
+use Rattle.rules.specs.declared.Way.{Way}
+use Rattle.rules.specs.declared.Way.the-variants.{Quiet, Reply, Follow, Store, Lower, Whole}
 use Rattle.rules.specs.Units.{unitAt}
 use Rattle.runs.specs.declared.Network.{Network}
 use Rattle.runs.specs.Count.{valueOf}
+use Rattle.runs.specs.Count.Laws.{Words, plus-words}
 use Rattle.runs.specs.Calls.{deliverOf}
 use Rattle.runs.specs.Demand3.{most, over}
-use Rattle.runs.specs.Code.{Open, pred-sub, own-first, own-last}
-use Rattle.runs.specs.Lending.{part-order, part-end, part-costs}
-use Rattle.runs.specs.Trusted.{checks, Oldest, Handed}
+use Rattle.runs.specs.Code.{Open}
+use Rattle.runs.specs.Trusted.{checks, Oldest}
 use Rattle.runs.specs.Settle.Laws.{After, made-table, reached-start, reached-accepted, reached-next, measure-falls}
+use Rattle.runs.specs.Short.{Heard, Turned, wayCode, kept-turned, changed-turned, whole-handed, turn-first, turn-place, turn-order, turn-end, turn-oldest, turn-delivers}
 use Rattle.network.proofs.settling.run.Statement.{statement}
 use Rattle.network.proofs.settling.run.Tie as tie
 
 abbrev Inv-loop : tie.InvT-loop
-Inv-loop order stream pool₀ n sizes lent starts out₀ core₀ used₀ over₀ pool out core used over =
-    (length pool ≡ length pool₀) × (length out ≡ 1024) × (over ≡ unitAt (core .units) 0 .stopped)
-    × After order stream (record { network = record { core = core₀; used = used₀ }; pool = pool₀ }) (record { network = record { core = core; used = used }; pool = pool })
+Inv-loop stream pool₀ lent starts first out₀ core₀ used₀ pool out core used =
+    (length pool ≡ length pool₀) × (length out ≡ 1024) × Words (core .records)
+    × After (first .order) stream (record { network = record { core = core₀; used = used₀ }; pool = pool₀ }) (record { network = record { core = core; used = used }; pool = pool })
 
 abbrev μ-loop : tie.MeasureT-loop
-μ-loop order stream pool₀ n sizes lent starts out₀ core₀ used₀ over₀ pool out core used over = most (instanceOf stream) - valueOf (core .deliveries)
+μ-loop stream pool₀ lent starts first out₀ core₀ used₀ pool out core used = most (instanceOf stream) - valueOf (core .deliveries)
 
 -- the stream is an accepted one
 table : (c : tie.Start Inv-loop μ-loop) → Accepted (c .args .stream .now)
 table c = made-table (c .args .order) (c .args .stream .now) (c .pre .pool) (record { refusal = 0; network = c .args .net }) (c .args .pool .now) (c .pre .gave) refl
 
+-- the order in which values are tried
+ordered : (c : tie.After-first-seat Inv-loop μ-loop) → c .first-seat .result .order ≡ c .before .before .before .before .before .before .args .order
+ordered c = rw (c .first-seat .ensures)
+
+-- unit 1 has not stopped, so the next delivery is accepted
+module _ (c : tie.Else1 Inv-loop μ-loop) where
+  abbrev net : Network
+  net = record { core = c .before .before .loop .core; used = c .before .before .loop .used }
+
+  reached : After (c .before .before .before .before .before .before .before .before .before .before .args .order) (c .before .before .before .before .before .before .before .before .before .before .args .stream .now) (record { network = c .before .before .before .before .before .before .before .before .before .before .args .net; pool = c .before .before .before .before .before .before .before .before .before .before .args .pool .now }) (record { network = net; pool = c .before .before .loop .pool })
+  reached = rw (ordered (c .before .before .before .before)) at (c .before .before .loop .inv .3)
+
+  goes-on : over (record { network = net; pool = c .before .before .loop .pool }) ≡ false
+  goes-on = c .if1 .left
+
+  accepted : deliverOf (c .before .before .before .before .before .before .before .before .before .before .args .order) net (c .before .before .before .before .before .before .before .before .before .before .args .stream .now) (c .before .before .loop .pool) 0 .answer .refusal ≡ 0
+  accepted = reached-accepted (c .before .before .before .before .before .before .before .before .before .before .args .order) (c .before .before .before .before .before .before .before .before .before .before .args .stream .now) (c .before .before .before .before .before .before .before .before .before .before .pre .pool) (record { refusal = 0; network = c .before .before .before .before .before .before .before .before .before .before .args .net }) (c .before .before .before .before .before .before .before .before .before .before .args .pool .now) (c .before .before .before .before .before .before .before .before .before .before .pre .gave) refl net (c .before .before .loop .pool) reached goes-on
+
+  passed : Open (c .before .before .before .before .before .before .before .before .before .before .args .order) net (c .before .before .before .before .before .before .before .before .before .before .args .stream .now) (c .before .before .loop .pool) 0
+  passed = checks (c .before .before .before .before .before .before .before .before .before .before .args .order) net (c .before .before .before .before .before .before .before .before .before .before .args .stream .now) (c .before .before .loop .pool) 0 accepted
+
 lend-requires : tie.Need-lend-requires Inv-loop μ-loop
-lend-requires c κs = let l = length-replicate {A = ℕ} 123392 0 in (table (c .before .before .before .before .before), omega (arith, l))
+lend-requires c κs = let l = length-replicate {A = ℕ} 123392 0 in (table (c .before .before .before), omega (arith, l))
 
 loop-holds : tie.Need-loop-holds Inv-loop μ-loop
 loop-holds c =
-    let a = c .before .before .before .before .before .before .before .before .before .args in
-    (refl, refl, refl, reached-start (a .order) (a .stream .now) (c .before .before .before .before .before .before .before .before .before .pre .pool) (record { refusal = 0; network = a .net }) (a .pool .now) (c .before .before .before .before .before .before .before .before .before .pre .gave) refl)
+    let w : Words (c .before .before .before .before .before .before .before .args .net .core .records) = search needs in
+    (refl, refl, w, rw (ordered (c .before)) (reached-start (c .before .before .before .before .before .before .before .args .order) (c .before .before .before .before .before .before .before .args .stream .now) (c .before .before .before .before .before .before .before .pre .pool) (record { refusal = 0; network = c .before .before .before .before .before .before .before .args .net }) (c .before .before .before .before .before .before .before .args .pool .now) (c .before .before .before .before .before .before .before .pre .gave) refl))
 
--- unit 1 has not stopped, so the next delivery is accepted
-module _ (c : tie.In-loop Inv-loop μ-loop) where
-  goes-on : over (record { network = record { core = c .before .loop .core; used = c .before .loop .used }; pool = c .before .loop .pool }) ≡ false
-  goes-on = sym (c .before .loop .inv .2) ∙ not-true (c .before .loop .over) (c .loop-test .taken)
+returns : tie.Need-returns Inv-loop μ-loop
+returns c = record { stopped = c .if1 .taken; after = rw (ordered (c .before .before .before .before)) at (c .before .before .loop .inv .3) }
 
-  accepted : deliverOf (c .before .before .before .before .before .before .before .before .before .before .before .args .order) (record { core = c .before .loop .core; used = c .before .loop .used }) (c .before .before .before .before .before .before .before .before .before .before .before .args .stream .now) (c .before .loop .pool) 0 .answer .refusal ≡ 0
-  accepted =
-      let a = c .before .before .before .before .before .before .before .before .before .before .before .args in
-      reached-accepted (a .order) (a .stream .now) (c .before .before .before .before .before .before .before .before .before .before .before .pre .pool) (record { refusal = 0; network = a .net }) (a .pool .now) (c .before .before .before .before .before .before .before .before .before .before .before .pre .gave) refl (record { core = c .before .loop .core; used = c .before .loop .used }) (c .before .loop .pool) (c .before .loop .inv .3) goes-on
-
-  passed : Open (c .before .before .before .before .before .before .before .before .before .before .before .args .order) (record { core = c .before .loop .core; used = c .before .loop .used }) (c .before .before .before .before .before .before .before .before .before .before .before .args .stream .now) (c .before .loop .pool) 0
-  passed = checks (c .before .before .before .before .before .before .before .before .before .before .before .args .order) (record { core = c .before .loop .core; used = c .before .loop .used }) (c .before .before .before .before .before .before .before .before .before .before .before .args .stream .now) (c .before .loop .pool) 0 accepted
-
-part-receiver-end : tie.Need-part-receiver-end Inv-loop μ-loop
-part-receiver-end c = let l = passed (c .before) .passed .room in search needs
+part-seat-of-end : tie.Need-part-seat-of-end Inv-loop μ-loop
+part-seat-of-end c = let l = passed (c .before) .passed .room in search needs
 
 -- the unit that the message is for, and the costs lent with it
-module _ (c : tie.After-receiver Inv-loop μ-loop) where
-  first : 1 ≤ c .receiver .result
-  first =
-      own-first (c .before .before .before .before .before .before .before .before .before .before .before .before .before .before .args .order) (c .before .before .before .before .loop .core) (c .before .before .before .before .before .before .before .before .before .before .before .before .before .before .args .stream .now) (passed (c .before .before .before) .passed .core) (c .before .before .before .before .before .before .before .before .before .before .before .units-of .result) (c .receiver .result) (take 64 (drop 0 (c .before .before .before .before .loop .pool))) (c .before .before .before .before .before .before .before .before .before .before .before .units-of .ensures) (c .receiver .ensures .0)
+module _ (c : tie.After-seat-of Inv-loop μ-loop) where
+  first : 1 ≤ c .seat-of .result .own
+  first = turn-first (c .before .before .before .before .before .before .before .before .before .before .before .before .before .args .order) (c .before .before .before .before .before .before .before .before .before .before .before .before .before .args .stream .now) (net (c .before .before .before)) (c .before .before .before .before .before .loop .pool) (accepted (c .before .before .before)) (c .before .before .before .before .before .before .before .first-seat .result) (c .seat-of .result) (c .before .before .before .before .before .before .before .first-seat .ensures) (c .seat-of .ensures .0) (c .seat-of .ensures .1) (c .before .before .before .before .before .before .before .before .before .lend .result) (c .before .before .before .before .before .before .before .before .before .lend .last .1 .0) (c .before .before .before .before .before .before .before .before .before .lend .ensures)
 
-  last : c .receiver .result ≤ unitsOf (c .before .before .before .before .before .before .before .before .before .before .before .before .before .before .args .stream .now)
-  last =
-      own-last (c .before .before .before .before .before .before .before .before .before .before .before .before .before .before .args .order) (c .before .before .before .before .loop .core) (c .before .before .before .before .before .before .before .before .before .before .before .before .before .before .args .stream .now) (passed (c .before .before .before) .passed .core) (c .before .before .before .before .before .before .before .before .before .before .before .units-of .result) (c .receiver .result) (take 64 (drop 0 (c .before .before .before .before .loop .pool))) (c .before .before .before .before .before .before .before .before .before .before .before .units-of .ensures) (c .receiver .ensures .0)
+  place : c .seat-of .result .own - 1 < 16
+  place = turn-place (c .before .before .before .before .before .before .before .before .before .before .before .before .before .args .order) (c .before .before .before .before .before .before .before .before .before .before .before .before .before .args .stream .now) (net (c .before .before .before)) (c .before .before .before .before .before .loop .pool) (accepted (c .before .before .before)) (c .before .before .before .before .before .before .before .first-seat .result) (c .seat-of .result) (c .before .before .before .before .before .before .before .first-seat .ensures) (c .seat-of .ensures .0) (c .seat-of .ensures .1) (c .before .before .before .before .before .before .before .before .before .lend .result) (c .before .before .before .before .before .before .before .before .before .lend .last .1 .0) (c .before .before .before .before .before .before .before .before .before .lend .ensures)
 
-  place : c .receiver .result - 1 < 16
-  place = omega (arith, first, last, accepted-units (c .before .before .before .before .before .before .before .before .before .before .before .before .before .before .args .stream .now) (table (c .before .before .before .before .before .before .before .before .before .before .before .before .before .before)) .1)
+  following : getD (c .before .before .before .before .before .before .before .before .before .lend .result) (c .seat-of .result .own - 1) 0 ≤ getD (c .before .before .before .before .before .before .before .before .before .lend .result) (c .seat-of .result .own - 1 + 1) 0
+  following = turn-order (c .before .before .before .before .before .before .before .before .before .before .before .before .before .args .order) (c .before .before .before .before .before .before .before .before .before .before .before .before .before .args .stream .now) (net (c .before .before .before)) (c .before .before .before .before .before .loop .pool) (accepted (c .before .before .before)) (c .before .before .before .before .before .before .before .first-seat .result) (c .seat-of .result) (c .before .before .before .before .before .before .before .first-seat .ensures) (c .seat-of .ensures .0) (c .seat-of .ensures .1) (c .before .before .before .before .before .before .before .before .before .lend .result) (c .before .before .before .before .before .before .before .before .before .lend .last .1 .0) (c .before .before .before .before .before .before .before .before .before .lend .ensures)
 
-  below : c .receiver .result - 1 < unitsOf (c .before .before .before .before .before .before .before .before .before .before .before .before .before .before .args .stream .now)
-  below = omega (arith, first, last)
+  ends : getD (c .before .before .before .before .before .before .before .before .before .lend .result) (c .seat-of .result .own - 1 + 1) 0 ≤ length (c .before .before .before .before .before .before .before .before .before .lend .last .1 .0)
+  ends = turn-end (c .before .before .before .before .before .before .before .before .before .before .before .before .before .args .order) (c .before .before .before .before .before .before .before .before .before .before .before .before .before .args .stream .now) (net (c .before .before .before)) (c .before .before .before .before .before .loop .pool) (accepted (c .before .before .before)) (c .before .before .before .before .before .before .before .first-seat .result) (c .seat-of .result) (c .before .before .before .before .before .before .before .first-seat .ensures) (c .seat-of .ensures .0) (c .seat-of .ensures .1) (c .before .before .before .before .before .before .before .before .before .lend .result) (c .before .before .before .before .before .before .before .before .before .lend .last .1 .0) (c .before .before .before .before .before .before .before .before .before .lend .ensures)
 
-  ordered : getD (c .before .before .before .before .before .before .before .before .lend .result) (c .receiver .result - 1) 0 ≤ getD (c .before .before .before .before .before .before .before .before .lend .result) (c .receiver .result - 1 + 1) 0
-  ordered = part-order (c .before .before .before .before .before .before .before .before .before .before .before .before .before .before .args .stream .now) (c .before .before .before .before .before .before .before .before .lend .result) (c .before .before .before .before .before .before .before .before .lend .last .1 .0) (c .before .before .before .before .before .before .before .before .lend .ensures) (c .receiver .result - 1) below
+  abbrev costs : List ℕ
+  costs = take (getD (c .before .before .before .before .before .before .before .before .before .lend .result) (c .seat-of .result .own - 1 + 1) 0 - getD (c .before .before .before .before .before .before .before .before .before .lend .result) (c .seat-of .result .own - 1) 0) (drop (getD (c .before .before .before .before .before .before .before .before .before .lend .result) (c .seat-of .result .own - 1) 0) (c .before .before .before .before .before .before .before .before .before .lend .last .1 .0))
 
-  ends : getD (c .before .before .before .before .before .before .before .before .lend .result) (c .receiver .result - 1 + 1) 0 ≤ length (c .before .before .before .before .before .before .before .before .lend .last .1 .0)
-  ends = part-end (c .before .before .before .before .before .before .before .before .before .before .before .before .before .before .args .stream .now) (c .before .before .before .before .before .before .before .before .lend .result) (c .before .before .before .before .before .before .before .before .lend .last .1 .0) (c .before .before .before .before .before .before .before .before .lend .ensures) (c .receiver .result - 1) below
+  abbrev unit : UnitState
+  unit = unitAt (c .before .before .before .before .before .loop .core .units) (c .seat-of .result .own - 1)
 
-  abbrev lent : List ℕ
-  lent = take (getD (c .before .before .before .before .before .before .before .before .lend .result) (c .receiver .result - 1 + 1) 0 - getD (c .before .before .before .before .before .before .before .before .lend .result) (c .receiver .result - 1) 0) (drop (getD (c .before .before .before .before .before .before .before .before .lend .result) (c .receiver .result - 1) 0) (c .before .before .before .before .before .before .before .before .lend .last .1 .0))
+  abbrev oldest : Oldest (c .seat-of .result .order) unit (c .seat-of .result .own) (c .seat-of .result .n) (c .seat-of .result .sizes) costs (c .before .before .before .before .before .loop .pool) (c .before .before .before .before .before .loop .used)
+  oldest = turn-oldest (c .before .before .before .before .before .before .before .before .before .before .before .before .before .args .order) (c .before .before .before .before .before .before .before .before .before .before .before .before .before .args .stream .now) (net (c .before .before .before)) (c .before .before .before .before .before .loop .pool) (accepted (c .before .before .before)) (c .before .before .before .before .before .before .before .first-seat .result) (c .seat-of .result) (c .before .before .before .before .before .before .before .first-seat .ensures) (c .seat-of .ensures .0) (c .seat-of .ensures .1) (c .before .before .before .before .before .before .before .before .before .lend .result) (c .before .before .before .before .before .before .before .before .before .lend .last .1 .0) (c .before .before .before .before .before .before .before .before .before .lend .ensures)
 
-  costs : lent ≡ gathered (c .before .before .before .before .before .before .before .before .before .before .before .before .before .before .args .stream .now) (c .receiver .result)
-  costs =
-      let e : suc (c .receiver .result - 1) ≡ c .receiver .result = omega (arith, first) in
-      part-costs (c .before .before .before .before .before .before .before .before .before .before .before .before .before .before .args .stream .now) (c .before .before .before .before .before .before .before .before .lend .result) (c .before .before .before .before .before .before .before .before .lend .last .1 .0) (c .before .before .before .before .before .before .before .before .lend .ensures) (c .receiver .result - 1) below ∙ ap (gathered (c .before .before .before .before .before .before .before .before .before .before .before .before .before .before .args .stream .now)) e
+sub-place : tie.Need-sub-place Inv-loop μ-loop
+sub-place c = first (c .before)
 
-  abbrev oldest : Oldest (c .before .before .before .before .before .before .before .before .before .before .before .before .before .before .args .order) (unitAt (c .before .before .before .before .loop .core .units) (c .receiver .result - 1)) (c .receiver .result) (c .before .before .before .before .before .before .before .before .before .before .before .units-of .result) (c .before .before .before .before .before .before .before .before .before .before .sizes-of .result) lent (c .before .before .before .before .loop .pool) (c .before .before .before .before .loop .used)
-  oldest = record {
-    stream = c .before .before .before .before .before .before .before .before .before .before .before .before .before .before .args .stream .now;
-    net = record { core = c .before .before .before .before .loop .core; used = c .before .before .before .before .loop .used };
-    accepted = accepted (c .before .before .before);
-    units = c .before .before .before .before .before .before .before .before .before .before .before .units-of .ensures;
-    array = c .before .before .before .before .before .before .before .before .before .before .sizes-of .ensures;
-    named = c .receiver .ensures .0;
-    unit = refl;
-    lent = costs;
-    count = refl;
-    bytes = c .receiver .ensures .1;
-  }
+array-read-lo : tie.Need-array-read-lo Inv-loop μ-loop
+array-read-lo c = omega (arith, place (c .before))
+
+array-read-hi : tie.Need-array-read-hi Inv-loop μ-loop
+array-read-hi c = omega (arith, place (c .before))
+
+element-copy-out-u : tie.Need-element-copy-out-u Inv-loop μ-loop
+element-copy-out-u c = omega (arith, place (c .before))
+
+sub-hear : tie.Need-sub-hear Inv-loop μ-loop
+sub-hear c = following (c .before .before)
+
+part-hear-start : tie.Need-part-hear-start Inv-loop μ-loop
+part-hear-start c = let l = following (c .before .before .before) in search needs
+
+part-hear-end : tie.Need-part-hear-end Inv-loop μ-loop
+part-hear-end c = let l = ends (c .before .before .before) in search needs
+
+hear-requires : tie.Need-hear-requires Inv-loop μ-loop
+hear-requires c κs = oldest (c .before .before .before .before .before)
+
+element-copy-out-w : tie.Need-element-copy-out-w Inv-loop μ-loop
+element-copy-out-w c = omega (arith, place (c .before .before .before .before .before .before .before .before .before))
+
+element-set-from-core : tie.Need-element-set-from-core Inv-loop μ-loop
+element-set-from-core c = omega (arith, place (c .before .before .before .before .before .before .before .before .before .before .before))
+
+element-copy-out-w-2 : tie.Need-element-copy-out-w-2 Inv-loop μ-loop
+element-copy-out-w-2 c = omega (arith, place (c .before .before .before .before .before .before .before .before .before .before))
 
 sub-hand-oldest : tie.Need-sub-hand-oldest Inv-loop μ-loop
-sub-hand-oldest c = ordered (c .before)
+sub-hand-oldest c = following (c .before .before .before .before .before .before .before .before .before .before .before)
 
 part-hand-oldest-start : tie.Need-part-hand-oldest-start Inv-loop μ-loop
-part-hand-oldest-start c = let l = ordered (c .before .before) in search needs
+part-hand-oldest-start c = let l = following (c .before .before .before .before .before .before .before .before .before .before .before .before) in search needs
 
 part-hand-oldest-end : tie.Need-part-hand-oldest-end Inv-loop μ-loop
-part-hand-oldest-end c = let l = ends (c .before .before) in search needs
+part-hand-oldest-end c = let l = ends (c .before .before .before .before .before .before .before .before .before .before .before .before) in search needs
+
+-- what is known of the message once it was heard
+told : (c : tie.After-hear Inv-loop μ-loop) → Heard (oldest (c .before .before .before .before .before .before)) (c .hear .result .way) (c .hear .result .message) (c .hear .result .sent) (c .hear .last .1 .1 .1 .0)
+told c = c .hear .ensures (oldest (c .before .before .before .before .before .before))
+
+-- the whole way finds the pool as it was
+unmoved : (c : tie.After-enum-told Inv-loop μ-loop) → c .before .before .before .before .hear .last .1 .1 .1 .0 ≡ c .before .before .before .before .before .before .before .before .before .before .before .before .before .before .before .loop .pool
+unmoved c = rw (c .enum-told .given .1) at (told (c .before .before .before .before))
 
 hand-oldest-requires : tie.Need-hand-oldest-requires Inv-loop μ-loop
-hand-oldest-requires c κs = (oldest (c .before .before .before .before .before), omega (arith, c .before .before .before .before .before .before .before .before .before .loop .inv .1))
+hand-oldest-requires c κs = (rw (unmoved (c .before .before .before .before .before)) (oldest (c .before .before .before .before .before .before .before .before .before .before .before .before .before .before .before)), omega (arith, c .before .before .before .before .before .before .before .before .before .before .before .before .before .before .before .before .before .before .before .before .loop .inv .1))
 
--- what handing it over gives is what the delivery gives
-handed : (c : tie.After-hand-oldest Inv-loop μ-loop) → Handed (oldest (c .before .before .before .before .before .before)) (c .hand-oldest .result) (c .hand-oldest .last .1 .1 .1 .1 .1 .1 .0)
-handed c = c .hand-oldest .ensures (oldest (c .before .before .before .before .before .before))
+mul-w-3 : tie.Need-mul-w-3 Inv-loop μ-loop
+mul-w-3 c = record { fits = omega (arith, place (c .before .before .before .before .before .before .before .before .before .before .before .before .before .before .before .before .before .before .before .before)) }
+
+element-set-from-w : tie.Need-element-set-from-w Inv-loop μ-loop
+element-set-from-w c = omega (arith, place (c .before .before .before .before .before .before .before .before .before .before .before .before .before .before .before .before .before .before .before .before))
+
+-- the number of a way
+coded : (way : Way) → tagOf the-type way ≡ wayCode way
+coded Quiet = refl
+coded Reply = refl
+coded Follow = refl
+coded Store = refl
+coded Lower = refl
+coded Whole = refl
+
+-- whichever way it goes, the message was handed over
+turned : (c : tie.At-match-came Inv-loop μ-loop) → Turned (oldest (c .before .before .before .before .before .before .before .before .before)) (c .before .before .before .before .before .before .before .before .before .before .before .before .before .before .loop .core) (c .before .before .before .before .before .before .before .before .before .seat-of .result .own - 1) (c .match .pool) (c .match .core) (c .match .sent)
+turned c =
+    let h = c .before .before .before .hear in
+    let t = oldest (c .before .before .before .before .before .before .before .before .before) in
+    let k = c .before .before .before .before .before .before .before .before .before .seat-of .result .own - 1 in
+    let l = c .before .before .before .before .before .before .before .before .before .before .before .before .before .before .loop in
+    let q = told (c .before .before .before) in
+    ⊎-elim
+    (λ w. rw (w .1, w .3, w .4) (kept-turned (l .core) k t (l .inv .2) (h .result .message) (h .result .sent) (h .last .1 .1 .1 .0) (h .result .way) (rw (coded (h .result .way)) at (w .0 .keys1)) q))
+    (λ w.
+    ⊎-elim
+    (λ v. rw (v .3, v .5, v .6) (changed-turned (l .core) k t (l .inv .2) (h .result .message) (h .result .sent) (h .last .1 .1 .1 .0) (v .2 .result) (h .result .way) (rw (coded (h .result .way)) at (v .0 .keys2)) q (v .2 .ensures)))
+    (λ v.
+    rw (v .15, v .17, v .18)
+    (record {
+      outcome = v .7 .result;
+      handed = whole-handed t (h .last .1 .1 .1 .0) (rw (v .1 .given .1) at q) (v .7 .result) (v .7 .last .1 .1 .1 .0) (v .7 .ensures);
+      state = rw (v .14 .ensures);
+      count = refl;
+    }))
+    w)
+    (c .match .came)
+
+-- pool and buffer are as long as they were
+lengths : (c : tie.At-match-came Inv-loop μ-loop) → (length (c .match .pool) ≡ length (c .before .before .before .before .before .before .before .before .before .before .before .before .before .before .before .before .before .before .before .before .before .before .args .pool .now)) × (length (c .match .out) ≡ 1024)
+lengths c =
+    let l = c .before .before .before .before .before .before .before .before .before .before .before .before .before .before .loop in
+    let h : length (c .before .before .before .hear .last .1 .1 .1 .0) ≡ length (c .before .before .before .before .before .before .before .before .before .before .before .before .before .before .before .before .before .before .before .before .before .before .args .pool .now) = omega (arith, c .before .before .pool2 .given, l .inv .0) in
+    ⊎-elim (λ w. (rw (w .1) h, rw (w .2) (l .inv .1)))
+    (λ w. ⊎-elim (λ v. (rw (v .3) h, rw (v .4) (l .inv .1))) (λ v. (rw (v .15) (omega (arith, v .8 .given, h)), rw (v .16) (v .10 .given))) w)
+    (c .match .came)
 
 sub-used : tie.Need-sub-used Inv-loop μ-loop
 sub-used c = passed (c .before .before .before .before .before .before .before .before .before .before .before .before) .here
 
 add-used : tie.Need-add-used Inv-loop μ-loop
-add-used c = record { fits = omega (arith, handed (c .before .before .before .before) .2) }
-
-mul-w : tie.Need-mul-w Inv-loop μ-loop
-mul-w c = record { fits = omega (arith, place (c .before .before .before .before .before .before .before .before .before .before .before)) }
+add-used c = let t = turned (c .before) in record { fits = omega (arith, t .handed .2, t .count) }
 
 -- a turn delivers cell 0
-module _ (c : tie.After-first2 Inv-loop μ-loop) where
-  abbrev turned : Network
-  turned = record {
-    core = record { units = set (c .before .before .before .before .before .before .before .before .before .before .before .before .before .before .before .before .before .before .before .before .before .loop .core .units) (c .before .before .before .before .before .before .before .before .before .before .before .before .before .before .before .before .before .receiver .result - 1) (c .before .before .before .before .before .before .before .before .before .before .before .hand-oldest .result .unit); records = c .before .before .before .plus .result; deliveries = c .before .plus2 .result };
-    used = c .before .before .before .before .before .before .before .before .before .before .before .before .before .before .before .before .before .before .before .before .before .loop .used - 1 + c .before .before .before .before .before .before .before .before .before .before .before .hand-oldest .result .sent;
-  }
+module _ (c : tie.After-plus2 Inv-loop μ-loop) where
+  abbrev next : Network
+  next = record { core = record { units = c .before .before .before .match .core .units; records = c .before .before .before .match .core .records; deliveries = c .plus2 .result }; used = c .before .before .before .before .before .before .before .before .before .before .before .before .before .before .before .before .before .loop .used - 1 + c .before .before .before .match .sent }
 
-  delivered : (record { refusal = 0; network = turned } ≡ deliverOf (c .before .before .before .before .before .before .before .before .before .before .before .before .before .before .before .before .before .before .before .before .before .before .before .before .before .before .before .before .before .before .before .args .order) (record { core = c .before .before .before .before .before .before .before .before .before .before .before .before .before .before .before .before .before .before .before .before .before .loop .core; used = c .before .before .before .before .before .before .before .before .before .before .before .before .before .before .before .before .before .before .before .before .before .loop .used }) (c .before .before .before .before .before .before .before .before .before .before .before .before .before .before .before .before .before .before .before .before .before .before .before .before .before .before .before .before .before .before .before .args .stream .now) (c .before .before .before .before .before .before .before .before .before .before .before .before .before .before .before .before .before .before .before .before .before .loop .pool) 0 .answer)
-      × (c .before .before .before .before .before .before .before .before .before .before .before .hand-oldest .last .1 .1 .1 .1 .1 .1 .0 ≡ deliverOf (c .before .before .before .before .before .before .before .before .before .before .before .before .before .before .before .before .before .before .before .before .before .before .before .before .before .before .before .before .before .before .before .args .order) (record { core = c .before .before .before .before .before .before .before .before .before .before .before .before .before .before .before .before .before .before .before .before .before .loop .core; used = c .before .before .before .before .before .before .before .before .before .before .before .before .before .before .before .before .before .before .before .before .before .loop .used }) (c .before .before .before .before .before .before .before .before .before .before .before .before .before .before .before .before .before .before .before .before .before .before .before .before .before .before .before .before .before .before .before .args .stream .now) (c .before .before .before .before .before .before .before .before .before .before .before .before .before .before .before .before .before .before .before .before .before .loop .pool) 0 .pool)
-  delivered = (rw (c .before .before .before .plus .ensures, c .before .plus2 .ensures, ← pred-sub (c .before .before .before .before .before .before .before .before .before .before .before .before .before .before .before .before .before .receiver .result)) (handed (c .before .before .before .before .before .before .before .before .before .before .before) .0), handed (c .before .before .before .before .before .before .before .before .before .before .before) .1)
+  delivered : (record { refusal = 0; network = next } ≡ deliverOf (c .before .before .before .before .before .before .before .before .before .before .before .before .before .before .before .before .before .before .before .before .before .before .before .before .before .args .order) (net (c .before .before .before .before .before .before .before .before .before .before .before .before .before .before .before)) (c .before .before .before .before .before .before .before .before .before .before .before .before .before .before .before .before .before .before .before .before .before .before .before .before .before .args .stream .now) (c .before .before .before .before .before .before .before .before .before .before .before .before .before .before .before .before .before .loop .pool) 0 .answer) × (c .before .before .before .match .pool ≡ deliverOf (c .before .before .before .before .before .before .before .before .before .before .before .before .before .before .before .before .before .before .before .before .before .before .before .before .before .args .order) (net (c .before .before .before .before .before .before .before .before .before .before .before .before .before .before .before)) (c .before .before .before .before .before .before .before .before .before .before .before .before .before .before .before .before .before .before .before .before .before .before .before .before .before .args .stream .now) (c .before .before .before .before .before .before .before .before .before .before .before .before .before .before .before .before .before .loop .pool) 0 .pool)
+  delivered = turn-delivers (c .before .before .before .before .before .before .before .before .before .before .before .before .before .before .before .before .before .before .before .before .before .before .before .before .before .args .order) (c .before .before .before .before .before .before .before .before .before .before .before .before .before .before .before .before .before .before .before .before .before .before .before .before .before .args .stream .now) (net (c .before .before .before .before .before .before .before .before .before .before .before .before .before .before .before)) (c .before .before .before .before .before .before .before .before .before .before .before .before .before .before .before .before .before .loop .pool) (accepted (c .before .before .before .before .before .before .before .before .before .before .before .before .before .before .before)) (c .before .before .before .before .before .before .before .before .before .before .before .before .before .before .before .before .before .before .before .first-seat .result) (c .before .before .before .before .before .before .before .before .before .before .before .before .seat-of .result) (c .before .before .before .before .before .before .before .before .before .before .before .before .before .before .before .before .before .before .before .first-seat .ensures) (c .before .before .before .before .before .before .before .before .before .before .before .before .seat-of .ensures .0) (c .before .before .before .before .before .before .before .before .before .before .before .before .seat-of .ensures .1) (c .before .before .before .before .before .before .before .before .before .before .before .before .before .before .before .before .before .before .before .before .before .lend .result) (c .before .before .before .before .before .before .before .before .before .before .before .before .before .before .before .before .before .before .before .before .before .lend .last .1 .0) (c .before .before .before .before .before .before .before .before .before .before .before .before .before .before .before .before .before .before .before .before .before .lend .ensures) (c .before .before .before .match .core) (c .before .before .before .match .sent) (c .before .before .before .match .pool) (turned (c .before .before .before)) (c .plus2 .result) (c .plus2 .ensures)
 
 loop-less : tie.Need-loop-less Inv-loop μ-loop
-loop-less c =
-    let a = c .before .before .before .before .before .before .before .before .before .before .before .before .before .before .before .before .before .before .before .before .before .before .before .before .before .before .before .before .before .before .before .args in
-    let l = c .before .before .before .before .before .before .before .before .before .before .before .before .before .before .before .before .before .before .before .before .before .loop in
-    measure-falls (a .order) (a .stream .now) (c .before .before .before .before .before .before .before .before .before .before .before .before .before .before .before .before .before .before .before .before .before .before .before .before .before .before .before .before .before .before .before .pre .pool) (record { refusal = 0; network = a .net }) (a .pool .now) (c .before .before .before .before .before .before .before .before .before .before .before .before .before .before .before .before .before .before .before .before .before .before .before .before .before .before .before .before .before .before .before .pre .gave) refl (record { core = l .core; used = l .used }) (l .pool) (l .inv .3) (record { refusal = 0; network = turned c }) (c .before .before .before .before .before .before .before .before .before .before .before .hand-oldest .last .1 .1 .1 .1 .1 .1 .0) (delivered c) (goes-on (c .before .before .before .before .before .before .before .before .before .before .before .before .before .before .before .before .before .before .before .before))
+loop-less c = measure-falls (c .before .before .before .before .before .before .before .before .before .before .before .before .before .before .before .before .before .before .before .before .before .before .before .before .before .args .order) (c .before .before .before .before .before .before .before .before .before .before .before .before .before .before .before .before .before .before .before .before .before .before .before .before .before .args .stream .now) (c .before .before .before .before .before .before .before .before .before .before .before .before .before .before .before .before .before .before .before .before .before .before .before .before .before .pre .pool) (record { refusal = 0; network = c .before .before .before .before .before .before .before .before .before .before .before .before .before .before .before .before .before .before .before .before .before .before .before .before .before .args .net }) (c .before .before .before .before .before .before .before .before .before .before .before .before .before .before .before .before .before .before .before .before .before .before .before .before .before .args .pool .now) (c .before .before .before .before .before .before .before .before .before .before .before .before .before .before .before .before .before .before .before .before .before .before .before .before .before .pre .gave) refl (net (c .before .before .before .before .before .before .before .before .before .before .before .before .before .before .before)) (c .before .before .before .before .before .before .before .before .before .before .before .before .before .before .before .before .before .loop .pool) (reached (c .before .before .before .before .before .before .before .before .before .before .before .before .before .before .before)) (record { refusal = 0; network = next c }) (c .before .before .before .match .pool) (delivered c) (goes-on (c .before .before .before .before .before .before .before .before .before .before .before .before .before .before .before))
 
 loop-again : tie.Need-loop-again Inv-loop μ-loop
 loop-again c =
-    let a = c .before .before .before .before .before .before .before .before .before .before .before .before .before .before .before .before .before .before .before .before .before .before .before .before .before .before .before .before .before .before .before .args in
-    let l = c .before .before .before .before .before .before .before .before .before .before .before .before .before .before .before .before .before .before .before .before .before .loop in (
-      search needs,
-      c .before .before .before .before .before .before .before .before .out2 .given,
-      refl,
-      reached-next (a .order) (a .stream .now) (c .before .before .before .before .before .before .before .before .before .before .before .before .before .before .before .before .before .before .before .before .before .before .before .before .before .before .before .before .before .before .before .pre .pool) (record { refusal = 0; network = a .net }) (a .pool .now) (c .before .before .before .before .before .before .before .before .before .before .before .before .before .before .before .before .before .before .before .before .before .before .before .before .before .before .before .before .before .before .before .pre .gave) refl (record { core = l .core; used = l .used }) (l .pool) (l .inv .3) (record { refusal = 0; network = turned c }) (c .before .before .before .before .before .before .before .before .before .before .before .hand-oldest .last .1 .1 .1 .1 .1 .1 .0) (delivered c) (goes-on (c .before .before .before .before .before .before .before .before .before .before .before .before .before .before .before .before .before .before .before .before)),
+    let t = turned (c .before .before .before) in (
+      lengths (c .before .before .before) .0,
+      lengths (c .before .before .before) .1,
+      rw (t .state) (plus-words (t .outcome .records) (c .before .before .before .before .before .before .before .before .before .before .before .before .before .before .before .before .before .loop .core .records)),
+      rw (ordered (c .before .before .before .before .before .before .before .before .before .before .before .before .before .before .before .before .before .before .before)) (reached-next (c .before .before .before .before .before .before .before .before .before .before .before .before .before .before .before .before .before .before .before .before .before .before .before .before .before .args .order) (c .before .before .before .before .before .before .before .before .before .before .before .before .before .before .before .before .before .before .before .before .before .before .before .before .before .args .stream .now) (c .before .before .before .before .before .before .before .before .before .before .before .before .before .before .before .before .before .before .before .before .before .before .before .before .before .pre .pool) (record { refusal = 0; network = c .before .before .before .before .before .before .before .before .before .before .before .before .before .before .before .before .before .before .before .before .before .before .before .before .before .args .net }) (c .before .before .before .before .before .before .before .before .before .before .before .before .before .before .before .before .before .before .before .before .before .before .before .before .before .args .pool .now) (c .before .before .before .before .before .before .before .before .before .before .before .before .before .before .before .before .before .before .before .before .before .before .before .before .before .pre .gave) refl (net (c .before .before .before .before .before .before .before .before .before .before .before .before .before .before .before)) (c .before .before .before .before .before .before .before .before .before .before .before .before .before .before .before .before .before .loop .pool) (reached (c .before .before .before .before .before .before .before .before .before .before .before .before .before .before .before)) (record { refusal = 0; network = next c }) (c .before .before .before .match .pool) (delivered c) (goes-on (c .before .before .before .before .before .before .before .before .before .before .before .before .before .before .before))),
     )
-
-returns : tie.Need-returns Inv-loop μ-loop
-returns c = let l = c .before .loop in record { stopped = sym (l .inv .2) ∙ not-false (l .over) (c .loop-test .left); after = l .inv .3 }
 
 pub run-spec : {M : Type 1} → statement M
 run-spec =
@@ -167,40 +232,49 @@ run-spec =
     (tie.spec
     Inv-loop
     μ-loop
-    (λ c κs. search needs)
-    (λ c κs. search needs)
     (λ c. search needs)
     lend-requires
-    (λ c. search needs)
+    (λ c κs. search needs)
     loop-holds
     (λ c. search needs)
     (λ c. search needs)
-    part-receiver-end
+    returns
+    (λ c. search needs)
+    (λ c. search needs)
+    part-seat-of-end
     (λ c κs. search needs)
-    (λ c. first c)
+    sub-place
     (λ c. search needs)
     (λ c. search needs)
-    (λ c. place c)
+    array-read-lo
     (λ c. search needs)
-    (λ c. omega (arith, place (c .before)))
-    (λ c. record { fits = omega (arith, place (c .before)) })
     (λ c. search needs)
-    (λ c. omega (arith, place (c .before)))
+    array-read-hi
+    (λ c. search needs)
+    element-copy-out-u
+    sub-hear
+    part-hear-start
+    part-hear-end
+    hear-requires
+    (λ c. search needs)
+    element-copy-out-w
+    (λ c κs. search needs)
+    (λ c. search needs)
+    element-set-from-core
+    (λ c. search needs)
+    (λ c. search needs)
+    element-copy-out-w-2
     sub-hand-oldest
     part-hand-oldest-start
     part-hand-oldest-end
     (λ c. search needs)
     hand-oldest-requires
+    mul-w-3
+    element-set-from-w
+    (λ c. search needs)
+    (λ c κs. search needs)
     sub-used
-    (λ c. search needs)
     add-used
-    mul-w
-    (λ c. place (c .before .before .before .before .before .before .before .before .before .before .before))
-    (λ c. search needs)
     (λ c κs. search needs)
-    (λ c κs. search needs)
-    (λ c. search needs)
     loop-less
-    loop-again
-    (λ c. search needs)
-    returns)
+    loop-again)
