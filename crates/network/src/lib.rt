@@ -7,7 +7,7 @@ mod lending; // the costs of all units, gathered once
 mod making; // a network made of a stream
 mod pool; // cells moved and written
 mod settling; // a network run to its end
-mod short; // the pool where a message changes little
+mod short; // a message that goes a short way
 
 pub use costs::ValueOrder;
 pub use decimal::digits;

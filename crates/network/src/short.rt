@@ -1,4 +1,4 @@
-// The pool where a message goes a short way: it is taken out, and what answers it is put behind the others.
+// A message of a run that goes a short way: it is heard and taken out of the pool, and what answers it is put behind the others.
 
 use crate::pool::close;
 use base::MESSAGE_SIZE;
@@ -12,16 +12,16 @@ ghost use mathlib.Core.Path.{_≡_};
 ghost use Prim.Native.Nat.{_*_, _-_, _≤_};
 ghost use lib.ListN.{length};
 ghost use Rattle.base.specs.Limits.{messageSize, poolCells, poolSize};
+ghost use Rattle.base.specs.Bytes.Laws.{AllBytes};
+ghost use Rattle.table.specs.Stream.{unitsOf};
+ghost use Rattle.costs.specs.Gather.{sizesIn};
 ghost use Rattle.message.specs.declared.Kind.the-variants.{Estimate};
 ghost use Rattle.message.specs.Sized.{Sized};
 ghost use Rattle.message.specs.Decode.{putInto};
 ghost use Rattle.rules.specs.Way.{changedBy, replyTo};
-ghost use Rattle.runs.specs.Pool.Laws.{closeGap};
 ghost use Rattle.rules.specs.Laws.Trusted.{seatAt};
-ghost use Rattle.base.specs.Bytes.Laws.{AllBytes};
-ghost use Rattle.table.specs.Stream.{unitsOf};
-ghost use Rattle.costs.specs.Gather.{sizesIn};
 ghost use Rattle.runs.specs.Calls.{receiverOf};
+ghost use Rattle.runs.specs.Pool.Laws.{closeGap};
 ghost use Rattle.runs.specs.Trusted.{Oldest};
 ghost use Rattle.runs.specs.Short.{Passed, Heard};
 
