@@ -1,19 +1,22 @@
--- The checks of a delivery, one at a time, in the order of its refusals; and the call by what they give. By the definitions' tests. Assumes nothing.
-use Prim.Native.Nat.{ℕ, suc, _≤_, _<_}
-use mathlib.Core.Path.{_≡_, sym, ap}
-use mathlib.Core.Bool.{true, false}
+-- The checks of a delivery, one at a time, in the order of its refusals; the call by what they give; and a refused one. By the definitions' tests. Assumes nothing.
+use Prim.Native.Nat.{ℕ, zero, suc, _≤_, _<_}
+use mathlib.Core.Path.{_≡_, refl, sym, ap}
+use mathlib.Core.Logic.{_≢_}
+use mathlib.Core.Bool.{Bool, true, false, cond}
 use mathlib.Core.List.{List}
 use lib.ListN.{length}
 use borrow.Author.Tests.{lt-ltb, le-ltb}
 use Rattle.base.specs.Refusal.Laws.{or-first}
 use Rattle.table.specs.Stream.{unitsOf}
 use Rattle.costs.specs.declared.ValueOrder.{ValueOrder}
+use Rattle.rules.specs.Step.{Decision, refused, accepted}
 use Rattle.rules.specs.Units.{unitAt}
 use Rattle.runs.specs.declared.Core.{Core}
-use Rattle.runs.specs.Calls.{coreRefusal}
+use Rattle.runs.specs.Pool.{cellOf}
+use Rattle.runs.specs.Calls.{coreRefusal, receiverOf, stepFrom8}
 use Rattle.slots.specs.Slot.{slotPoolSize}
 use Rattle.slots.specs.Bytes.{isEmpty}
-use Rattle.slots.specs.Calls.{refusedWith, deliverRefusal, deliverBy, deliverOf}
+use Rattle.slots.specs.Calls.{Result, refusedWith, deliverRefusal, isStray, stored, deliverBy, deliverOf}
 
 module _ (order : ValueOrder) (core : Core) (s pool : List ℕ) (cell : ℕ) where
   pub check-room : length pool < slotPoolSize → 13 ≡ deliverRefusal order core s pool cell
@@ -47,3 +50,24 @@ module _ (order : ValueOrder) (core : Core) (s pool : List ℕ) (cell : ℕ) whe
   pub deliver-goes : 0 ≡ deliverRefusal order core s pool cell → deliverOf order core s pool cell ≡ deliverBy order 0 core s pool cell
   unfolding deliverOf
   deliver-goes e = ap (λ y. deliverBy order y core s pool cell) (sym e)
+
+  -- refused: all is as lent
+  pub refused-as-lent : deliverOf order core s pool cell .answer .refusal ≢ 0 → deliverOf order core s pool cell ≡ refusedWith core pool (deliverOf order core s pool cell .answer .refusal)
+  unfolding deliverOf
+  refused-as-lent = by-checks (deliverRefusal order core s pool cell)
+    where
+      own : ℕ
+      own = receiverOf (unitsOf s) (cellOf pool cell)
+
+      by-step : (o : Decision) → stored core pool cell (unitsOf s) own o .answer .refusal ≢ 0 → stored core pool cell (unitsOf s) own o ≡ refusedWith core pool (stored core pool cell (unitsOf s) own o .answer .refusal)
+      by-step (refused r) ne = refl
+      by-step (accepted u m ws) ne = absurd (ne refl)
+
+      by-place : (t : Bool) (r : Result) → (r .answer .refusal ≢ 0 → r ≡ refusedWith core pool (r .answer .refusal))
+          → cond t (refusedWith core pool 9) r .answer .refusal ≢ 0 → cond t (refusedWith core pool 9) r ≡ refusedWith core pool (cond t (refusedWith core pool 9) r .answer .refusal)
+      by-place true r e ne = refl
+      by-place false r e ne = e ne
+
+      by-checks : (r : ℕ) → deliverBy order r core s pool cell .answer .refusal ≢ 0 → deliverBy order r core s pool cell ≡ refusedWith core pool (deliverBy order r core s pool cell .answer .refusal)
+      by-checks zero ne = by-place (isStray s own (cellOf pool cell) cell) (stored core pool cell (unitsOf s) own (stepFrom8 order s (core .units) own (cellOf pool cell))) (by-step (stepFrom8 order s (core .units) own (cellOf pool cell))) ne
+      by-checks (suc r) ne = refl

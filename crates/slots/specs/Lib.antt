@@ -12,4 +12,5 @@ pub mod Placing
 pub mod Code
 pub mod Proof
 pub mod Theorem
+pub mod Replay
 pub mod Cases
