@@ -10,11 +10,11 @@
 use Prim.Native.Nat.{ℕ, zero, suc, pred, _+_, _*_, _-_, _≤_, _<_}
 use mathlib.Core.Path.{_≡_, refl, sym, ap, _∙_, subst}
 use mathlib.Core.Bool.{Bool, true, false, cond}
-use mathlib.Core.List.{List}
+use mathlib.Core.List.{List, [], _∷_}
 use native.Mathlib.Omega.{arith}
 use native.Mathlib.Nat.{sub-zero}
 use lib.Dec.{ltb, leb, eqb}
-use lib.ListN.{length, getD, take, drop, replicate, length-replicate}
+use lib.ListN.{length, getD, set, take, drop, replicate, length-replicate}
 use lib.Seq.{paste}
 use borrow.Author.Tests.{lt-ltb, le-ltb, ltb-false, le-leb, lt-leb, leb-true, leb-false, eqb-true}
 use Rattle.base.specs.Refusal.{orElse}
@@ -35,7 +35,7 @@ use Rattle.costs.specs.Gather.Sizes.{length-sizes, accepted-sizes-first, accept
 use Rattle.costs.specs.Gather.Laws.{gathered-view, gathered-good, gathered-most, gather-enough, gather-front}
 use Rattle.message.specs.Decode.{parseFor}
 use Rattle.base.specs.Every.{every}
-use Rattle.base.specs.Every.Laws.{every-at}
+use Rattle.base.specs.Every.Laws.{every-at, every-by}
 use Rattle.message.specs.Message.{Packet, isUnit}
 use Rattle.base.specs.Bytes.Laws.{AllBytes}
 use Rattle.rules.specs.declared.Unit.{Unit as UnitState}
@@ -58,7 +58,7 @@ use Rattle.runs.specs.declared.Network.{Network}
 use Rattle.runs.specs.declared.Answer.{Answer}
 use Rattle.runs.specs.Pool.{cellOf, poolAfter, poolWith}
 use Rattle.runs.specs.Pool.Laws.{closeGap, sent-front, pool-stored, pool-added}
-use Rattle.runs.specs.Calls.{Result, lentOf, stepLent, firstLent, coreBegun, coreRefusal, noNetwork, made, makingRefusal, makeOf, networkRefusal, deliverRefusal, receiverOf, stepFrom8, refusedDelivery, networkAfter, stored, deliverBy, deliverOf, echoBy, echoOf}
+use Rattle.runs.specs.Calls.{Result, lentOf, stepLent, firstLent, coreBegun, coreAfter, coreRefusal, noNetwork, made, makingRefusal, makeOf, networkRefusal, deliverRefusal, receiverOf, stepFrom8, refusedDelivery, networkAfter, stored, deliverBy, deliverOf, echoBy, echoOf}
 use Rattle.runs.specs.Pool.Stored.{encode-all-length}
 
 -- ---- the checks
@@ -91,6 +91,14 @@ pub record Passing (order : ValueOrder) (net : Network) (s pool : List ℕ) : Ty
   pub core : SoundCore order (net .core) s
   pub few : net .used ≤ poolCells
 
+-- a unit put in place of another, where each has what is asked
+set-kept : (Q : ℕ → UnitState → Type 0) (us : List UnitState) (k : ℕ) (u : UnitState) → Q k u → ((i : ℕ) → Q i (unitAt us i)) → (i : ℕ) → Q i (unitAt (set us k u) i)
+set-kept Q [] k u q f i = f i
+set-kept Q (x ∷ us) zero u q f zero = q
+set-kept Q (x ∷ us) zero u q f (suc i) = f (suc i)
+set-kept Q (x ∷ us) (suc k) u q f zero = f zero
+set-kept Q (x ∷ us) (suc k) u q f (suc i) = set-kept (λ j. Q (suc j)) us k u q (λ j. f (suc j)) i
+
 -- of the units and counts
 module _ (order : ValueOrder) (core : Core) (s : List ℕ) where
   pub core-table : (r : ℕ) → r ≡ streamRefusal s → (r ≡ 0 → ⊥) → r ≡ coreRefusal order core s
@@ -111,6 +119,15 @@ module _ (order : ValueOrder) (core : Core) (s : List ℕ) where
     table = or-left (streamRefusal s) _ a;
     states = every-at (unitInRange order s (core .units)) (unitsOf s) (if-not _ 4 (or-right (streamRefusal s) _ a));
   }
+
+  pub sound-passes : SoundCore order core s → coreRefusal order core s ≡ 0
+  unfolding Accepted
+  sound-passes a = sym (core-good (a .table) (every-by (unitInRange order s (core .units)) (unitsOf s) (a .states)))
+
+  -- and still once a unit has stepped to a state in range
+  pub sound-after : SoundCore order core s → (own : ℕ) (u : UnitState) (records : ℕ) → inRange (sizesIn s) (viewBy order (instanceOf s) (pred own)) u ≡ true → SoundCore order (coreAfter core own u records) s
+  sound-after a own u records e =
+      record { table = a .table; states = set-kept (λ k x. k < unitsOf s → inRange (sizesIn s) (viewBy order (instanceOf s) k) x ≡ true) (core .units) (pred own) u (λ l. e) (a .states) }
 
 -- and of the network
 module _ (order : ValueOrder) (net : Network) (s pool : List ℕ) where

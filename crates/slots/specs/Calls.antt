@@ -32,11 +32,16 @@ makeOf order stream pool = made (unitsOf stream) pool (unlessRefused (makingRefu
 
 -- ---- a delivery
 
--- the first of 13, 5, 6, 7, 5 (any unit's state), 12 and 15 that applies, or 0
+-- the first of 13, 5, 6, 7, 5 (any unit's state) that applies, or 0: what is asked whatever cell is named
+unfoldable pub lentRefusal : ValueOrder → Core → List ℕ → List ℕ → ℕ
+lentRefusal order core stream pool = orElse (cond (ltb (length pool) slotPoolSize) 13 0) (coreRefusal order core stream)
+
+-- then 12 and 15
+unfoldable pub cellRefusal : Core → List ℕ → List ℕ → ℕ → ℕ
+cellRefusal core stream pool cell = orElse (cond (unitAt (core .units) 0 .stopped) 12 0) (cond (isEmpty (unitsOf stream) pool cell) 15 0)
+
 unfoldable pub deliverRefusal : ValueOrder → Core → List ℕ → List ℕ → ℕ → ℕ
-deliverRefusal order core stream pool cell =
-    orElse (cond (ltb (length pool) slotPoolSize) 13 0)
-    (orElse (coreRefusal order core stream) (orElse (cond (unitAt (core .units) 0 .stopped) 12 0) (cond (isEmpty (unitsOf stream) pool cell) 15 0)))
+deliverRefusal order core stream pool cell = orElse (lentRefusal order core stream pool) (cellRefusal core stream pool cell)
 
 -- 02: "A message in a cell not its own gets 9": one that reads; else its own 8, 10 or 9 comes first
 abbrev pub strayRead : ℕ → ℕ → Read → Message → Bool

@@ -1,12 +1,12 @@
--- The checks of a delivery, one at a time, in the order of its refusals; the call by what they give; and a refused one. By the definitions' tests. Assumes nothing.
+-- The checks of a delivery, one at a time, in the order of its refusals; the call by what they give; and one that was refused. By the definitions' tests. Assumes nothing.
 use Prim.Native.Nat.{ℕ, zero, suc, _≤_, _<_}
-use mathlib.Core.Path.{_≡_, refl, sym, ap}
+use mathlib.Core.Path.{_≡_, refl, sym, ap, _∙_}
 use mathlib.Core.Logic.{_≢_}
 use mathlib.Core.Bool.{Bool, true, false, cond}
 use mathlib.Core.List.{List}
 use lib.ListN.{length}
 use borrow.Author.Tests.{lt-ltb, le-ltb}
-use Rattle.base.specs.Refusal.Laws.{or-first}
+use Rattle.base.specs.Refusal.{orElse}
 use Rattle.table.specs.Stream.{unitsOf}
 use Rattle.costs.specs.declared.ValueOrder.{ValueOrder}
 use Rattle.rules.specs.Step.{Decision, refused, accepted}
@@ -16,40 +16,52 @@ use Rattle.runs.specs.Pool.{cellOf}
 use Rattle.runs.specs.Calls.{coreRefusal, receiverOf, stepFrom8}
 use Rattle.slots.specs.Slot.{slotPoolSize}
 use Rattle.slots.specs.Bytes.{isEmpty}
-use Rattle.slots.specs.Calls.{Result, refusedWith, deliverRefusal, isStray, stored, deliverBy, deliverOf}
+use Rattle.slots.specs.Calls.{Result, refusedWith, lentRefusal, cellRefusal, deliverRefusal, isStray, stored, deliverBy, deliverOf}
 
-module _ (order : ValueOrder) (core : Core) (s pool : List ℕ) (cell : ℕ) where
-  pub check-room : length pool < slotPoolSize → 13 ≡ deliverRefusal order core s pool cell
-  unfolding deliverRefusal
+-- what is lent, whatever cell is named
+module _ (order : ValueOrder) (core : Core) (s pool : List ℕ) where
+  pub check-room : length pool < slotPoolSize → 13 ≡ lentRefusal order core s pool
+  unfolding lentRefusal
   check-room l = rw (lt-ltb (length pool) slotPoolSize l)
 
-  module _ (room : slotPoolSize ≤ length pool) where
-    pub check-core : (r : ℕ) → r ≡ coreRefusal order core s → (r ≡ 0 → ⊥) → r ≡ deliverRefusal order core s pool cell
-    unfolding deliverRefusal
-    check-core r e z = rw (le-ltb (length pool) slotPoolSize room, ← e, or-first r _ z)
+  pub check-core : slotPoolSize ≤ length pool → coreRefusal order core s ≡ lentRefusal order core s pool
+  unfolding lentRefusal
+  check-core room = rw (le-ltb (length pool) slotPoolSize room)
 
-    module _ (sound : coreRefusal order core s ≡ 0) where
-      pub check-stopped : unitAt (core .units) 0 .stopped ≡ true → 12 ≡ deliverRefusal order core s pool cell
-      unfolding deliverRefusal
-      check-stopped e = rw (le-ltb (length pool) slotPoolSize room, sound, e)
+  pub lent-passes : slotPoolSize ≤ length pool → coreRefusal order core s ≡ 0 → lentRefusal order core s pool ≡ 0
+  lent-passes room sound = sym (check-core room) ∙ sound
 
-      module _ (running : unitAt (core .units) 0 .stopped ≡ false) where
-        pub check-empty : isEmpty (unitsOf s) pool cell ≡ true → 15 ≡ deliverRefusal order core s pool cell
-        unfolding deliverRefusal
-        check-empty e = rw (le-ltb (length pool) slotPoolSize room, sound, running, e)
+-- and the cell
+module _ (core : Core) (s pool : List ℕ) (cell : ℕ) where
+  pub check-stopped : unitAt (core .units) 0 .stopped ≡ true → 12 ≡ cellRefusal core s pool cell
+  unfolding cellRefusal
+  check-stopped e = rw e
 
-        pub check-none : isEmpty (unitsOf s) pool cell ≡ false → 0 ≡ deliverRefusal order core s pool cell
-        unfolding deliverRefusal
-        check-none e = rw (le-ltb (length pool) slotPoolSize room, sound, running, e)
+  module _ (running : unitAt (core .units) 0 .stopped ≡ false) where
+    pub check-empty : isEmpty (unitsOf s) pool cell ≡ true → 15 ≡ cellRefusal core s pool cell
+    unfolding cellRefusal
+    check-empty e = rw (running, e)
 
+    pub check-none : isEmpty (unitsOf s) pool cell ≡ false → 0 ≡ cellRefusal core s pool cell
+    unfolding cellRefusal
+    check-none e = rw (running, e)
+
+module _ (order : ValueOrder) (core : Core) (s pool : List ℕ) (cell : ℕ) where
   -- a refusal ends it, and without one it goes on
-  pub deliver-refused : (k : ℕ) → suc k ≡ deliverRefusal order core s pool cell → deliverOf order core s pool cell ≡ refusedWith core pool (suc k)
-  unfolding deliverOf
-  deliver-refused k e = ap (λ y. deliverBy order y core s pool cell) (sym e)
+  pub lent-refused : (k : ℕ) → suc k ≡ lentRefusal order core s pool → deliverOf order core s pool cell ≡ refusedWith core pool (suc k)
+  unfolding deliverOf deliverRefusal
+  lent-refused k e = ap (λ y. deliverBy order (orElse y (cellRefusal core s pool cell)) core s pool cell) (sym e)
 
-  pub deliver-goes : 0 ≡ deliverRefusal order core s pool cell → deliverOf order core s pool cell ≡ deliverBy order 0 core s pool cell
-  unfolding deliverOf
-  deliver-goes e = ap (λ y. deliverBy order y core s pool cell) (sym e)
+  module _ (passes : lentRefusal order core s pool ≡ 0) where
+    by-cell : deliverOf order core s pool cell ≡ deliverBy order (cellRefusal core s pool cell) core s pool cell
+    unfolding deliverOf deliverRefusal
+    by-cell = ap (λ y. deliverBy order (orElse y (cellRefusal core s pool cell)) core s pool cell) passes
+
+    pub cell-refused : (k : ℕ) → suc k ≡ cellRefusal core s pool cell → deliverOf order core s pool cell ≡ refusedWith core pool (suc k)
+    cell-refused k e = by-cell ∙ ap (λ y. deliverBy order y core s pool cell) (sym e)
+
+    pub deliver-goes : 0 ≡ cellRefusal core s pool cell → deliverOf order core s pool cell ≡ deliverBy order 0 core s pool cell
+    deliver-goes e = by-cell ∙ ap (λ y. deliverBy order y core s pool cell) (sym e)
 
   -- refused: all is as lent
   pub refused-as-lent : deliverOf order core s pool cell .answer .refusal ≢ 0 → deliverOf order core s pool cell ≡ refusedWith core pool (deliverOf order core s pool cell .answer .refusal)

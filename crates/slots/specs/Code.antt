@@ -1,6 +1,6 @@
 -- How the pieces of the code make up making and a delivery over this pool, in the order of their code: the checks, the step, and what is placed.
 --     make-.., makeable, first-..                making
---     Open, opened, deliver-stops                what the checks before a delivery have passed (they are in Checks), and a refusal of it
+--     lent-.., cell-stops, Open, opened          the checks before a delivery (they are in Checks): a refusal, and what they have passed
 --     stray-..                                   a message that stands in a cell not its own
 --     hand-..                                    the message at a cell goes to its unit
 -- The units and counts, the step and its limits are those of runs/specs/Code. Assumes nothing.
@@ -29,7 +29,7 @@ use Rattle.message.specs.declared.Read.the-variants.{Good, Refused}
 use Rattle.message.specs.Decode.{parseFor}
 use Rattle.rules.specs.declared.Unit.{Unit as UnitState}
 use Rattle.rules.specs.declared.Outcome.{Outcome}
-use Rattle.rules.specs.State.{noUnit, fresh}
+use Rattle.rules.specs.State.{noUnit, fresh, inRange}
 use Rattle.rules.specs.Step as U
 use Rattle.rules.specs.declared.Sending.{Sending}
 use Rattle.rules.specs.Step.{Decision, Written, assign}
@@ -44,14 +44,14 @@ use Rattle.runs.specs.declared.Core.{Core}
 use Rattle.runs.specs.Pool.{cellOf}
 use Rattle.runs.specs.Pool.Laws.{sent-front}
 use Rattle.runs.specs.Pool.Stored.{encode-all-length}
-use Rattle.runs.specs.Calls.{noCore, makingRefusal, coreBegun, coreAfter, coreRefusal, receiverOf, lentOf, stepLent, firstLent, stepFrom8}
-use Rattle.runs.specs.Code.{if-so, few-sent, step-numbered, SoundCore, sound-core, Stepped, lent-is, first-step, own-is, own-first, own-most, at-place, hand-told, hand-keeps}
+use Rattle.runs.specs.Calls.{noCore, makingRefusal, coreBegun, coreAfter, receiverOf, lentOf, stepLent, firstLent, stepFrom8}
+use Rattle.runs.specs.Code.{if-so, few-sent, step-numbered, SoundCore, sound-core, sound-passes, sound-after, Stepped, lent-is, first-step, own-is, own-first, own-most, at-place, hand-told, hand-keeps}
 use Rattle.slots.specs.Slot.{slotPoolSize, usedSlots, mayCarry, slotOrNone}
 use Rattle.slots.specs.Bytes.{slotBytes, takeOut, placeBytes, zeroCells}
 use Rattle.slots.specs.Bytes.Laws.{length-put, length-zeroed}
-use Rattle.slots.specs.Checks.{deliver-refused}
+use Rattle.slots.specs.Checks.{lent-passes, lent-refused, cell-refused}
 use Rattle.slots.specs.Slot.Laws.{used-fits, read-allowed}
-use Rattle.slots.specs.Calls.{made, makeOf, deliverRefusal, isStray, stored, deliverBy, deliverOf}
+use Rattle.slots.specs.Calls.{made, makeOf, lentRefusal, cellRefusal, isStray, stored, deliverBy, deliverOf}
 use Rattle.slots.specs.Placing.{placeSent, not-empty, sent-placed}
 
 -- ---- what a step sent, placed
@@ -110,26 +110,46 @@ module _ (order : ValueOrder) (s : List ℕ) (ok : Accepted s) where
 
 -- ---- the checks of a delivery
 
+-- a refusal, and nothing more
+module _ (order : ValueOrder) (core : Core) (s pool : List ℕ) (cell : ℕ) where
+  abbrev Ends : ℕ → Type 0
+  Ends r = (record { refusal = r; core = core } ≡ deliverOf order core s pool cell .answer) × (pool ≡ deliverOf order core s pool cell .pool)
+
+  pub lent-stops : (r : ℕ) → r ≡ lentRefusal order core s pool → (r ≡ 0 → ⊥) → Ends r
+  lent-stops zero e z = absurd (z refl)
+  lent-stops (suc r) e z = rw (lent-refused order core s pool cell r e) (refl, refl)
+
+  pub cell-stops : lentRefusal order core s pool ≡ 0 → (r : ℕ) → r ≡ cellRefusal core s pool cell → (r ≡ 0 → ⊥) → Ends r
+  cell-stops passes zero e z = absurd (z refl)
+  cell-stops passes (suc r) e z = rw (cell-refused order core s pool cell passes r e) (refl, refl)
+
+-- what they have passed
+module _ (order : ValueOrder) (core : Core) (s pool : List ℕ) (passes : lentRefusal order core s pool ≡ 0) where
+  pub lent-room : slotPoolSize ≤ length pool
+  unfolding lentRefusal
+  lent-room = ltb-false (length pool) slotPoolSize (if-so _ 12 (or-left (cond (ltb (length pool) slotPoolSize) 13 0) _ passes))
+
+  pub lent-sound : SoundCore order core s
+  unfolding lentRefusal
+  lent-sound = sound-core order core s (or-right (cond (ltb (length pool) slotPoolSize) 13 0) _ passes)
+
 pub record Open (order : ValueOrder) (core : Core) (s pool : List ℕ) (cell : ℕ) : Type 0 where
   pub room : slotPoolSize ≤ length pool
   pub sound : SoundCore order core s
   pub here : cell < usedSlots (unitsOf s)
 
-module _ (order : ValueOrder) (core : Core) (s pool : List ℕ) (cell : ℕ) where
-  pub opened : deliverRefusal order core s pool cell ≡ 0 → Open order core s pool cell
-  unfolding deliverRefusal
-  opened a =
-      let b = or-right (cond (ltb (length pool) slotPoolSize) 13 0) _ a in
-      let c = or-right (coreRefusal order core s) _ b in
-      record {
-        room = ltb-false (length pool) slotPoolSize (if-so _ 12 (or-left (cond (ltb (length pool) slotPoolSize) 13 0) _ a));
-        sound = sound-core order core s (or-left (coreRefusal order core s) _ b);
-        here = not-empty (unitsOf s) pool cell (if-so _ 14 (or-right (cond (unitAt (core .units) 0 .stopped) 12 0) _ c));
-      }
+pub opened : (order : ValueOrder) (core : Core) (s pool : List ℕ) (cell : ℕ) → lentRefusal order core s pool ≡ 0 → cellRefusal core s pool cell ≡ 0 → Open order core s pool cell
+unfolding cellRefusal
+opened order core s pool cell passes a =
+    record {
+      room = lent-room order core s pool passes;
+      sound = lent-sound order core s pool passes;
+      here = not-empty (unitsOf s) pool cell (if-so _ 14 (or-right (cond (unitAt (core .units) 0 .stopped) 12 0) _ a));
+    }
 
-  pub deliver-stops : (r : ℕ) → r ≡ deliverRefusal order core s pool cell → (r ≡ 0 → ⊥) → (record { refusal = r; core = core } ≡ deliverOf order core s pool cell .answer) × (pool ≡ deliverOf order core s pool cell .pool)
-  deliver-stops zero e z = absurd (z refl)
-  deliver-stops (suc r) e z = rw (deliver-refused order core s pool cell r e) (refl, refl)
+-- all as lent, it would pass again
+pub open-passes : (order : ValueOrder) (core : Core) (s pool : List ℕ) (cell : ℕ) → Open order core s pool cell → lentRefusal order core s pool ≡ 0
+open-passes order core s pool cell o = lent-passes order core s pool (o .room) (sound-passes order core s (o .sound))
 
 -- ---- a message in a cell not its own
 
@@ -198,3 +218,15 @@ module _ (order : ValueOrder) (core : Core) (s pool : List ℕ) (cell : ℕ) (ch
               let used = used-fits (unitsOf s) (accepted-units s (checks .sound .table) .1) in
               let long = length-put pool cell (slotBytes none) (length-replicate {A = ℕ} messageSize 0) (omega (arith, checks .room, checks .here, used)) in
               (rw e, rw e (placed-by s (checks .sound .table) order (pred own) v m ws g before out (takeOut pool cell) f (omega (arith, checks .room, long))))
+
+      -- what it leaves would pass again
+      pub hand-passes : r .refusal ≡ 0 → (left : List ℕ) → length left ≡ length pool → lentRefusal order (coreAfter core own (r .unit) (r .records)) s left ≡ 0
+      hand-passes z left same =
+          let in-range = go o outcome (step-numbered order s (core .units) own bytes) keeps in
+          lent-passes order (coreAfter core own (r .unit) (r .records)) s left (omega (arith, same, checks .room))
+          (sound-passes order (coreAfter core own (r .unit) (r .records)) s (sound-after order core s (checks .sound) own (r .unit) (r .records) in-range))
+        where
+          go : (o : Decision) → r ≡ outcomeOf (unitsOf s) (pred own) u o → Numbered o → Whenever (GoodDecision (unitsOf s) (sizesIn s) (viewBy order (instanceOf s) (pred own)) 16) o
+              → inRange (sizesIn s) (viewBy order (instanceOf s) (pred own)) (r .unit) ≡ true
+          go (U.refused x) e number g = let q : x ≡ 0 = sym (ap (λ (y : Outcome). y .refusal) e) ∙ z in absurd (omega arith)
+          go (U.accepted v m ws) e number g = rw e (g .state)

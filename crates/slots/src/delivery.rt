@@ -11,8 +11,13 @@ use costs::ValueOrder;
 use message::Read;
 use runs::Core;
 ghost use mathlib.Core.Path.{_≡_};
+ghost use Prim.Native.Nat.{_≤_};
+ghost use lib.ListN.{length};
+ghost use Rattle.base.specs.Limits.{places};
+ghost use Rattle.table.specs.Stream.{unitsOf};
 ghost use Rattle.costs.specs.Order.{defaultOrder};
-ghost use Rattle.slots.specs.Calls.{deliverRefusal, isStray, deliverBy, deliverOf};
+ghost use Rattle.slots.specs.Slot.{slotPoolSize};
+ghost use Rattle.slots.specs.Calls.{lentRefusal, cellRefusal, isStray, deliverBy, deliverOf};
 ghost use Rattle.slots.specs.Code.{Open};
 
 // The message at a cell is delivered: units, counts and pool after it, or a refusal with all as lent. Refusals 13, 5, 6, 7, 5, 12, 15, then the
@@ -33,24 +38,46 @@ pub fn deliver_by(
 ) -> Answer
     ensures { λ r. ⌜ (r ≡ deliverOf order core (now (stream .entry)) (now (pool .entry)) cell .answer) × (now (pool .exit) ≡ deliverOf order core (now (stream .entry)) (now (pool .entry)) cell .pool) ⌝ }
 {
-    let refusal = deliver_refusal(order, core, stream, pool, cell);
+    let refusal = lent_refusal(order, core, stream, pool);
+    if refusal != 0 {
+        return Answer { refusal, core };
+    }
+    deliver_checked(order, core, stream, pool, cell)
+}
+
+// The first refusal of what is lent, whatever cell is named, or 0.
+pub(crate) fn lent_refusal(order: ValueOrder, core: Core, stream: &[u8], pool: &[u8]) -> u8
+    ensures { λ r. ⌜ r ≡ lentRefusal order core (now (stream .entry)) (now (pool .entry)) ⌝ }
+{
+    if pool.len() < SLOT_POOL_SIZE {
+        return 13;
+    }
+    core::refusal(order, core, stream)
+}
+
+// A delivery where that is 0. It stays so, as a step leaves its unit in range: a list of deliveries is checked once.
+pub(crate) fn deliver_checked(
+    order: ValueOrder,
+    core: Core,
+    stream: &[u8],
+    pool: &mut [u8],
+    cell: u64,
+) -> Answer
+    requires { ⌜ lentRefusal order core (now stream) (now pool) ≡ 0 ⌝ }
+    ensures { λ r. ⌜ (r ≡ deliverOf order core (now (stream .entry)) (now (pool .entry)) cell .answer) × (now (pool .exit) ≡ deliverOf order core (now (stream .entry)) (now (pool .entry)) cell .pool) × (lentRefusal order (r .core) (now (stream .entry)) (now (pool .exit)) ≡ 0) ⌝ }
+{
+    let refusal = cell_refusal(core, stream, pool, cell);
     if refusal != 0 {
         return Answer { refusal, core };
     }
     hand_over(order, core, stream, pool, cell as usize)
 }
 
-// The first refusal of a delivery that applies before its message is read, or 0.
-fn deliver_refusal(order: ValueOrder, core: Core, stream: &[u8], pool: &[u8], cell: u64) -> u8
-    ensures { λ r. ⌜ r ≡ deliverRefusal order core (now (stream .entry)) (now (pool .entry)) cell ⌝ }
+// The first refusal that the cell gives, or 0.
+fn cell_refusal(core: Core, stream: &[u8], pool: &[u8], cell: u64) -> u8
+    requires { ⌜ (unitsOf (now stream) ≤ places) × (slotPoolSize ≤ length (now pool)) ⌝ }
+    ensures { λ r. ⌜ r ≡ cellRefusal core (now (stream .entry)) (now (pool .entry)) cell ⌝ }
 {
-    if pool.len() < SLOT_POOL_SIZE {
-        return 13;
-    }
-    let refusal = core::refusal(order, core, stream);
-    if refusal != 0 {
-        return refusal;
-    }
     let units = core.units;
     let first = units[0];
     if first.stopped {
@@ -66,7 +93,7 @@ fn deliver_refusal(order: ValueOrder, core: Core, stream: &[u8], pool: &[u8], ce
 // The message at the cell goes to its receiver, the cell is emptied, and what that unit sends is placed.
 fn hand_over(order: ValueOrder, core: Core, stream: &[u8], pool: &mut [u8], cell: usize) -> Answer
     requires { ⌜ Open order core (now stream) (now pool) cell ⌝ }
-    ensures { λ r. ⌜ (r ≡ deliverBy order 0 core (now (stream .entry)) (now (pool .entry)) cell .answer) × (now (pool .exit) ≡ deliverBy order 0 core (now (stream .entry)) (now (pool .entry)) cell .pool) ⌝ }
+    ensures { λ r. ⌜ (r ≡ deliverBy order 0 core (now (stream .entry)) (now (pool .entry)) cell .answer) × (now (pool .exit) ≡ deliverBy order 0 core (now (stream .entry)) (now (pool .entry)) cell .pool) × (lentRefusal order (r .core) (now (stream .entry)) (now (pool .exit)) ≡ 0) ⌝ }
 {
     let at = MESSAGE_SIZE * cell;
     let end = at + MESSAGE_SIZE;

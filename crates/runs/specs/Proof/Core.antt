@@ -8,7 +8,6 @@ use mathlib.Core.Bool.{true, cond}
 use mathlib.Core.List.{List, [], _∷_, _++_}
 use native.Mathlib.Nat.{zero-add}
 use lib.ListN.{length, set, replicate, length-append}
-use Rattle.base.specs.Every.Laws.{every-by}
 use Rattle.table.specs.Stream.{unitsOf, Accepted}
 use Rattle.costs.specs.declared.ValueOrder.{ValueOrder}
 use Rattle.costs.specs.Instance.{viewBy, instanceOf}
@@ -42,7 +41,7 @@ use Rattle.runs.specs.Count.{zeroCount, valueOf}
 use Rattle.runs.specs.Count.Laws.{plus-exact, plus-one}
 use Rattle.runs.specs.Run.{Pool, HistoryOf, historyAfter, begunWith}
 use Rattle.runs.specs.Calls.{coreBegun, coreAfter, coreRefusal, receiverOf, stepFrom8}
-use Rattle.runs.specs.Code.{unitInRange, core-good}
+use Rattle.runs.specs.Code.{unitInRange, sound-passes}
 
 -- the units and counts follow: those of H, which are the machine's units us. How many were handed over is counted modulo 2^128, as echoes have no end.
 pub record CoreFollows (order : ValueOrder) {W : Type 0} (s : List ℕ) (core : Core) (H : HistoryOf W) (us : ℕ → Agent) : Type 0 where
@@ -55,8 +54,8 @@ pub record CoreFollows (order : ValueOrder) {W : Type 0} (s : List ℕ) (core : 
 module _ (order : ValueOrder) (s : List ℕ) (ok : Accepted s) where
   -- so no call refuses them
   pub core-passes : {W : Type 0} (core : Core) (H : HistoryOf W) (us : ℕ → Agent) → CoreFollows order s core H us → coreRefusal order core s ≡ 0
-  unfolding Accepted instanceOf
-  core-passes core H us f = sym (core-good order core s ok (every-by (unitInRange order s (core .units)) (unitsOf s) (λ k l. subst (λ hs. unitInRange order s hs k ≡ true) (sym (f .same)) (f .units .states k l))))
+  unfolding instanceOf
+  core-passes core H us f = sound-passes order core s (record { table = ok; states = λ k l. subst (λ hs. unitInRange order s hs k ≡ true) (sym (f .same)) (f .units .states k l) })
 
   -- ---- a packet that can be written, and its bytes
 

@@ -42,7 +42,7 @@ use Rattle.protocol.specs.Slots.Run.{KeptSlots, slot-sends, slot-allowed, overw
 use Rattle.runs.specs.Pool.{cellOf}
 use Rattle.runs.specs.Run as R
 use Rattle.runs.specs.Run.{DeliveryOf, stopped, deliverIn, historyAfter}
-use Rattle.runs.specs.Calls.{coreAfter, coreRefusal, receiverOf, stepFrom8}
+use Rattle.runs.specs.Calls.{coreAfter, receiverOf, stepFrom8}
 use Rattle.runs.specs.Demand3.{times}
 use Rattle.runs.specs.Proof.Core.{core-passes, receiver-is, step-is, core-steps}
 use Rattle.runs.specs.Proof.Follow as F
@@ -50,9 +50,9 @@ use Rattle.runs.specs.Proof.Walk.{hand-cases, deliver-cases}
 use Rattle.slots.specs.Slot.{usedSlots, slotOf}
 use Rattle.slots.specs.Run.{Lost, Slots, atCell, waitingIn, place, overwrittenBy, placed, slots, History}
 use Rattle.slots.specs.Bytes.{takeOut, placeBytes, isEmpty}
-use Rattle.slots.specs.Calls.{Result, refusedWith, strayRead, isStray, stored, deliverOf}
+use Rattle.slots.specs.Calls.{Result, refusedWith, lentRefusal, strayRead, isStray, stored, deliverOf}
 use Rattle.slots.specs.Demand3.{Shed, shedOf, delivery, Honest, Fresher}
-use Rattle.slots.specs.Checks.{check-stopped, check-empty, check-none, deliver-refused, deliver-goes}
+use Rattle.slots.specs.Checks.{lent-passes, check-stopped, check-empty, check-none, cell-refused, deliver-goes}
 use Rattle.slots.specs.Proof.Cells.{at-waits, taken-weighs, place-weighs}
 use Rattle.slots.specs.Proof.Messages.{cellFor, all-used, Stand, stand-set, stand-placed}
 use Rattle.slots.specs.Proof.Overwriting.{all-may-go, message-at, overwrites}
@@ -94,8 +94,8 @@ module _ (order : ValueOrder) (s : List ℕ) (ok : Accepted s) (S : Shed) (H : H
         next = i;
       })
 
-  sound : coreRefusal order (S .core) s ≡ 0
-  sound = core-passes order s ok (S .core) H (i .agents) (i .core)
+  passes : lentRefusal order (S .core) s (S .pool) ≡ 0
+  passes = lent-passes order (S .core) s (S .pool) (i .room) (core-passes order s ok (S .core) H (i .agents) (i .core))
 
   stop-is : unitAt (S .core .units) 0 .stopped ≡ stopped H
   stop-is = ap (λ hs. unitAt hs 0 .stopped) (i .core .same)
@@ -105,14 +105,14 @@ module _ (order : ValueOrder) (s : List ℕ) (ok : Accepted s) (S : Shed) (H : H
 
   -- once unit 1 has stopped it is 12
   pub after-stop : stopped H ≡ true → deliverOf order (S .core) s (S .pool) c ≡ refusedWith (S .core) (S .pool) 12
-  after-stop st = deliver-refused order (S .core) s (S .pool) c 11 (check-stopped order (S .core) s (S .pool) c (i .room) sound (stop-is ∙ st))
+  after-stop st = cell-refused order (S .core) s (S .pool) c passes 11 (check-stopped (S .core) s (S .pool) c (stop-is ∙ st))
 
   -- 15 where nothing is
   nothing-there : stopped H ≡ false → atCell (H .waiting .cells) c ≡ none → deliverOf order (S .core) s (S .pool) c ≡ refusedWith (S .core) (S .pool) 15
   unfolding instanceOf
   nothing-there st e =
-      deliver-refused order (S .core) s (S .pool) c 14
-      (check-empty order (S .core) s (S .pool) c (i .room) sound (stop-is ∙ st) (none-empty (instanceOf s .n) (sound-of s ok .n16) (H .waiting .cells) (S .pool) (i .cells .size) st-bytes c e))
+      cell-refused order (S .core) s (S .pool) c passes 14
+      (check-empty (S .core) s (S .pool) c (stop-is ∙ st) (none-empty (instanceOf s .n) (sound-of s ok .n16) (H .waiting .cells) (S .pool) (i .cells .size) st-bytes c e))
 
   -- ---- the packet p at the cell, and its step
 
@@ -145,7 +145,7 @@ module _ (order : ValueOrder) (s : List ℕ) (ok : Accepted s) (S : Shed) (H : H
     handed-over : deliverOf order (S .core) s (S .pool) c ≡ stored (S .core) (S .pool) c (unitsOf s) (p .message .receiver) (stepOn order (instanceOf s) (H .units) p)
     unfolding instanceOf
     handed-over =
-        deliver-goes order (S .core) s (S .pool) c (check-none order (S .core) s (S .pool) c (i .room) sound (stop-is ∙ st) (some-full (instanceOf s .n) (sound-of s ok .n16) (H .waiting .cells) (S .pool) (i .cells .size) st-bytes c p e))
+        deliver-goes order (S .core) s (S .pool) c passes (check-none (S .core) s (S .pool) c (stop-is ∙ st) (some-full (instanceOf s .n) (sound-of s ok .n16) (H .waiting .cells) (S .pool) (i .cells .size) st-bytes c p e))
         ∙ ap (λ (x : List ℕ). given (receiverOf (unitsOf s) x) x) (some-bytes (instanceOf s .n) (sound-of s ok .n16) (H .waiting .cells) (S .pool) (i .cells .size) st-bytes c p e)
         ∙ ap (λ (y : ℕ). given y (packetBytes p)) (receiver-is order s ok p w)
         ∙ ap (λ (t : Bool). cond t (refusedWith (S .core) (S .pool) 9) (stored (S .core) (S .pool) c (unitsOf s) (p .message .receiver) (stepFrom8 order s (S .core .units) (p .message .receiver) (packetBytes p)))) own-cell

@@ -1,22 +1,23 @@
 -- A replay is the deliveries of its list, one after another, up to the first that is refused (`replayed`); a list that was cut gives the same in parts (`in-parts`); and on a shed that was
 -- made it is a run of demand 3 (`recorded`). By induction on the list. Assumes nothing.
-use Prim.Native.Nat.{ℕ, zero, suc, _+_, _*_, _%_, _≤_, _<_}
+use Prim.Native.Nat.{ℕ, zero, suc, _+_, _*_, _/_, _%_, _≤_, _<_}
 use mathlib.Core.Path.{_≡_, refl, sym, ap, _∙_, subst}
 use mathlib.Core.Logic.{_⊎_, inl, inr, _≢_}
 use mathlib.Core.Bool.{Bool, true, false, cond}
 use mathlib.Core.List.{List, [], _∷_, _++_}
 use native.Mathlib.Omega.{arith}
 use lib.Dec.{eqb}
-use lib.ListN.{length, getD, take, drop, length-append}
+use lib.ListN.{length, getD, take, drop, length-append, length-drop}
 use borrow.Author.Tests.{eqb-true, eqb-false, eq-eqb, ne-eqb}
 use Rattle.base.specs.Bytes.{u16At}
 use Rattle.costs.specs.declared.ValueOrder.{ValueOrder}
 use Rattle.runs.specs.declared.Core.{Core}
 use Rattle.runs.specs.Deliveries.{deliverAll, acceptedIn}
-use Rattle.slots.specs.Calls.{Result, refusedWith, deliverOf}
+use Rattle.slots.specs.declared.Answer.{Answer}
+use Rattle.slots.specs.Calls.{Result, refusedWith, lentRefusal, deliverOf}
 use Rattle.slots.specs.Demand3.{Shed, shedOf, shedMade, shedAfter, refusalAt, delivery, runBytes, Made, Served}
 use Rattle.slots.specs.Settle.{settled}
-use Rattle.slots.specs.Checks.{refused-as-lent}
+use Rattle.slots.specs.Checks.{lent-refused, refused-as-lent}
 use Rattle.slots.specs.Theorem.{served}
 use Rattle.slots.specs.Replay.{cellsIn, deliverUntil, Paired, replayOf, Replayed, Parts}
 
@@ -116,6 +117,10 @@ module _ (order : ValueOrder) (core : Core) (s pool : List ℕ) where
   unfolding replayOf deliverUntil cellsIn
   replay-empty = refl
 
+  pub replay-none : (list : List ℕ) → length list ≡ 0 → replayOf order core s pool list ≡ settled (record { core = core; pool = pool })
+  replay-none [] e = replay-empty
+  replay-none (x ∷ list) e = absurd (omega arith)
+
   pub replayed : (list : List ℕ) → Paired list → Replayed order s (record { core = core; pool = pool }) (cellsIn list) (replayOf order core s pool list)
   replayed list e = subst (Replayed order s (record { core = core; pool = pool }) (cellsIn list)) (sym (replay-paired list e)) (until-replayed order s (record { core = core; pool = pool }) (cellsIn list))
 
@@ -137,3 +142,49 @@ pub recorded : (order : ValueOrder) (s pool : List ℕ) → Made order s pool �
 unfolding runBytes
 recorded order s pool made list e =
     let q = replayed order (shedMade order s pool .core) s (shedMade order s pool .pool) list e in (q .before, q .stands, served order s pool made (take (q .before) (cellsIn list)))
+
+-- ---- the turns of the loop that does it
+
+no-cells : (list : List ℕ) → length list < 2 → cellsIn list ≡ []
+unfolding cellsIn
+no-cells [] h = refl
+no-cells (low ∷ []) h = refl
+no-cells (low ∷ high ∷ list) h = absurd (omega arith)
+
+-- after k pairs of the list, from S₀ on, the shed is S
+module _ (order : ValueOrder) (s list : List ℕ) (S₀ S : Shed) (k : ℕ) (inv : deliverUntil order s S₀ (cellsIn list) ≡ deliverUntil order s S (cellsIn (drop (2 * k) list))) where
+  -- no pair is left
+  pub replay-end : length list / 2 ≤ k → (record { refusal = 0; core = S .core } ≡ deliverUntil order s S₀ (cellsIn list) .answer) × (S .pool ≡ deliverUntil order s S₀ (cellsIn list) .pool)
+  unfolding deliverUntil
+  replay-end h = let e : cellsIn (drop (2 * k) list) ≡ [] = no-cells (drop (2 * k) list) (omega (arith, h, length-drop (2 * k) list)) in rw (inv, e) (refl, refl)
+
+  -- the delivery of the next gave d, and left the pool m
+  module _ (h : k < length list / 2) (c : ℕ) (is : c ≡ u16At list (2 * k)) (d : Answer) (m : List ℕ) (f : (d ≡ deliverOf order (S .core) s (S .pool) c .answer) × (m ≡ deliverOf order (S .core) s (S .pool) c .pool)) where
+    next-is : deliverUntil order s S₀ (cellsIn list) ≡ deliverUntil order s S (c ∷ cellsIn (drop (2 * k + 2) list))
+    next-is = inv ∙ ap (deliverUntil order s S) (next-cell list (2 * k) (omega arith) ∙ ap (λ x. x ∷ cellsIn (drop (2 * k + 2) list)) (sym is))
+
+    number : d .refusal ≡ refusalAt order s S c
+    number = ap (λ (x : Answer). x .refusal) (f .0)
+
+    pub replay-refused : (d .refusal ≡ 0 → ⊥) → (d ≡ deliverUntil order s S₀ (cellsIn list) .answer) × (m ≡ deliverUntil order s S₀ (cellsIn list) .pool)
+    replay-refused ne =
+        let e = next-is ∙ until-refused order s S c (cellsIn (drop (2 * k + 2) list)) (λ z. ne (number ∙ z)) in
+        (f .0 ∙ ap (λ (x : Result). x .answer) (sym e), f .1 ∙ ap (λ (x : Result). x .pool) (sym e))
+
+    pub replay-next : d .refusal ≡ 0 → deliverUntil order s S₀ (cellsIn list) ≡ deliverUntil order s (record { core = d .core; pool = m }) (cellsIn (drop (2 * (k + 1)) list))
+    replay-next z =
+        let left : _≡_ {A = Shed} (shedAfter order s S c) (record { core = d .core; pool = m }) = λ i. record { core = sym (f .0) i .core; pool = sym (f .1) i } in
+        let e : 2 * k + 2 ≡ 2 * (k + 1) = omega arith in
+        next-is ∙ until-next order s S c (cellsIn (drop (2 * k + 2) list)) (sym number ∙ z) ∙ ap (λ (T : Shed). deliverUntil order s T (cellsIn (drop (2 * k + 2) list))) left
+        ∙ ap (λ i. deliverUntil order s (record { core = d .core; pool = m }) (cellsIn (drop i list))) e
+
+-- what is lent doesn't pass: the first delivery is refused, and there is one
+pub replay-lent : (order : ValueOrder) (core : Core) (s pool list : List ℕ) → Paired list → (length list ≡ 0 → ⊥) → (r : ℕ) → r ≡ lentRefusal order core s pool → (r ≡ 0 → ⊥)
+    → (record { refusal = r; core = core } ≡ replayOf order core s pool list .answer) × (pool ≡ replayOf order core s pool list .pool)
+replay-lent order core s pool list p full zero e ne = absurd (ne refl)
+replay-lent order core s pool list p full (suc r) e ne =
+    let S : Shed = record { core = core; pool = pool } in
+    let c = u16At list 0 in
+    let q : deliverOf order core s pool c ≡ refusedWith core pool (suc r) = lent-refused order core s pool c r e in
+    let w = replay-paired order core s pool list p ∙ ap (deliverUntil order s S) (next-cell list 0 (omega arith))
+    ∙ until-refused order s S c (cellsIn (drop 2 list)) (λ z. omega (arith, z, ap (λ (x : Result). x .answer .refusal) q)) ∙ q in rw w (refl, refl)

@@ -13,9 +13,9 @@ use Rattle.slots.specs.Slot.Laws.{used-fits}
 use Rattle.table.specs.Stream.{unitsOf}
 use Rattle.runs.specs.Calls.{coreAfter}
 use Rattle.slots.specs.Bytes.{takeOut}
-use Rattle.slots.specs.Calls.{isStray, deliverBy}
+use Rattle.slots.specs.Calls.{lentRefusal, isStray, deliverBy}
 use Rattle.slots.specs.Placing.{placeSent}
-use Rattle.slots.specs.Code.{hand-first, hand-most, hand-stray, hand-refuses, hand-few, hand-stores}
+use Rattle.slots.specs.Code.{hand-first, hand-most, hand-stray, hand-refuses, hand-few, hand-stores, hand-passes, open-passes}
 use borrow.Author.Needs.{needs}
 use Rattle.slots.proofs.delivery.hand_over.Statement.{statement}
 use Rattle.slots.proofs.delivery.hand_over.Tie as tie
@@ -80,6 +80,16 @@ module _ (c : tie.After-step) where
       let t = c .step in
       hand-stores (a .order) (a .core) (a .stream .now) (a .pool .now) (a .cell) (z .pre) (n .result) (w .result) (lent z) (n .ensures) (w .ensures .0) (stands z) home (getD (a .core .units) (w .result - 1) emptyUnit) refl (replicate 1024 0) (t .last .1 .1 .1 .1 .1 .0) (t .result) (omega (arith, length-replicate {A = ℕ} 1024 0)) (t .ensures .0) (t .ensures .1) (t .ensures .2) (w .ensures .1) e
 
+  passes : c .step .result .refusal ≡ 0 → (left : List ℕ) → length left ≡ length (c .before .before .before .before .before .before .before .before .before .before .before .before .before .before .before .before .args .pool .now)
+      → lentRefusal (c .before .before .before .before .before .before .before .before .before .before .before .before .before .before .before .before .args .order) (coreAfter (c .before .before .before .before .before .before .before .before .before .before .before .before .before .before .before .before .args .core) (c .before .before .before .before .before .before .before .before .before .before .receiver .result) (c .step .result .unit) (c .step .result .records)) (c .before .before .before .before .before .before .before .before .before .before .before .before .before .before .before .before .args .stream .now) left ≡ 0
+  passes e left same =
+      let z = c .before .before .before .before .before .before .before .before .before .before .before .before .before .before .before .before in
+      let a = z .args in
+      let n = c .before .before .before .before .before .before .before .before .before .before .before .before .before .units-of in
+      let w = c .before .before .before .before .before .before .before .before .before .before .receiver in
+      let t = c .step in
+      hand-passes (a .order) (a .core) (a .stream .now) (a .pool .now) (a .cell) (z .pre) (n .result) (w .result) (lent z) (n .ensures) (w .ensures .0) (stands z) home (getD (a .core .units) (w .result - 1) emptyUnit) refl (replicate 1024 0) (t .last .1 .1 .1 .1 .1 .0) (t .result) (omega (arith, length-replicate {A = ℕ} 1024 0)) (t .ensures .0) (t .ensures .1) (t .ensures .2) (w .ensures .1) e left same
+
 mul-at : tie.Need-mul-at
 mul-at c = let l = inside (c .before .before) in search needs
 
@@ -97,7 +107,8 @@ returns c =
     let a = c .before .before .before .before .before .before .before .before .before .before .args in
     let n = c .before .before .before .before .before .before .before .units-of in
     let w = c .before .before .before .before .receiver in
-    hand-stray (a .order) (a .core) (a .stream .now) (a .pool .now) (a .cell) (c .before .before .before .before .before .before .before .before .before .before .pre) (n .result) (w .result) (lent (c .before .before .before .before .before .before .before .before .before .before)) (n .ensures) (w .ensures .0) (stands (c .before .before .before .before .before .before .before .before .before .before)) (sym (c .before .is-stray .ensures) ∙ c .if1 .taken)
+    let e = hand-stray (a .order) (a .core) (a .stream .now) (a .pool .now) (a .cell) (c .before .before .before .before .before .before .before .before .before .before .pre) (n .result) (w .result) (lent (c .before .before .before .before .before .before .before .before .before .before)) (n .ensures) (w .ensures .0) (stands (c .before .before .before .before .before .before .before .before .before .before)) (sym (c .before .is-stray .ensures) ∙ c .if1 .taken) in
+    (e .0, e .1, open-passes (a .order) (a .core) (a .stream .now) (a .pool .now) (a .cell) (c .before .before .before .before .before .before .before .before .before .before .pre))
 
 sub-u : tie.Need-sub-u
 sub-u c = first (c .before .before)
@@ -109,7 +120,11 @@ part-step-end : tie.Need-part-step-end
 part-step-end c = let l = inside (c .before .before .before .before .before .before .before .before .before .before .before .before .before) in let r = c .before .before .before .before .before .before .before .before .before .before .before .before .before .pre .room in search needs
 
 returns-2 : tie.Need-returns-2
-returns-2 c = refuses (c .before .before) (c .if2 .taken)
+returns-2 c =
+    let z = c .before .before .before .before .before .before .before .before .before .before .before .before .before .before .before .before .before .before in
+    let a = z .args in
+    let e = refuses (c .before .before) (c .if2 .taken) in
+    (e .0, e .1, open-passes (a .order) (a .core) (a .stream .now) (a .pool .now) (a .cell) (z .pre))
 
 zero-cell-requires : tie.Need-zero-cell-requires
 zero-cell-requires c κs = (inside (c .before .before .before .before .before .before .before .before .before .before .before .before .before .before .before .before .before .before .before), c .before .before .before .before .before .before .before .before .before .before .before .before .before .before .before .before .before .before .before .pre .room)
@@ -127,6 +142,7 @@ returns-3 c =
     let e = stores (c .before .before .before .before .before .before .before .before .before .before .before .before .before) (c .before .before .before .before .before .before .before .before .before .before .before .if2 .left) in (
       ap (λ (x : Core). record { refusal = 0; core = x }) (c .advance .ensures) ∙ e .0,
       c .before .before .before .place-all .ensures ∙ ap (λ (x : List ℕ). placeSent (n .result) x (t .last .1 .1 .1 .1 .1 .0) 0 (t .result .sent)) (c .before .before .before .before .before .before .before .before .before .zero-cell .ensures) ∙ rw (n .ensures) (e .1),
+      rw (c .advance .ensures) (passes (c .before .before .before .before .before .before .before .before .before .before .before .before .before) (c .before .before .before .before .before .before .before .before .before .before .before .if2 .left) _ (search needs)),
     )
 
 pub hand-over-spec : {M : Type 1} → statement M
