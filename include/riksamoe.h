@@ -77,6 +77,8 @@
  *   riksamoe_slots_make_by           14,336
  *   riksamoe_slots_deliver           47,616
  *   riksamoe_slots_deliver_by        45,312
+ *   riksamoe_slots_replay            47,616
+ *   riksamoe_slots_replay_by         45,312
  *   riksamoe_slots_settle            40,960
  *   riksamoe_slots_settle_by         40,960
  *   riksamoe_slot_of                    256
@@ -94,7 +96,7 @@
 extern "C" {
 #endif
 
-#define RIKSAMOE_VERSION 8         /* raised where a call, a struct or a promise below changes */
+#define RIKSAMOE_VERSION 9         /* raised where a call, a struct or a promise below changes */
 
 #define RIKSAMOE_UNITS 16          /* places in every array: unit k's is k - 1 */
 #define RIKSAMOE_NONE 4294967295u  /* the bound *none*; the estimate of a unit that has no value left */
@@ -135,7 +137,8 @@ enum {
     RIKSAMOE_NO_MESSAGE = 15,     /* no message at that cell */
     RIKSAMOE_TOO_MANY = 16,       /* more than 1,048,576 assignments (search only) */
     RIKSAMOE_BAD_READING = 17,    /* a reading not 100 to 400 */
-    RIKSAMOE_HAS_UNARY = 18       /* a table with a unary cost above 0 has no form one */
+    RIKSAMOE_HAS_UNARY = 18,      /* a table with a unary cost above 0 has no form one */
+    RIKSAMOE_ODD_LIST = 22        /* a list of cells to replay of odd length */
 };
 
 /* ---- Structs. All pass by value; offsets and sizes in bytes. */
@@ -232,7 +235,8 @@ typedef struct {
     riksamoe_network_t network; /* 8 */
 } riksamoe_answer_t;
 
-/* What the calls of a network over slots give. Refused: the core as lent, a making's all zero. Size 2,280. */
+/* What the calls of a network over slots give. Refused: the core as lent, a making's all zero, a replay's as its last delivery left it. Size
+ * 2,280. */
 typedef struct {
     uint8_t refusal;      /* 0 */
     riksamoe_core_t core; /* 8 */
@@ -365,6 +369,16 @@ riksamoe_slots_answer_t riksamoe_slots_deliver(riksamoe_core_t core, const uint8
                                                uint64_t cell);
 riksamoe_slots_answer_t riksamoe_slots_deliver_by(uint8_t order, riksamoe_core_t core, const uint8_t *stream, size_t length,
                                                   uint8_t *pool, size_t room, uint64_t cell);
+
+/* A recorded run, replayed: `list` names cells in the order delivered, two bytes each, the low byte first. They are delivered one after another, up
+ * to the first delivery that is refused, whose number is the refusal; the core and the pool are as the deliveries before it left them, and the
+ * core's count tells how many these were. An odd `count` is 22, before any other check; an empty list is never refused, whatever else is lent.
+ * A list that is replayed in parts, cut between two cells, comes to the same as the whole, as long as no part is refused; so one that comes
+ * slowly, or is too long for the memory, can be replayed as it arrives. `list` with count 0 may be any pointer but null, as above. */
+riksamoe_slots_answer_t riksamoe_slots_replay(riksamoe_core_t core, const uint8_t *stream, size_t length, uint8_t *pool, size_t room,
+                                              const uint8_t *list, size_t count);
+riksamoe_slots_answer_t riksamoe_slots_replay_by(uint8_t order, riksamoe_core_t core, const uint8_t *stream, size_t length,
+                                                 uint8_t *pool, size_t room, const uint8_t *list, size_t count);
 
 /* Making, then the lowest cell that is not empty, again and again until unit 1 has stopped: 5, 6, 7, 13, as making; proved: it comes to that
  * end, and no delivery on the way is refused. The answer is in unit 1. How long it takes is not bounded by anything short. */

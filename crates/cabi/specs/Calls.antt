@@ -1,5 +1,5 @@
--- The answers of the calls of documents 01 and 02 in the structs that C is handed, kinds and orders of values by their numbers, and step, delivery and echo on
--- what C lends.
+-- The answers of the calls of documents 01 and 02 in the structs that C is handed, kinds and orders of values by their numbers, and step, delivery, echo and
+-- replay on what C lends.
 -- Assumes nothing.
 use Rattle.base.specs.Library.{ℕ, pred, cond, not, List, eqb, length}
 use Rattle.base.specs.Shape.{shapeGood}
@@ -9,7 +9,7 @@ use Rattle.message.specs.declared.Read.the-variants.{Good, Refused}
 use Rattle.message.specs.Message.{kindCode, refusalOf, addressGood}
 use Rattle.rules.specs.{declared.Report.Report, Calls.outcomeOf, Calls.bytesOf, Calls.stepOut}
 use Rattle.runs.specs.Calls.{deliverOf, echoOf}
-use Rattle.slots.specs.{Slot.slotCells, Slot.slotOrNone, Calls.deliverOf as slotsDeliverOf}
+use Rattle.slots.specs.{Slot.slotCells, Slot.slotOrNone, Calls.deliverOf as slotsDeliverOf, Replay.replayOf}
 use Rattle.cabi.specs.{declared.LentAnswer.LentAnswer, declared.LentCore.LentCore, declared.LentNetwork.LentNetwork, declared.LentOutcome.LentOutcome, declared.LentSlotsAnswer.LentSlotsAnswer, declared.LentUnit.LentUnit, declared.Parsed.Parsed}
 use Rattle.cabi.specs.Lent.{unitFrom, outcomeBack, coreFrom, networkFrom, answerBack, slotsBack}
 pub mod Laws
@@ -74,10 +74,16 @@ echoedTo order s stream pool packet = answerBack s (echoOf order (networkFrom s)
 unfoldable pub echoedPool : ValueOrder → LentNetwork → List ℕ → List ℕ → List ℕ → List ℕ
 echoedPool order s stream pool packet = echoOf order (networkFrom s) stream pool packet .pool
 
--- ---- a delivery over 02's pool to lent units and counts: that of slots, on those that are read
+-- ---- a delivery over 02's pool to lent units and counts, and a replay: those of slots, on what is read
 
 unfoldable pub slotsDeliveredTo : ValueOrder → LentCore → List ℕ → List ℕ → ℕ → LentSlotsAnswer
 slotsDeliveredTo order s stream pool cell = slotsBack s (slotsDeliverOf order (coreFrom s) stream pool cell .answer)
 
 unfoldable pub slotsDeliveredPool : ValueOrder → LentCore → List ℕ → List ℕ → ℕ → List ℕ
 slotsDeliveredPool order s stream pool cell = slotsDeliverOf order (coreFrom s) stream pool cell .pool
+
+unfoldable pub replayedTo : ValueOrder → LentCore → List ℕ → List ℕ → List ℕ → LentSlotsAnswer
+replayedTo order s stream pool list = slotsBack s (replayOf order (coreFrom s) stream pool list .answer)
+
+unfoldable pub replayedPool : ValueOrder → LentCore → List ℕ → List ℕ → List ℕ → List ℕ
+replayedPool order s stream pool list = replayOf order (coreFrom s) stream pool list .pool

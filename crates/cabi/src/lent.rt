@@ -187,7 +187,7 @@ pub(crate) fn answer_back(s: LentNetwork, a: Answer) -> LentAnswer
     }
 }
 
-// What a delivery over slots hands back.
+// What a delivery over slots, or a replay, hands back.
 pub(crate) fn slots_back(s: LentCore, a: slots::Answer) -> LentSlotsAnswer
     ensures { λ r. ⌜ r ≡ slotsBack s a ⌝ }
 {

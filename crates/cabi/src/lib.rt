@@ -38,7 +38,7 @@ ghost use Rattle.slots.specs.Calls.{makeOf as slotsMakeOf};
 ghost use Rattle.slots.specs.Settle.{settleOf as slotsSettleOf};
 ghost use Rattle.search.specs.Search.{searchOf};
 ghost use Rattle.cabi.specs.Lent.{unitFrom};
-ghost use Rattle.cabi.specs.Calls.{codeOf, parsedOf, orderOf, slotAs, writeAs, writtenAs, unknownKind, stepOf, steppedBytes, reportBy, deliveredTo, deliveredPool, echoedTo, echoedPool, slotsDeliveredTo, slotsDeliveredPool};
+ghost use Rattle.cabi.specs.Calls.{codeOf, parsedOf, orderOf, slotAs, writeAs, writtenAs, unknownKind, stepOf, steppedBytes, reportBy, deliveredTo, deliveredPool, echoedTo, echoedPool, slotsDeliveredTo, slotsDeliveredPool, replayedTo, replayedPool};
 
 // The number of the order that is taken where none is named.
 const CHEAPEST_FIRST: u8 = 1;
@@ -508,6 +508,33 @@ pub extern "C" fn riksamoe_slots_deliver_by(
 {
     let read = lent::core_from(core);
     let a = slots::deliver_by(order_of(order), read, stream, pool, cell);
+    lent::slots_back(core, a)
+}
+
+#[no_mangle]
+pub extern "C" fn riksamoe_slots_replay(
+    core: LentCore,
+    stream: &[u8],
+    pool: &mut [u8],
+    list: &[u8],
+) -> LentSlotsAnswer
+    ensures { λ r. ⌜ (r ≡ replayedTo defaultOrder core (now (stream .entry)) (now (pool .entry)) (now (list .entry))) × (now (pool .exit) ≡ replayedPool defaultOrder core (now (stream .entry)) (now (pool .entry)) (now (list .entry))) ⌝ }
+{
+    riksamoe_slots_replay_by(CHEAPEST_FIRST, core, stream, pool, list)
+}
+
+#[no_mangle]
+pub extern "C" fn riksamoe_slots_replay_by(
+    order: u8,
+    core: LentCore,
+    stream: &[u8],
+    pool: &mut [u8],
+    list: &[u8],
+) -> LentSlotsAnswer
+    ensures { λ r. ⌜ (r ≡ replayedTo (orderOf order) core (now (stream .entry)) (now (pool .entry)) (now (list .entry))) × (now (pool .exit) ≡ replayedPool (orderOf order) core (now (stream .entry)) (now (pool .entry)) (now (list .entry))) ⌝ }
+{
+    let read = lent::core_from(core);
+    let a = slots::replay_by(order_of(order), read, stream, pool, list);
     lent::slots_back(core, a)
 }
 

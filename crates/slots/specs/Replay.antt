@@ -4,7 +4,7 @@
 --     deliverUntil, replayOf        the call
 --     Replayed                      what it has to do with the deliveries one after another
 --     Parts                         a list that was cut
-use Rattle.base.specs.Library.{ℕ, _%_, _≤_, _<_, _≡_, _≢_, _⊎_, cond, List, [], _∷_, _++_, eqb, length, getD, take}
+use Rattle.base.specs.Library.{ℕ, _%_, _<_, _≡_, _≢_, _⊎_, cond, List, [], _∷_, _++_, eqb, length, getD, take}
 use Rattle.base.specs.Bytes.{u16At}
 use Rattle.costs.specs.declared.ValueOrder.{ValueOrder}
 use Rattle.runs.specs.{declared.Core.Core, Deliveries.deliverAll, Deliveries.acceptedIn}

@@ -2,7 +2,7 @@
 
 use crate::Answer;
 use crate::cells::lowest;
-use crate::deliver_by;
+use crate::delivery::deliver_checked;
 use crate::make_by;
 use costs::ValueOrder;
 use runs::Core;
@@ -42,7 +42,7 @@ fn run(order: ValueOrder, stream: &[u8], begun: Core, pool: &mut [u8]) -> Core
     let mut over = first.stopped;
     while !over {
         let cell = lowest(n, pool);
-        let d = deliver_by(order, core, stream, pool, cell);
+        let d = deliver_checked(order, core, stream, pool, cell);
         let next = d.core;
         core = next;
         let first = core.units[0];

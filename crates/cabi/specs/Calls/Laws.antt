@@ -20,6 +20,7 @@ use Rattle.runs.specs.Calls.{deliverOf, echoOf}
 use Rattle.slots.specs.declared.Answer.{Answer as SlotsAnswer}
 use Rattle.slots.specs.Slot.{slotCells, slotOrNone}
 use Rattle.slots.specs.Calls.{deliverOf as slotsDeliverOf}
+use Rattle.slots.specs.Replay.{replayOf}
 use Rattle.cabi.specs.declared.LentAnswer.{LentAnswer}
 use Rattle.cabi.specs.declared.LentCore.{LentCore}
 use Rattle.cabi.specs.declared.LentNetwork.{LentNetwork}
@@ -27,7 +28,7 @@ use Rattle.cabi.specs.declared.LentOutcome.{LentOutcome}
 use Rattle.cabi.specs.declared.LentSlotsAnswer.{LentSlotsAnswer}
 use Rattle.cabi.specs.declared.LentUnit.{LentUnit}
 use Rattle.cabi.specs.Lent.{unitFrom, outcomeBack, coreFrom, networkFrom, answerBack, slotsBack}
-use Rattle.cabi.specs.Calls.{codeOf, parsedOf, unknownKind, slotAs, writeAs, writtenAs, stepOf, steppedBytes, deliveredTo, deliveredPool, echoedTo, echoedPool, slotsDeliveredTo, slotsDeliveredPool}
+use Rattle.cabi.specs.Calls.{codeOf, parsedOf, unknownKind, slotAs, writeAs, writtenAs, stepOf, steppedBytes, deliveredTo, deliveredPool, echoedTo, echoedPool, slotsDeliveredTo, slotsDeliveredPool, replayedTo, replayedPool}
 
 -- what reading comes to
 pub parsed-is : (p q : Reading) (r k : ℕ) → r ≡ refusalOf (p .answer) → k ≡ codeOf (p .answer) → p ≡ q → record { refusal = r; kind = k; message = p .message } ≡ parsedOf q
@@ -91,3 +92,7 @@ module _ (s : LentCore) (t : Core) (a : SlotsAnswer) (x : LentSlotsAnswer) (l : 
   pub slots-delivery-is : (cell : ℕ) → (a ≡ slotsDeliverOf order t stream pool cell .answer) × (l ≡ slotsDeliverOf order t stream pool cell .pool) → (x ≡ slotsDeliveredTo order s stream pool cell) × (l ≡ slotsDeliveredPool order s stream pool cell)
   unfolding slotsDeliveredTo slotsDeliveredPool
   slots-delivery-is cell e = call-is coreFrom slotsBack (λ t. slotsDeliverOf order t stream pool cell .answer) (λ t. slotsDeliverOf order t stream pool cell .pool) s t a x l read given e
+
+  pub replay-is : (list : List ℕ) → (a ≡ replayOf order t stream pool list .answer) × (l ≡ replayOf order t stream pool list .pool) → (x ≡ replayedTo order s stream pool list) × (l ≡ replayedPool order s stream pool list)
+  unfolding replayedTo replayedPool
+  replay-is list e = call-is coreFrom slotsBack (λ t. replayOf order t stream pool list .answer) (λ t. replayOf order t stream pool list .pool) s t a x l read given e

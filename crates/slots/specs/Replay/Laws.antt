@@ -15,7 +15,7 @@ use Rattle.runs.specs.declared.Core.{Core}
 use Rattle.runs.specs.Deliveries.{deliverAll, acceptedIn}
 use Rattle.slots.specs.declared.Answer.{Answer}
 use Rattle.slots.specs.Calls.{Result, refusedWith, lentRefusal, deliverOf}
-use Rattle.slots.specs.Demand3.{Shed, shedOf, shedMade, shedAfter, refusalAt, delivery, runBytes, Made, Served}
+use Rattle.slots.specs.Demand3.{Shed, shedOf, shedMade, shedAfter, refusalAt, runBytes, Made, Served}
 use Rattle.slots.specs.Settle.{settled}
 use Rattle.slots.specs.Checks.{lent-refused, refused-as-lent}
 use Rattle.slots.specs.Theorem.{served}

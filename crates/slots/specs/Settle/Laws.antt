@@ -7,9 +7,8 @@ use mathlib.Core.Path.{_≡_, refl, sym, ap, _∙_, subst}
 use mathlib.Core.Bool.{Bool, true, false, cond, false≢true}
 use mathlib.Core.List.{List, []}
 use native.Mathlib.Omega.{arith}
-use lib.ListN.{length}
 use Rattle.table.specs.Block.{allZero}
-use Rattle.table.specs.Stream.{unitsOf, Accepted}
+use Rattle.table.specs.Stream.{unitsOf}
 use Rattle.costs.specs.declared.ValueOrder.{ValueOrder}
 use Rattle.costs.specs.Instance.{instanceOf}
 use Rattle.runs.specs.declared.Core.{Core}
@@ -18,10 +17,13 @@ use Rattle.runs.specs.Pool.{cellOf}
 use Rattle.runs.specs.Deliveries.{deliverAll, acceptedIn}
 use Rattle.runs.specs.Deliveries.Ending as E
 use Rattle.runs.specs.Demand3.{most}
+use Rattle.runs.specs.Proof.Core.{core-passes}
 use Rattle.slots.specs.declared.Answer.{Answer}
-use Rattle.slots.specs.Slot.{slotPoolSize, usedSlots}
+use Rattle.slots.specs.Slot.{usedSlots}
 use Rattle.slots.specs.Bytes.{isEmpty}
-use Rattle.slots.specs.Calls.{Result, makeOf, deliverOf}
+use Rattle.slots.specs.Calls.{Result, makeOf, lentRefusal, deliverOf}
+use Rattle.slots.specs.Run.{run}
+use Rattle.slots.specs.Checks.{lent-passes}
 use Rattle.slots.specs.Demand3.{Shed, shedMade, shedAfter, runBytes, refusalAt, delivery, Made, over}
 use Rattle.slots.specs.Placing.{not-empty, empty-used}
 use Rattle.slots.specs.Settle.{firstFrom, lowest, lowestCells, settled, unlessUnmade, settleOf}
@@ -82,6 +84,13 @@ module _ (order : ValueOrder) (s pool : List ℕ) (made : Made order s pool) whe
   unfolding runBytes deliverAll acceptedIn lowestCells
   after-making = ap (λ k. lowestRun order s start k) (sym (served order s pool made [] .deliveries))
 
+  -- no check would refuse it
+  made-passes : lentRefusal order (start .core) s (start .pool) ≡ 0
+  unfolding runBytes deliverAll
+  made-passes =
+      let i = invariant order s pool made [] in
+      lent-passes order (start .core) s (start .pool) (i .room) (core-passes order s (ok order s pool made) (start .core) (run order (instanceOf s) []) (i .agents) (i .core))
+
   abbrev choose : Shed → ℕ
   choose S = lowest (unitsOf s) (S .pool)
 
@@ -102,11 +111,6 @@ module _ (order : ValueOrder) (s pool : List ℕ) (made : Made order s pool) whe
       v .progress st _ (lowest-waits (unitsOf s) _ (w .0) (w .1))
 
   module _ (S : Shed) (a : After order s start S) where
-    -- the pool is long enough
-    after-room : slotPoolSize ≤ length (S .pool)
-    unfolding runBytes
-    after-room = subst (λ (T : Shed). slotPoolSize ≤ length (T .pool)) (sym a) (invariant order s pool made (cells (countOf S)) .room)
-
     -- no run accepts more than (3n - 1) × N
     after-bounded : countOf S ≤ most (instanceOf s)
     after-bounded = E.after-bounded (delivery order s) start over countOf choose (most (instanceOf s)) promise cells (one-more order s start) accepts S a
@@ -153,11 +157,11 @@ module _ (order : ValueOrder) (s p : List ℕ) (a : Answer) (l : List ℕ) (e : 
   made : Made order s p
   made = ap (λ (x : Answer). x .refusal) (sym (e .0)) ∙ z
 
-  pub made-table : Accepted s
-  made-table = ok order s p made
-
   start-is : _≡_ {A = Shed} (record { core = a .core; pool = l }) (shedMade order s p)
   start-is = λ i. record { core = e .0 i .core; pool = e .1 i }
+
+  pub begun-passes : lentRefusal order (a .core) s l ≡ 0
+  begun-passes = subst (λ (S₀ : Shed). lentRefusal order (S₀ .core) s (S₀ .pool) ≡ 0) (sym start-is) (made-passes order s p made)
 
   pub reached-start : Reached (a .core) l
   reached-start = subst (λ (S₀ : Shed). After order s S₀ S₀) (sym start-is) (after-making order s p made)
@@ -165,9 +169,6 @@ module _ (order : ValueOrder) (s p : List ℕ) (a : Answer) (l : List ℕ) (e : 
   module _ (core : Core) (m : List ℕ) (r : Reached core m) where
     from-making : After order s (shedMade order s p) (record { core = core; pool = m })
     from-making = subst (λ (S₀ : Shed). After order s S₀ (record { core = core; pool = m })) start-is r
-
-    pub reached-room : slotPoolSize ≤ length m
-    reached-room = after-room order s p made (record { core = core; pool = m }) from-making
 
     -- unit 1 has stopped
     pub settle-stopped : over (record { core = core; pool = m }) ≡ true → (record { refusal = 0; core = core } ≡ settleOf order s p .answer) × (m ≡ settleOf order s p .pool)

@@ -1,7 +1,7 @@
 -- `slots::replaying::deliver_all` meets its contract. The loop's invariant: what is lent would pass, and the cells that are left, from here on, come to what the list comes to from the start.
 -- Assumes nothing.
 use Prim.Native.Nat.{_*_, _-_, _≤_, _<_}
-use mathlib.Core.Path.{_≡_, refl, sym, _∙_}
+use mathlib.Core.Path.{_≡_, refl}
 use native.Mathlib.Omega.{arith}
 use lib.ListN.{length, drop}
 use borrow.Author.Needs.{needs}

@@ -1,6 +1,5 @@
 -- `slots::replaying::replay_by` meets its contract: 22; an empty list; a refusal of what is lent; or the deliveries. Assumes nothing.
 use mathlib.Core.Path.{refl, sym, ap, _∙_}
-use native.Mathlib.Omega.{arith}
 use borrow.Author.Needs.{needs}
 use Rattle.slots.specs.Calls.{Result}
 use Rattle.slots.specs.Replay.Laws.{replay-odd, replay-paired, replay-none, replay-lent}
