@@ -31,7 +31,7 @@ returns c =
     let l = c .before .before .before .before .before .before .before .before .loop in
     let cell = c .before .before .before .before .before .before .u16-at in
     let d = c .before .before .before .before .deliver-checked in
-    replay-refused (a .order) (a .stream .now) (a .list .now) (record { core = a .begun; pool = a .pool .now }) (record { core = l .core; pool = l .pool }) (l .k) (l .inv .4) (omega arith) (cell .result) (cell .ensures .0) (d .result) (d .last .1 .1 .1 .0) (d .ensures .0, d .ensures .1) (c .if1 .taken)
+    replay-refused (a .order) (a .stream .now) (a .list .now) (record { core = a .begun; pool = a .pool .now }) (record { core = l .core; pool = l .pool }) (l .k) (l .inv .4) (omega arith) (cell .result) (cell .ensures .0) (d .result) (d .last .1 .1 .1 .0) (d .ensures .0, d .ensures .1) (λ z. omega (arith, z, c .if1 .taken))
 
 add-k : tie.Need-add-k Inv-loop μ-loop
 add-k c =
@@ -45,7 +45,7 @@ loop-again c =
     let l = c .before .before .before .before .before .before .before .before .before .loop in
     let cell = c .before .before .before .before .before .before .before .u16-at in
     let d = c .before .before .before .before .before .deliver-checked in
-    (search needs, omega arith, l .inv .2, d .ensures .2, replay-next (a .order) (a .stream .now) (a .list .now) (record { core = a .begun; pool = a .pool .now }) (record { core = l .core; pool = l .pool }) (l .k) (l .inv .4) (omega arith) (cell .result) (cell .ensures .0) (d .result) (d .last .1 .1 .1 .0) (d .ensures .0, d .ensures .1) (c .before .if1 .left))
+    (search needs, omega arith, l .inv .2, d .ensures .2, replay-next (a .order) (a .stream .now) (a .list .now) (record { core = a .begun; pool = a .pool .now }) (record { core = l .core; pool = l .pool }) (l .k) (l .inv .4) (omega arith) (cell .result) (cell .ensures .0) (d .result) (d .last .1 .1 .1 .0) (d .ensures .0, d .ensures .1) (omega (arith, c .before .if1 .left)))
 
 returns-2 : tie.Need-returns-2 Inv-loop μ-loop
 returns-2 c =
