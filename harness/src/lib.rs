@@ -1,4 +1,4 @@
-//! An independent implementation of documents 01 and 02 (jobs 1, 2, 3, 4, 7 and 9) and the tools that compare the Rattle code with it.
+//! An independent implementation of documents 01 and 02 (jobs 1, 2, 3, 4, 7, 9 and 14) and the tools that compare the Rattle code with it.
 //!
 //! `reference` is written from the documents alone. Nothing here is proved: it is the other opinion.
 
@@ -18,6 +18,7 @@ pub mod maxcsp;
 pub mod order;
 pub mod plot;
 pub mod random;
+pub mod recorded;
 pub mod reference;
 pub mod sample;
 pub mod slots;

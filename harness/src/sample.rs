@@ -74,6 +74,16 @@ pub fn slots_by(order: ValueOrder, file: &[u8]) -> String {
     })
 }
 
+/// The listing after a recorded run (02's job 14) is replayed on the shed as it is made.
+pub fn replayed_by(order: ValueOrder, file: &[u8], list: &[u8]) -> String {
+    listing(file, |stream| {
+        let mut pool = vec![0; slots::POOL];
+        let mut shed = slots::make_by(order, stream, &mut pool)?;
+        slots::replay_by(order, &mut shed, stream, &mut pool, list)?;
+        Ok((shed.units[0], shed.records, shed.deliveries))
+    })
+}
+
 /// Unit 1, records and deliveries are what a table's stream settles to.
 fn listing(file: &[u8], settle: impl Fn(&[u8]) -> Result<(Unit, u128, u128), u8>) -> String {
     let settled = read(file).and_then(|stream| Ok((table::head(&stream).0 as usize, settle(&stream)?)));

@@ -1,30 +1,39 @@
 //! The two programs of document 01 by the reference implementation: `twin shed` and `twin bench` read a table's file on standard input.
 //! The shed tries values in ascending order, as 01's listing does; `twin shed cheapest` tries the cheapest first (02's job 9). `twin slots` and
-//! `twin slots cheapest` are the same over the pool of 02's job 4, the lowest cell in use delivered each time.
+//! `twin slots cheapest` are the same over the pool of 02's job 4, the lowest cell in use delivered each time. `twin replay LIST` and `twin
+//! replay cheapest LIST` list the shed over that pool after a recorded run (02's job 14), the file LIST.
 
 use harness::reference::order::ValueOrder;
 use harness::sample;
 use std::io::Read;
 use std::process::exit;
 
+/// The bytes, or an end with 2.
+fn read(bytes: std::io::Result<Vec<u8>>, name: &str) -> Vec<u8> {
+    bytes.unwrap_or_else(|error| {
+        eprintln!("{name}: {error}");
+        exit(2)
+    })
+}
+
 fn main() {
     let words: Vec<String> = std::env::args().skip(1).collect();
     let words: Vec<&str> = words.iter().map(String::as_str).collect();
-    let program = match words[..] {
-        ["shed"] => sample::shed,
-        ["shed", "cheapest"] => |file: &[u8]| sample::shed_by(ValueOrder::CheapestFirst, file),
-        ["slots"] => |file: &[u8]| sample::slots_by(ValueOrder::Ascending, file),
-        ["slots", "cheapest"] => |file: &[u8]| sample::slots_by(ValueOrder::CheapestFirst, file),
-        ["bench"] => sample::bench,
+    let mut input = Vec::new();
+    let file = || read(std::io::stdin().read_to_end(&mut input).map(|_| input), "standard input");
+    let list = |path: &str| read(std::fs::read(path), path);
+    let text = match words[..] {
+        ["shed"] => sample::shed(&file()),
+        ["shed", "cheapest"] => sample::shed_by(ValueOrder::CheapestFirst, &file()),
+        ["slots"] => sample::slots_by(ValueOrder::Ascending, &file()),
+        ["slots", "cheapest"] => sample::slots_by(ValueOrder::CheapestFirst, &file()),
+        ["replay", path] => sample::replayed_by(ValueOrder::Ascending, &file(), &list(path)),
+        ["replay", "cheapest", path] => sample::replayed_by(ValueOrder::CheapestFirst, &file(), &list(path)),
+        ["bench"] => sample::bench(&file()),
         _ => {
-            eprintln!("twin shed|shed cheapest|slots|slots cheapest|bench");
+            eprintln!("twin shed|shed cheapest|slots|slots cheapest|replay LIST|replay cheapest LIST|bench");
             exit(2)
         }
     };
-    let mut file = Vec::new();
-    if let Err(error) = std::io::stdin().read_to_end(&mut file) {
-        eprintln!("{error}");
-        exit(2);
-    }
-    print!("{}", program(&file));
+    print!("{text}");
 }

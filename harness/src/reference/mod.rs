@@ -1,4 +1,4 @@
-//! Documents 01 and 02 (jobs 1, 2, 3, 4, 7 and 9) in plain Rust, one module for each part of them. Refusals are their numbers, the first in their
+//! Documents 01 and 02 (jobs 1, 2, 3, 4, 7, 9 and 14) in plain Rust, one module for each part of them. Refusals are their numbers, the first in their
 //! order. A call that tries values has a twin whose name ends in `by`, and whose first argument is the order in which it tries them.
 
 pub mod checksum;

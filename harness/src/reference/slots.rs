@@ -1,5 +1,5 @@
 //! 02's job 4: the shed with the pool that keeps "one cell for each sender, receiver and kind that the rules allow", and the newer of two
-//! messages.
+//! messages; job 14: a recorded run, replayed on such a shed.
 
 use super::costs::{self, View};
 use super::message::{self, Message, CPA, ESTIMATE, REQUEST, SIZE, SOLUTION, STOP};
@@ -143,6 +143,31 @@ pub fn deliver_by(
     shed.records = shed.records.wrapping_add(u128::from(decision.records()));
     shed.deliveries = shed.deliveries.wrapping_add(1);
     place(n, pool, &decision.sent);
+    Ok(())
+}
+
+/// 02's job 14: "a list of cells in the order delivered, one byte pair each, low byte first". Refusal 22, then the deliveries'. Refused: "the
+/// deliveries before it stand".
+pub fn replay(shed: &mut Shed, stream: &[u8], pool: &mut [u8], list: &[u8]) -> Result<(), Refusal> {
+    replay_by(ValueOrder::default(), shed, stream, pool, list)
+}
+
+pub fn replay_by(
+    order: ValueOrder,
+    shed: &mut Shed,
+    stream: &[u8],
+    pool: &mut [u8],
+    list: &[u8],
+) -> Result<(), Refusal> {
+    // "A list of odd length is 22, before any other check"
+    if list.len() % 2 != 0 {
+        return Err(22);
+    }
+    // "It ends at the first refusal, with that refusal's number"; "an empty one is never refused", as nothing is delivered
+    for pair in list.chunks_exact(2) {
+        let cell = u16::from_le_bytes([pair[0], pair[1]]);
+        deliver_by(order, shed, stream, pool, cell.into())?;
+    }
     Ok(())
 }
 
