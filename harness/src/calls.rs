@@ -32,6 +32,7 @@ pub enum Call {
     Newer,
     MakeSlots(ValueOrder),
     DeliverSlots(ValueOrder),
+    ReplaySlots(ValueOrder),
     SettleSlots(ValueOrder),
     Search,
 }
@@ -44,9 +45,14 @@ const DELIVER: &[u8] = &[13, 5, 6, 7, 12, 15, 8, 10, 9, 11, 14];
 const ECHO: &[u8] = &[13, 5, 6, 7, 12, 8, 10, 9, 11, 14];
 /// 02's job 4: "14 is shown never to occur here".
 const DELIVER_SLOTS: &[u8] = &[13, 5, 6, 7, 12, 15, 8, 10, 9, 11];
+/// 02's job 14: 22 "before any other check".
+const REPLAY_SLOTS: &[u8] = &[22, 13, 5, 6, 7, 12, 15, 8, 10, 9, 11];
+
+/// How many numbers a refusal can be, 0 for accepted among them.
+pub const NUMBERS: usize = 23;
 
 /// Each call, its name in the Rattle code with the order in which it tries values, and the refusals it can give.
-pub const CALLS: [(Call, &str, &[u8]); 33] = [
+pub const CALLS: [(Call, &str, &[u8]); 35] = [
     (Call::Sum, "checksum::sum", &[]),
     (Call::Block, "table::read_block", &[1, 4, 2, 3]),
     (Call::Read, "table::read", &[13, 1, 4, 2, 3, 5, 6, 7]),
@@ -77,6 +83,8 @@ pub const CALLS: [(Call, &str, &[u8]); 33] = [
     (Call::MakeSlots(CheapestFirst), "slots::make, cheapest first", MAKE_NETWORK),
     (Call::DeliverSlots(Ascending), "slots::deliver, ascending", DELIVER_SLOTS),
     (Call::DeliverSlots(CheapestFirst), "slots::deliver, cheapest first", DELIVER_SLOTS),
+    (Call::ReplaySlots(Ascending), "slots::replay, ascending", REPLAY_SLOTS),
+    (Call::ReplaySlots(CheapestFirst), "slots::replay, cheapest first", REPLAY_SLOTS),
     (Call::SettleSlots(Ascending), "slots::settle, ascending", MAKE_NETWORK),
     (Call::SettleSlots(CheapestFirst), "slots::settle, cheapest first", MAKE_NETWORK),
     (Call::Search, "search::exhaustive", &[5, 6, 7, 16]),
@@ -136,6 +144,7 @@ pub enum Input {
     Newer { n: u8, sizes: Places, first: Vec<u8>, second: Vec<u8> },
     MakeSlots { order: Named, stream: Vec<u8>, pool: Vec<u8> },
     DeliverSlots { order: Named, shed: Box<Shed>, stream: Vec<u8>, cell: u64, pool: Vec<u8> },
+    ReplaySlots { order: Named, shed: Box<Shed>, stream: Vec<u8>, list: Vec<u8>, pool: Vec<u8> },
     SettleSlots { order: Named, stream: Vec<u8>, pool: Vec<u8> },
     Search { stream: Vec<u8> },
 }
@@ -152,6 +161,7 @@ impl Input {
             | Input::Settle { order, .. }
             | Input::MakeSlots { order, .. }
             | Input::DeliverSlots { order, .. }
+            | Input::ReplaySlots { order, .. }
             | Input::SettleSlots { order, .. } => Some(order),
             _ => None,
         }
@@ -310,6 +320,10 @@ pub fn reference(input: Input) -> Outcome {
         Input::DeliverSlots { order, mut shed, stream, cell, mut pool } => {
             let delivered = slots::deliver_by(order_of(order), &mut shed, &stream, &mut pool, cell);
             shed_outcome(delivered.err().unwrap_or(0), &shed, pool)
+        }
+        Input::ReplaySlots { order, mut shed, stream, list, mut pool } => {
+            let replayed = slots::replay_by(order_of(order), &mut shed, &stream, &mut pool, &list);
+            shed_outcome(replayed.err().unwrap_or(0), &shed, pool)
         }
         Input::SettleSlots { order, stream, mut pool } => {
             made_shed_outcome(slots::settle_by(order_of(order), &stream, &mut pool), pool)

@@ -1,13 +1,13 @@
 //! Two implementations on the same inputs: what each call gave, counted by refusal and by case, and the first difference.
 
-use crate::calls::{self, Call, Input, Outcome};
+use crate::calls::{self, Call, Input, Outcome, NUMBERS};
 use crate::cases::{self, Case};
 use crate::generate;
 use crate::random::Random;
 
 pub struct Report {
     /// How often each number came, 0 for accepted.
-    pub counts: [u64; 19],
+    pub counts: [u64; NUMBERS],
     /// How often each case came that the call can come to.
     pub cases: Vec<(Case, u64)>,
     pub difference: Option<Difference>,
@@ -25,7 +25,7 @@ pub struct Difference {
 pub fn compare(call: Call, rounds: u64, seed: u64, other: impl Fn(Input) -> Outcome) -> Report {
     let mut random = Random::new(seed);
     let cases = cases::cases(call).into_iter().map(|case| (case, 0)).collect();
-    let mut report = Report { counts: [0; 19], cases, difference: None };
+    let mut report = Report { counts: [0; NUMBERS], cases, difference: None };
     for round in 0..rounds {
         let input = generate::input(&mut random, call);
         let reference = calls::reference(input.clone());

@@ -50,6 +50,7 @@ pub fn cases(call: Call) -> &'static [Case] {
         Call::Step(_) | Call::Deliver(_) | Call::Echo(_) | Call::DeliverSlots(_) => {
             &[Pair, OneBelow, OwnValue, OwnNoH, Assigns, Stale, NotOut, Reply, Filled, NoH]
         }
+        Call::ReplaySlots(_) => &[Pair, OneBelow],
         Call::Settle(_) | Call::SettleSlots(_) => &[Pair, OneBelow, Stops, NoneLeft],
         Call::Search => &[Pair, OneBelow, NoneLeft, Counted],
     }

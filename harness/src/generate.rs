@@ -747,6 +747,7 @@ pub fn input(random: &mut Random, call: Call) -> Input {
         Call::Newer => slots::newer(random),
         Call::MakeSlots(order) => slots::make(random, order),
         Call::DeliverSlots(order) => slots::deliver(random, order),
+        Call::ReplaySlots(order) => slots::replay(random, order),
         Call::SettleSlots(order) => slots::settle(random, order),
         Call::Search => exhaustive(random),
     }

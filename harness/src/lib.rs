@@ -20,6 +20,7 @@ pub mod plot;
 pub mod random;
 pub mod recorded;
 pub mod reference;
+pub mod replay;
 pub mod sample;
 pub mod slots;
 pub mod trials;

@@ -308,6 +308,25 @@ extern "C" {
         room: usize,
         cell: u64,
     ) -> SlotsAnswer;
+    fn riksamoe_slots_replay(
+        core: Core,
+        stream: *const u8,
+        length: usize,
+        pool: *mut u8,
+        room: usize,
+        list: *const u8,
+        count: usize,
+    ) -> SlotsAnswer;
+    fn riksamoe_slots_replay_by(
+        order: u8,
+        core: Core,
+        stream: *const u8,
+        length: usize,
+        pool: *mut u8,
+        room: usize,
+        list: *const u8,
+        count: usize,
+    ) -> SlotsAnswer;
     fn riksamoe_slots_settle(stream: *const u8, length: usize, pool: *mut u8, room: usize) -> SlotsAnswer;
     fn riksamoe_slots_settle_by(order: u8, stream: *const u8, length: usize, pool: *mut u8, room: usize)
         -> SlotsAnswer;
@@ -496,6 +515,16 @@ pub fn slots_deliver(order: Named, core: Core, stream: &[u8], pool: &mut [u8], c
     match order {
         None => unsafe { riksamoe_slots_deliver(core, stream, length, pool, room, cell) },
         Some(order) => unsafe { riksamoe_slots_deliver_by(order, core, stream, length, pool, room, cell) },
+    }
+}
+
+pub fn slots_replay(order: Named, core: Core, stream: &[u8], pool: &mut [u8], list: &[u8]) -> SlotsAnswer {
+    let (stream, length) = (stream.as_ptr(), stream.len());
+    let (pool, room) = (pool.as_mut_ptr(), pool.len());
+    let (list, count) = (list.as_ptr(), list.len());
+    match order {
+        None => unsafe { riksamoe_slots_replay(core, stream, length, pool, room, list, count) },
+        Some(order) => unsafe { riksamoe_slots_replay_by(order, core, stream, length, pool, room, list, count) },
     }
 }
 
@@ -692,6 +721,9 @@ pub fn linked(input: Input) -> Outcome {
         Input::MakeSlots { order, stream, mut pool } => slots_outcome(&slots_make(order, &stream, &mut pool), pool),
         Input::DeliverSlots { order, shed, stream, cell, mut pool } => {
             slots_outcome(&slots_deliver(order, (&*shed).into(), &stream, &mut pool, cell), pool)
+        }
+        Input::ReplaySlots { order, shed, stream, list, mut pool } => {
+            slots_outcome(&slots_replay(order, (&*shed).into(), &stream, &mut pool, &list), pool)
         }
         Input::SettleSlots { order, stream, mut pool } => slots_outcome(&slots_settle(order, &stream, &mut pool), pool),
         Input::Search { stream } => {

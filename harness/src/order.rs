@@ -41,6 +41,7 @@ pub fn cases(call: Call) -> Vec<Case> {
         Call::Step(order) | Call::Deliver(order) | Call::Echo(order) | Call::DeliverSlots(order) => {
             (order, &[OrderDecides, OnlyHere, NotHere], &[Tie, TieInRange, NoHLast, NoHInRange])
         }
+        Call::ReplaySlots(order) => (order, &[OrderDecides, OnlyHere, NotHere], &[]),
         Call::Settle(order) | Call::SettleSlots(order) => (order, &[OrderDecides, OtherBest], &[]),
         _ => return Vec::new(),
     };

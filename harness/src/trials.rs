@@ -1,7 +1,7 @@
 //! Many tables, each tried by one implementation of the calls or by several: what the trials came to, and the first fault.
 
 use crate::boxes::problem::Problem;
-use crate::calls::{self, Input, Outcome};
+use crate::calls::{self, Input, Outcome, NUMBERS};
 use crate::generate;
 use crate::random::Random;
 use crate::reference::order::ValueOrder;
@@ -20,7 +20,7 @@ pub struct Report<C> {
     pub tables: u64,
     pub runs: u64,
     /// How often each number came when a packet was to be handed over, 0 for accepted.
-    pub counts: [u64; 19],
+    pub counts: [u64; NUMBERS],
     /// What tables and runs must come to at times, and how often they did.
     pub cases: Vec<(C, u64)>,
     pub fault: Option<String>,
@@ -29,7 +29,7 @@ pub struct Report<C> {
 impl<C: Copy> Report<C> {
     fn new(cases: &[C]) -> Report<C> {
         let cases = cases.iter().map(|case| (*case, 0)).collect();
-        Report { tables: 0, runs: 0, counts: [0; 19], cases, fault: None }
+        Report { tables: 0, runs: 0, counts: [0; NUMBERS], cases, fault: None }
     }
 
     pub fn count(&mut self, comes_to: impl Fn(C) -> bool) {

@@ -110,6 +110,7 @@ pub fn cases(call: Call) -> Vec<Case> {
         Call::Deliver(_) | Call::Echo(_) | Call::DeliverSlots(_) => {
             [&table[..], &state, &[Decides, DearReply]].concat()
         }
+        Call::ReplaySlots(_) => table,
         Call::Settle(_) | Call::SettleSlots(_) | Call::Search => {
             [&table[..], &[Decides, LeastOfOne, LargestTotal]].concat()
         }

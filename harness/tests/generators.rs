@@ -1,7 +1,7 @@
 //! The generators reach every refusal of every call in either order of values, and every case of forbidden pairs, of unary costs, of the
 //! order, of echoes and of the pool of slots, and a refused call of the reference leaves what it was lent.
 
-use harness::calls::{self, Call, Input, CALLS};
+use harness::calls::{self, Call, Input, CALLS, NUMBERS};
 use harness::cases;
 use harness::generate;
 use harness::random::Random;
@@ -9,12 +9,12 @@ use harness::random::Random;
 fn inputs(call: Call) -> u32 {
     match call {
         Call::Deliver(_) | Call::Echo(_) | Call::Settle(_) | Call::Search => 4_000,
-        Call::DeliverSlots(_) | Call::SettleSlots(_) => 4_000,
+        Call::DeliverSlots(_) | Call::ReplaySlots(_) | Call::SettleSlots(_) => 4_000,
         _ => 20_000,
     }
 }
 
-/// The buffer that a call may write, before it.
+/// The buffer that a call may write, before it; not that of a replay, whose deliveries before the refusal stand.
 fn lent(input: &Input) -> Option<Vec<u8>> {
     match input {
         Input::Read { stream: lent, .. }
@@ -39,7 +39,7 @@ fn lent(input: &Input) -> Option<Vec<u8>> {
 fn every_refusal_is_reached_and_leaves_what_was_lent() {
     for (call, name, refusals) in CALLS {
         let mut random = Random::new(1);
-        let mut reached = [0u32; 19];
+        let mut reached = [0u32; NUMBERS];
         let mut came_to = Vec::new();
         for _ in 0..inputs(call) {
             let input = generate::input(&mut random, call);
@@ -62,7 +62,7 @@ fn every_refusal_is_reached_and_leaves_what_was_lent() {
         }
         println!("{name}: accepted {}, refused {:?}", reached[0], &reached[1..]);
         assert!(reached[0] > 100, "{name} was accepted {} times", reached[0]);
-        for refusal in 1..=18u8 {
+        for refusal in 1..NUMBERS as u8 {
             let times = reached[refusal as usize];
             let can = refusals.contains(&refusal);
             assert!(can == (times > 0), "{name}: refusal {refusal} came {times} times");

@@ -1,4 +1,4 @@
-//! Inputs for the pool of slots (02's job 4): a slot's cell, two messages, sheds over that pool on their way.
+//! Inputs for the pool of slots (02's job 4): a slot's cell, two messages, sheds over that pool on their way, recorded runs (job 14).
 
 use super::tables::{damage_stream, dearest, sizes, some_stream, stream, stream_of};
 use super::{
@@ -7,6 +7,7 @@ use super::{
 use super::{packet, put};
 use crate::calls::Input;
 use crate::random::Random;
+use crate::recorded;
 use crate::reference::message::{Message, SIZE};
 use crate::reference::order::ValueOrder;
 use crate::reference::slots::{self, Shed, Slot};
@@ -323,20 +324,33 @@ fn damage(random: &mut Random, order: ValueOrder, ran: &mut Ran, stream: &[u8]) 
 }
 
 /// Once in 8 the run was in the other order.
-pub fn deliver(random: &mut Random, order: ValueOrder) -> Input {
-    let run = if random.once_in(8) { order.other() } else { order };
-    let (mut ran, mut stream) = some_run(random, run);
+fn run_order(random: &mut Random, order: ValueOrder) -> ValueOrder {
+    if random.once_in(8) {
+        order.other()
+    } else {
+        order
+    }
+}
+
+/// A cell of a shed is named, the shed is damaged at times, and the packet goes into the cell.
+fn damage_run(random: &mut Random, order: ValueOrder, ran: &mut Ran, stream: &[u8]) {
     let cell = ran.any_waiting(random);
     ran.name(cell);
     for _ in 0..random.below(3) {
-        damage(random, order, &mut ran, &stream);
+        damage(random, order, ran, stream);
         if ran.pool.len() < slots::POOL {
             break;
         }
     }
+    put(&mut ran.pool, ran.cell, ran.packet.clone());
+}
+
+pub fn deliver(random: &mut Random, order: ValueOrder) -> Input {
+    let run = run_order(random, order);
+    let (mut ran, mut stream) = some_run(random, run);
+    damage_run(random, order, &mut ran, &stream);
     let used = ran.used() as u64;
-    let Ran { shed, mut pool, cell, packet, .. } = ran;
-    put(&mut pool, cell, packet);
+    let Ran { shed, pool, cell, .. } = ran;
     let cell = match random.below(40) {
         0 | 1 => random.below(used.max(1)),
         2 => *random.pick(&[used, 299, 300, u64::MAX, 1 << 32, (1 << 32) + cell, (1 << 58) + cell]),
@@ -346,4 +360,96 @@ pub fn deliver(random: &mut Random, order: ValueOrder) -> Input {
         damage_stream(random, &mut stream);
     }
     Input::DeliverSlots { order: named(random, order), shed: Box::new(shed), stream, cell, pool }
+}
+
+// Recorded runs
+
+/// The cells that a shed delivers from here on, the lowest in use each time, the highest or any, up to the first that is refused; not
+/// always beyond unit 1's stop.
+fn cells_onward(random: &mut Random, order: ValueOrder, ran: &Ran, stream: &[u8]) -> Vec<u16> {
+    let (mut shed, mut pool) = (ran.shed.clone(), ran.pool.clone());
+    let style = random.below(3);
+    let most = if random.once_in(6) { 300 } else { random.below(20) };
+    let mut cells = Vec::new();
+    for _ in 0..most {
+        let waiting = slots::waiting(ran.n, &pool);
+        let next = match style {
+            0 => waiting.first(),
+            1 => waiting.last(),
+            _ => waiting.get(random.below(waiting.len() as u64) as usize),
+        };
+        let Some(cell) = next else { break };
+        cells.push(*cell as u16);
+        let refused = slots::deliver_by(order, &mut shed, stream, &mut pool, *cell as u64).is_err();
+        if refused || (shed.has_stopped() && !random.once_in(3)) {
+            break;
+        }
+    }
+    cells
+}
+
+/// The packet in the cell that is named does not read: its sender or receiver, a byte that must be zero, or its check is another.
+fn spoil(random: &mut Random, ran: &mut Ran) {
+    ran.packet.resize(SIZE, 1);
+    ran.packet[*random.pick(&[1, 1, 2, 60, 62])] = random.byte();
+    if !random.once_in(3) {
+        message::seal(ran.packet.as_mut_slice().try_into().expect("64 bytes"));
+    }
+    put(&mut ran.pool, ran.cell, ran.packet.clone());
+}
+
+/// A cell that is none of the run's next: rather the one with the damaged packet; any of those used; any number.
+fn other_cell(random: &mut Random, ran: &Ran) -> u16 {
+    let used = ran.used() as u16;
+    match random.below(8) {
+        0..=3 => ran.cell as u16,
+        4 | 5 => random.below(used.max(1).into()) as u16,
+        6 => *random.pick(&[used, 255, 256, 299, 300, 512, 65_535]),
+        _ => random.word() as u16,
+    }
+}
+
+/// The cells that are recorded, once in 8 in the other order; at times others among them.
+fn recorded_cells(random: &mut Random, order: ValueOrder, ran: &Ran, stream: &[u8]) -> Vec<u16> {
+    let run = run_order(random, order);
+    let mut cells = match ran.pool.len() < slots::POOL {
+        true => vec![ran.cell as u16],
+        false => cells_onward(random, run, ran, stream),
+    };
+    for _ in 0..*random.pick(&[0, 0, 0, 1, 1, 2]) {
+        let at = random.below(cells.len() as u64 + 1) as usize;
+        cells.insert(at, other_cell(random, ran));
+    }
+    cells
+}
+
+/// At times it is empty, or of odd length.
+fn damage_list(random: &mut Random, list: &mut Vec<u8>) {
+    match random.below(24) {
+        0..=2 => list.clear(),
+        3 | 4 => list.push(random.byte()),
+        5 => list.truncate(list.len().saturating_sub(1)),
+        6 => *list = vec![random.byte()],
+        _ => {}
+    }
+}
+
+pub fn replay(random: &mut Random, order: ValueOrder) -> Input {
+    let run = run_order(random, order);
+    let (mut ran, mut stream) = some_run(random, run);
+    if random.once_in(4) {
+        ran = Ran::make(random, run, &stream);
+    }
+    damage_run(random, order, &mut ran, &stream);
+    if random.once_in(6) {
+        spoil(random, &mut ran);
+    }
+    let mut list = recorded::list(&recorded_cells(random, order, &ran, &stream));
+    damage_list(random, &mut list);
+    room_for_used(random, &stream, &mut ran.pool);
+    if random.once_in(6) {
+        damage_stream(random, &mut stream);
+    }
+    let Ran { shed, pool, .. } = ran;
+    Input::ReplaySlots { order: named(random, order), shed: Box::new(shed), stream, list, pool }
 }

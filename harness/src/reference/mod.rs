@@ -13,7 +13,7 @@ pub mod slots;
 pub mod table;
 pub mod unit;
 
-/// 1 to 16, as in 01's table of refusals, and 02's 17 and 18.
+/// 1 to 16, as in 01's table of refusals, and 02's 17, 18 and 22.
 pub type Refusal = u8;
 
 /// A byte per unit; those past n are not looked at where sizes are lent.
