@@ -819,7 +819,7 @@ pub fn settle_by(order: ValueOrder, stream: &[u8], pool: &mut [u8], most: u128) 
     Ok(network)
 }
 
-/// The outcome of settle and deliver over either pool, of echo and of step here, of the other calls the reference's.
+/// The outcome of settle and deliver over either pool, of replay, of echo and of step here, of the other calls the reference's.
 pub fn tuned(input: Input) -> Outcome {
     match input {
         Input::Step { order, mut unit, own, n, sizes, costs, packet, mut out } => {
@@ -842,6 +842,10 @@ pub fn tuned(input: Input) -> Outcome {
         Input::DeliverSlots { order, mut shed, stream, cell, mut pool } => {
             let delivered = slots::deliver_by(order_of(order), &mut shed, &stream, &mut pool, cell);
             calls::shed_outcome(delivered.err().unwrap_or(0), &shed, pool)
+        }
+        Input::ReplaySlots { order, mut shed, stream, list, mut pool } => {
+            let replayed = slots::replay_by(order_of(order), &mut shed, &stream, &mut pool, &list);
+            calls::shed_outcome(replayed.err().unwrap_or(0), &shed, pool)
         }
         Input::SettleSlots { order, stream, mut pool } => {
             calls::made_shed_outcome(slots::settle_by(order_of(order), &stream, &mut pool, u128::MAX), pool)

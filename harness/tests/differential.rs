@@ -300,7 +300,7 @@ fn another_default_is_found() {
         };
         let units = [Call::Make, Call::InRange, Call::Step];
         let networks = [Call::MakeNetwork, Call::Deliver, Call::Echo, Call::Settle];
-        let slots = [Call::MakeSlots, Call::DeliverSlots, Call::SettleSlots];
+        let slots = [Call::MakeSlots, Call::DeliverSlots, Call::ReplaySlots, Call::SettleSlots];
         for call in units.iter().chain(&networks).chain(&slots).map(|call| call(CheapestFirst)) {
             assert!(compare(call, 4_000, 1, fault).difference.is_some(), "{call:?}, {number:?}");
         }
@@ -582,6 +582,133 @@ fn another_pool_is_found() {
     };
     assert!(fault_in_delivery(full).contains("refusal 0 by the reference, 14 by the other"));
 }
+
+// Recorded runs
+
+/// A replay by the reference, of another list on what it is lent, or with its outcome changed; it is handed the list, and the input and the outcome.
+fn fault_in_replay(before: impl Fn(&mut Vec<u8>), after: impl Fn(&Input, &mut Outcome)) -> String {
+    fault_in_slots(Call::ReplaySlots, |mut input| {
+        let lent = input.clone();
+        if let Input::ReplaySlots { list, .. } = &mut input {
+            before(list);
+        }
+        let mut outcome = calls::reference(input);
+        after(&lent, &mut outcome);
+        outcome
+    })
+}
+
+/// The outcome with another list.
+fn replay_of(lent: &Input, other: &[u8]) -> Outcome {
+    let mut lent = lent.clone();
+    if let Input::ReplaySlots { list, .. } = &mut lent {
+        *list = other.to_vec();
+    }
+    calls::reference(lent)
+}
+
+fn list_lent(lent: &Input) -> &[u8] {
+    let Input::ReplaySlots { list, .. } = lent else { unreachable!("a replay") };
+    list
+}
+
+/// The high byte first; the low byte alone; the last pair left out; the list from its end on.
+#[test]
+fn another_list_is_found() {
+    let high_first = |list: &mut Vec<u8>| list.chunks_exact_mut(2).for_each(|pair| pair.swap(0, 1));
+    assert!(fault_in_replay(high_first, |_, _| {}).contains("refusal "));
+    let low_alone = |list: &mut Vec<u8>| list.chunks_exact_mut(2).for_each(|pair| pair[1] = 0);
+    assert!(fault_in_replay(low_alone, |_, _| {}).contains("refusal 15 by the reference"));
+    let shorter = |list: &mut Vec<u8>| list.truncate(list.len().saturating_sub(2));
+    assert!(fault_in_replay(shorter, |_, _| {}).contains("0 by the other"));
+    let turned = |list: &mut Vec<u8>| {
+        list.reverse();
+        list.chunks_exact_mut(2).for_each(|pair| pair.swap(0, 1));
+    };
+    assert!(fault_in_replay(turned, |_, _| {}).contains("refusal "));
+}
+
+/// A refusal undoes the deliveries before it, as in a single call; a refused cell is passed over; a refusal is not told.
+#[test]
+fn another_end_of_a_replay_is_found() {
+    let undone = |lent: &Input, outcome: &mut Outcome| {
+        let Input::ReplaySlots { shed, pool, .. } = lent else { unreachable!("a replay") };
+        if outcome.refusal != 0 {
+            *outcome = calls::shed_outcome(outcome.refusal, shed, pool.clone());
+        }
+    };
+    assert!(fault_in_replay(|_| {}, undone).contains("numbers"));
+    let passed_over = |lent: &Input, outcome: &mut Outcome| {
+        let Input::ReplaySlots { shed, list, .. } = lent else { unreachable!("a replay") };
+        let done = 2 * calls::shed_in(outcome).deliveries.wrapping_sub(shed.deliveries) as usize;
+        if outcome.refusal == 15 {
+            *outcome = replay_of(lent, &[&list[..done], &list[done + 2..]].concat());
+        }
+    };
+    assert!(fault_in_replay(|_| {}, passed_over).contains("refusal 15 by the reference"));
+    let not_told = |_: &Input, outcome: &mut Outcome| outcome.refusal = 0;
+    assert!(fault_in_replay(|_| {}, not_told).contains("0 by the other"));
+}
+
+/// Unit 1's stop is looked at before the first cell alone: what waits then is 15 or accepted, not 12.
+#[test]
+fn a_stop_on_the_way_that_is_not_seen_is_found() {
+    let not_seen = |lent: &Input, outcome: &mut Outcome| {
+        let Input::ReplaySlots { shed, .. } = lent else { unreachable!("a replay") };
+        if outcome.refusal == 12 && outcome.units[0].has_stopped() && !shed.has_stopped() {
+            outcome.refusal = 15;
+        }
+    };
+    assert!(fault_in_replay(|_| {}, not_seen).contains("refusal 12 by the reference, 15 by the other"));
+}
+
+/// A list of odd length: its whole pairs are delivered, with 22 or without; another check comes first.
+#[test]
+fn an_odd_list_taken_otherwise_is_found() {
+    let whole_pairs = |list: &mut Vec<u8>| list.truncate(list.len() / 2 * 2);
+    assert!(fault_in_replay(whole_pairs, |_, _| {}).contains("refusal 22 by the reference"));
+    let pairs_of = |lent: &Input| {
+        let list = list_lent(lent);
+        replay_of(lent, &list[..list.len() / 2 * 2])
+    };
+    let at_the_end = |lent: &Input, outcome: &mut Outcome| {
+        if outcome.refusal == 22 {
+            *outcome = Outcome { refusal: 22, ..pairs_of(lent) };
+        }
+    };
+    assert!(fault_in_replay(|_| {}, at_the_end).contains("numbers"));
+    for other in [13, 5, 6, 7, 12, 15] {
+        let later = |lent: &Input, outcome: &mut Outcome| {
+            if outcome.refusal == 22 && pairs_of(lent).refusal == other {
+                outcome.refusal = other;
+            }
+        };
+        let found = fault_in_replay(|_| {}, later);
+        assert!(found.contains(&format!("refusal 22 by the reference, {other} by the other")), "{found}");
+    }
+}
+
+/// An empty list is refused, by 22, or by what a delivery finds first.
+#[test]
+fn an_empty_list_that_is_refused_is_found() {
+    let odd = |lent: &Input, outcome: &mut Outcome| {
+        if list_lent(lent).is_empty() {
+            outcome.refusal = 22;
+        }
+    };
+    assert!(fault_in_replay(|_| {}, odd).contains("refusal 0 by the reference, 22 by the other"));
+    for refusal in [13, 5, 6, 7, 12] {
+        let checked = |lent: &Input, outcome: &mut Outcome| {
+            if list_lent(lent).is_empty() && replay_of(lent, &[0; 2]).refusal == refusal {
+                outcome.refusal = refusal;
+            }
+        };
+        let found = fault_in_replay(|_| {}, checked);
+        assert!(found.contains(&format!("refusal 0 by the reference, {refusal} by the other")), "{found}");
+    }
+}
+
+// Making and the numbers of cells
 
 /// A making by the reference, with its outcome changed; it is handed the stream and the pool.
 fn fault_in_making(change: impl Fn(&[u8], &[u8], &mut Outcome)) -> String {

@@ -35,7 +35,8 @@ fn any_call() {
     for order in ValueOrder::BOTH {
         let (step, settle) = ((Call::Step(order), 40_000), (Call::Settle(order), 3_000));
         let (deliver, echo) = ((Call::Deliver(order), 8_000), (Call::Echo(order), 8_000));
-        let slots = [(Call::DeliverSlots(order), 8_000), (Call::SettleSlots(order), 3_000)];
+        let replay = (Call::ReplaySlots(order), 4_000);
+        let slots = [(Call::DeliverSlots(order), 8_000), replay, (Call::SettleSlots(order), 3_000)];
         for (call, rounds) in [step, deliver, echo, settle].into_iter().chain(slots) {
             let report = compare(call, rounds, 7, tuned::tuned);
             assert!(report.difference.is_none(), "{call:?}: {}", describe(&report.difference.unwrap()));

@@ -1,5 +1,5 @@
-//! How fast the Rattle library's calls are, beside a yardstick: the tuned run of `harness::tuned` for settle, deliver, echo and step, and for settle
-//! and deliver over the pool of slots, the second implementation for the others. One table, a row for each call and sample; those of the tuned run
+//! How fast the Rattle library's calls are, beside a yardstick: the tuned run of `harness::tuned` for settle, deliver, echo and step, and for settle,
+//! deliver and replay over the pool of slots, the second implementation for the others. One table, a row for each call and sample; those of the tuned run
 //! in both orders of values.
 //!
 //! speed [--counts FOLDER] [WORD]   times; WORD: the rows alone whose name has it. FOLDER: callgrind's dumps of a run with --once
@@ -16,7 +16,7 @@ use harness::reference::order::ValueOrder;
 use harness::reference::table::{self, Form};
 use harness::reference::unit::{self, Unit};
 use harness::reference::{convert, costs, readings, search, slots, Places};
-use harness::{generate, sample, tuned};
+use harness::{generate, recorded, sample, tuned};
 use std::cell::RefCell;
 use std::hint::black_box;
 use std::path::Path;
@@ -32,6 +32,8 @@ trait Library {
     fn slots_settle(&self, order: ValueOrder, stream: &[u8], pool: &mut [u8]) -> u64;
     /// Makes a network over the pool of slots and delivers these cells, until one is refused.
     fn slots_deliver(&self, order: ValueOrder, stream: &[u8], pool: &mut [u8], cells: &[u64]) -> u64;
+    /// Makes a network over the pool of slots and replays a list of cells.
+    fn slots_replay(&self, order: ValueOrder, stream: &[u8], pool: &mut [u8], list: &[u8]) -> u64;
     fn step(&self, steps: &[Step], out: &mut [u8]) -> u64;
     /// The same, beside the second implementation.
     fn plain_step(&self, steps: &[Step], out: &mut [u8]) -> u64;
@@ -85,6 +87,12 @@ impl Library for Yardstick {
         let mut shed = tuned::slots::settle_by(order, stream, pool, 0).expect("an accepted table");
         let mut accepted = |cell: &&u64| tuned::slots::deliver_by(order, &mut shed, stream, pool, **cell).is_ok();
         cells.iter().take_while(|cell| accepted(cell)).count() as u64
+    }
+
+    fn slots_replay(&self, order: ValueOrder, stream: &[u8], pool: &mut [u8], list: &[u8]) -> u64 {
+        let mut shed = tuned::slots::settle_by(order, stream, pool, 0).expect("an accepted table");
+        let _ = black_box(tuned::slots::replay_by(order, &mut shed, stream, pool, list));
+        shed.deliveries as u64
     }
 
     fn step(&self, steps: &[Step], out: &mut [u8]) -> u64 {
@@ -177,6 +185,12 @@ impl Library for Rattle {
             answer.refusal == 0
         };
         cells.iter().take_while(|cell| accepted(cell)).count() as u64
+    }
+
+    fn slots_replay(&self, order: ValueOrder, stream: &[u8], pool: &mut [u8], list: &[u8]) -> u64 {
+        let named = Some(order.number());
+        let core = linked::slots_make(named, stream, pool).core;
+        linked::slots_replay(named, core, stream, pool, list).core.deliveries.low
     }
 
     fn step(&self, steps: &[Step], out: &mut [u8]) -> u64 {
@@ -331,6 +345,16 @@ fn slots_deliver_row(order: ValueOrder, sample: &str, stream: Vec<u8>) -> Row {
     row(name("slots-deliver", order, sample), "delivery", work)
 }
 
+/// The cells of `slots_deliver_row`, recorded.
+fn slots_replay_row(order: ValueOrder, sample: &str, stream: Vec<u8>) -> Row {
+    let cells: Vec<u16> = cells(order, &stream, 500).into_iter().map(|cell| cell as u16).collect();
+    let (list, pool) = (recorded::list(&cells), RefCell::new(vec![0; slots::POOL]));
+    let work = move |library: &dyn Library| {
+        library.slots_replay(order, black_box(&stream), &mut pool.borrow_mut(), black_box(&list))
+    };
+    row(name("slots-replay", order, sample), "delivery", work)
+}
+
 fn step_row(order: ValueOrder, sample: &str, stream: Vec<u8>) -> Row {
     let (steps, out) = (steps(order, &stream, 500), RefCell::new([0; unit::OUT]));
     let work = move |library: &dyn Library| library.step(black_box(&steps), &mut *out.borrow_mut());
@@ -346,7 +370,7 @@ fn run_rows() -> Vec<Row> {
             rows.extend(whole.map(|(name, stream, _)| make(order, &name, stream)));
         }
     }
-    for make in [deliver_row, echo_row, slots_deliver_row, step_row] {
+    for make in [deliver_row, echo_row, slots_deliver_row, slots_replay_row, step_row] {
         for order in ValueOrder::BOTH {
             rows.extend(sheds().into_iter().map(|(name, stream, _)| make(order, &name, stream)));
         }
@@ -472,7 +496,7 @@ fn once(rows: &[Row]) {
 }
 
 const HEAD: &str = "\
-Rattle library beside a yardstick: tuned, the harness's tuned run (settle checks its table once; the others check all that they are lent), or second,
+Rattle library beside a yardstick: tuned, the harness's tuned run (settle and replay check once; the others check all that they are lent), or second,
 its second implementation. A second: how many deliveries, echoes, steps or calls. Instructions: for each of them, by callgrind, - without it.
 Values are tried in ascending order; cheapest first in the rows that say so.
 ";

@@ -1,4 +1,5 @@
-//! The same over the pool of slots (02's job 4): a cell's number is worked out, and a run knows which cells are in use.
+//! The same over the pool of slots (02's job 4): a cell's number is worked out, and a run knows which cells are in use; a replay (its job 14)
+//! checks once.
 
 use super::{
     assign, check_packet, check_states, open, respond, seats, send_with, wide_costs, Costs, Done, Layout, Seat,
@@ -96,13 +97,54 @@ pub fn deliver_by(
     }
     let (cell, packet) = check_cell(&layout, pool, cell)?;
     let seat = layout.seat(order, packet[2] as usize - 1, layout.costs);
+    hand_over(&seat, shed, pool, (cell, &packet))
+}
+
+/// The deliveries of a list, the table and the states checked once. Refusals as the reference's.
+pub fn replay_by(
+    order: ValueOrder,
+    shed: &mut Shed,
+    stream: &[u8],
+    pool: &mut [u8],
+    list: &[u8],
+) -> Result<(), Refusal> {
+    if list.len() % 2 != 0 {
+        return Err(22);
+    }
+    if list.is_empty() {
+        return Ok(());
+    }
+    if pool.len() < POOL {
+        return Err(13);
+    }
+    let layout = open(stream)?;
+    check_states(order, &layout, &shed.units)?;
+    let costs = wide_costs(&layout);
+    let seats = seats(order, &layout, &costs);
+    for pair in list.chunks_exact(2) {
+        if shed.has_stopped() {
+            return Err(12);
+        }
+        let (cell, packet) = check_cell(&layout, pool, u16::from_le_bytes([pair[0], pair[1]]).into())?;
+        hand_over(&seats[packet[2] as usize - 1], shed, pool, (cell, &packet))?;
+    }
+    Ok(())
+}
+
+/// A message that was checked goes to its unit. Refusals 12, 11.
+fn hand_over<C: Costs>(
+    seat: &Seat<C>,
+    shed: &mut Shed,
+    pool: &mut [u8],
+    (cell, packet): (usize, &[u8; SIZE]),
+) -> Result<(), Refusal> {
     if shed.units[seat.own].has_stopped() {
         return Err(12);
     }
-    let done = respond(&seat, &mut shed.units[seat.own], &packet)?;
+    let done = respond(seat, &mut shed.units[seat.own], packet)?;
     pool[SIZE * cell..SIZE * (cell + 1)].fill(0);
     shed.deliveries = shed.deliveries.wrapping_add(1);
-    carry(&seat, &done, shed, pool, |_| {});
+    carry(seat, &done, shed, pool, |_| {});
     Ok(())
 }
 
