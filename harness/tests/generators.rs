@@ -1,5 +1,6 @@
 //! The generators reach every refusal of every call in either order of values, and every case of forbidden pairs, of unary costs, of the
-//! order, of echoes and of the pool of slots, and a refused call of the reference leaves what it was lent.
+//! order, of echoes, of the pool of slots and of replays, and a refused call of the reference leaves what it was lent, a replay's but for the
+//! deliveries before it.
 
 use harness::calls::{self, Call, Input, CALLS, NUMBERS};
 use harness::cases;

@@ -1,5 +1,6 @@
 //! Every sample table against the listings, one for each order of values and each pool, and the bench report that lie beside it.
 
+use harness::recorded::{self, Schedule};
 use harness::reference::order::ValueOrder;
 use harness::reference::table;
 use harness::sample::{self, tables};
@@ -32,6 +33,42 @@ fn listings_over_slots() {
     assert_eq!(compare_all("slots-cheapest", |file| sample::slots_by(ValueOrder::CheapestFirst, file)), 18);
 }
 
+/// The last number of a listing.
+fn deliveries(listing: &str) -> u64 {
+    listing.trim_end().rsplit(' ').next().expect("a count line").parse().expect("a number")
+}
+
+/// All but the last line of a listing.
+fn report(listing: &str) -> &str {
+    listing.rsplit_once("records").expect("a count line").0
+}
+
+/// A run that delivers the lowest cell in use each time, recorded and replayed (02's job 14), comes to its listing; on another schedule to the
+/// same assignment. Of the samples whose runs are not too long.
+#[test]
+fn listings_of_recorded_runs() {
+    let mut compared = 0;
+    for (order, end) in [(ValueOrder::Ascending, "slots"), (ValueOrder::CheapestFirst, "slots-cheapest")] {
+        for path in tables() {
+            let Ok(expected) = fs::read_to_string(path.with_extension(end)) else { continue };
+            if deliveries(&expected) > 4_000 {
+                continue;
+            }
+            let file = fs::read(&path).unwrap();
+            let replayed = |schedule: Schedule| {
+                let list = recorded::run(order, schedule, &sample::read(&file).unwrap()).unwrap();
+                sample::replayed_by(order, &file, &list)
+            };
+            assert_eq!(replayed(Schedule::Lowest), expected, "{}", path.display());
+            for schedule in [Schedule::Highest, Schedule::Random(3)] {
+                assert_eq!(report(&replayed(schedule)), report(&expected), "{}, {schedule:?}", path.display());
+            }
+            compared += 1;
+        }
+    }
+    assert_eq!(compared, 32);
+}
+
 /// All listings of a table have the same total; those of one order over either pool the same assignment.
 #[test]
 fn totals_of_both_orders_and_pools() {
@@ -41,7 +78,6 @@ fn totals_of_both_orders_and_pools() {
         let (cheapest, over_slots) = (read("cheapest"), [read("slots"), read("slots-cheapest")]);
         assert_eq!(cheapest.lines().next(), listing.lines().next(), "{}", path.display());
         for (old, new) in [&listing, &cheapest].into_iter().zip(&over_slots) {
-            let report = |listing: &str| listing.rsplit_once("records").expect("a count line").0.to_string();
             assert_eq!(report(old), report(new), "{}", path.display());
         }
     }
