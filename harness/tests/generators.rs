@@ -2,7 +2,7 @@
 //! order, of echoes, of the pool of slots and of replays, and a refused call of the reference leaves what it was lent, a replay's but for the
 //! deliveries before it.
 
-use harness::calls::{self, Call, Input, CALLS, NUMBERS};
+use harness::calls::{self, Call, Input, Outcome, CALLS, NUMBERS};
 use harness::cases;
 use harness::generate;
 use harness::random::Random;
@@ -36,6 +36,17 @@ fn lent(input: &Input) -> Option<Vec<u8>> {
     }
 }
 
+/// What the cells leave that a refused replay delivered, with its refusal.
+fn up_to_refused(mut input: Input, outcome: &Outcome) -> Outcome {
+    if let Input::ReplaySlots { shed, list, .. } = &mut input {
+        let done = calls::shed_in(outcome).deliveries.wrapping_sub(shed.deliveries);
+        list.truncate(2 * done as usize);
+    }
+    let replayed = calls::reference(input);
+    assert_eq!(replayed.refusal, 0);
+    Outcome { refusal: outcome.refusal, ..replayed }
+}
+
 #[test]
 fn every_refusal_is_reached_and_leaves_what_was_lent() {
     for (call, name, refusals) in CALLS {
@@ -58,6 +69,7 @@ fn every_refusal_is_reached_and_leaves_what_was_lent() {
                 Input::Step { unit, .. } => assert_eq!(outcome.units, [unit], "{name}"),
                 Input::Deliver { network, .. } => assert_eq!(calls::network_in(&outcome), *network, "{name}"),
                 Input::DeliverSlots { shed, .. } => assert_eq!(calls::shed_in(&outcome), *shed, "{name}"),
+                Input::ReplaySlots { .. } => assert!(outcome == up_to_refused(before, &outcome), "{name}"),
                 _ => {}
             }
         }
