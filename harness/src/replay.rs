@@ -88,7 +88,7 @@ impl<'a> Replayed<'a> {
     }
 
     pub fn came_to(&self, case: Case) -> bool {
-        let (refusal, odd) = (self.outcome.refusal, self.list.len() % 2 != 0);
+        let (refusal, odd) = (self.outcome.refusal, !self.list.len().is_multiple_of(2));
         let (first, later) = (self.done == 0 && !odd, self.done > 0);
         let other_stopped = refusal == 12 && !self.after.has_stopped();
         let state = |refusal: u8| refusal == 5 && self.used().is_some();

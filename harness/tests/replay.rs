@@ -299,7 +299,7 @@ fn any_replay() {
                 let stood = calls::shed_in(&replayed).deliveries != calls::shed_in(&as_lent(&input)).deliveries;
                 stand += u32::from(replayed.refusal != 0 && stood);
                 let pairs = list_of(&input).len() / 2;
-                if list_of(&input).len() % 2 == 0 {
+                if list_of(&input).len().is_multiple_of(2) {
                     let accepted = is_its_parts(call, &input, random.below(pairs as u64 + 1) as usize);
                     cut += u32::from(accepted && pairs > 1);
                     cut_off += u32::from(!accepted);

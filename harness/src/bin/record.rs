@@ -27,7 +27,7 @@ fn main() {
         "cheapest" => ValueOrder::CheapestFirst,
         _ => usage(),
     };
-    let schedule = Schedule::named(schedule).unwrap_or_else(|| usage());
+    let schedule = Schedule::named(schedule).unwrap_or_else(usage);
     let file = std::fs::read(path).unwrap_or_else(|error| fail(2, &format!("{path}: {error}")));
     let list = sample::read(&file).and_then(|stream| recorded::run(order, schedule, &stream));
     let list = list.unwrap_or_else(|refusal| fail(1, &format!("refused {refusal}")));

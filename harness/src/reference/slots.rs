@@ -160,7 +160,7 @@ pub fn replay_by(
     list: &[u8],
 ) -> Result<(), Refusal> {
     // "A list of odd length is 22, before any other check"
-    if list.len() % 2 != 0 {
+    if !list.len().is_multiple_of(2) {
         return Err(22);
     }
     // "It ends at the first refusal, with that refusal's number"; "an empty one is never refused", as nothing is delivered

@@ -108,7 +108,7 @@ pub fn replay_by(
     pool: &mut [u8],
     list: &[u8],
 ) -> Result<(), Refusal> {
-    if list.len() % 2 != 0 {
+    if !list.len().is_multiple_of(2) {
         return Err(22);
     }
     if list.is_empty() {
