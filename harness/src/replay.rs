@@ -10,7 +10,7 @@ pub enum Case {
     /// An empty list is accepted, and any cell would be refused by this number, or by the 5 of a state.
     EmptyDespite(u8),
     EmptyDespiteState,
-    /// Refused by 22, and without its last byte by this number, or by the 5 of a state; 0: it would be accepted.
+    /// Refused by 22, more than a byte, and without its last one by this number, or by the 5 of a state; 0: it would be accepted.
     OddBefore(u8),
     OddBeforeState,
     /// One byte alone.
@@ -95,7 +95,7 @@ impl<'a> Replayed<'a> {
         match case {
             Case::EmptyDespite(number) => self.list.is_empty() && self.of_list(&[0; 2]) == number,
             Case::EmptyDespiteState => self.list.is_empty() && state(self.of_list(&[0; 2])),
-            Case::OddBefore(number) => odd && self.of_whole_pairs() == number,
+            Case::OddBefore(number) => odd && self.list.len() > 1 && self.of_whole_pairs() == number,
             Case::OddBeforeState => odd && state(self.of_whole_pairs()),
             Case::OneByte => self.list.len() == 1,
             Case::First(number) => first && refusal == number,
@@ -159,10 +159,10 @@ impl<'a> Replayed<'a> {
 
     /// A message that reads, in another one's cell; the refusal is that 9.
     fn is_stray(&self) -> bool {
-        let (n, sizes) = match self.outcome.refusal {
-            9 => table::head(self.stream),
-            _ => return false,
-        };
+        if self.outcome.refusal != 9 {
+            return false;
+        }
+        let (n, sizes) = table::head(self.stream);
         let packet = &self.outcome.lent[SIZE * self.cells[self.done] as usize..][..SIZE];
         message::parse(n, &sizes, packet).is_ok()
     }
