@@ -373,8 +373,9 @@ riksamoe_slots_answer_t riksamoe_slots_deliver_by(uint8_t order, riksamoe_core_t
 /* A recorded run, replayed: `list` names cells in the order delivered, two bytes each, the low byte first. They are delivered one after another, up
  * to the first delivery that is refused, whose number is the refusal; the core and the pool are as the deliveries before it left them, and the
  * core's count tells how many these were. An odd `count` is 22, before any other check; an empty list is never refused, whatever else is lent.
- * A list that is replayed in parts, cut between two cells, comes to the same as the whole, as long as no part is refused; so one that comes
- * slowly, or is too long for the memory, can be replayed as it arrives. `list` with count 0 may be any pointer but null, as above. */
+ * A list of whole pairs that is cut between two of them, its parts replayed in turn, comes to the same as the whole, if no part before the last is
+ * refused; so one that comes slowly, or is too long for the memory, can be replayed as it arrives. `list` with count 0 may be any pointer
+ * but null, as above. */
 riksamoe_slots_answer_t riksamoe_slots_replay(riksamoe_core_t core, const uint8_t *stream, size_t length, uint8_t *pool, size_t room,
                                               const uint8_t *list, size_t count);
 riksamoe_slots_answer_t riksamoe_slots_replay_by(uint8_t order, riksamoe_core_t core, const uint8_t *stream, size_t length,
