@@ -71,8 +71,8 @@
  *   riksamoe_network_deliver_by      38,400
  *   riksamoe_network_echo            40,704
  *   riksamoe_network_echo_by         38,400
- *   riksamoe_network_settle         153,600
- *   riksamoe_network_settle_by      153,600
+ *   riksamoe_network_settle         157,696
+ *   riksamoe_network_settle_by      157,696
  *   riksamoe_slots_make              14,336
  *   riksamoe_slots_make_by           14,336
  *   riksamoe_slots_deliver           40,960

@@ -94,5 +94,6 @@ fn place_by_h(stream: &[u8], own: u8, v: u8) -> usize
         sizes,
         order: ValueOrder::CheapestFirst,
     };
-    costs::place_tried(seat, &costs[0..count], v)
+    let unknown = [0u32; 1];
+    costs::place_tried(seat, &costs[0..count], &unknown[0..0], v)
 }

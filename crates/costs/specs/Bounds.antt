@@ -3,7 +3,7 @@
 use Rattle.base.specs.Library.{ℕ, zero, suc, _*_, _-_, _≤_, _<_, _≡_, _≢_, _⊎_, List, getD}
 use Rattle.base.specs.Limits.{NONE}
 use Rattle.base.specs.Sums as Number
-use Rattle.costs.specs.Cost.{Cost, Of, Forbidden, _⊕_, sumFrom, sumTo, least, asNumber}
+use Rattle.costs.specs.Cost.{Cost, Of, Forbidden, _⊕_, sumTo, least, asNumber}
 use Rattle.costs.specs.Instance.{Instance, View}
 
 -- the cost of own value v, alone and with the values of the first k units. 02, job 7: an own cost "counts when the value is written, in
@@ -11,10 +11,9 @@ use Rattle.costs.specs.Instance.{Instance, View}
 unfoldable pub costWith : View → List ℕ → ℕ → ℕ → Cost
 costWith w values k v = Of (w .unary v) ⊕ sumTo (λ j. w .pair j (getD values j 0) v) k
 
--- 01: "h(v) is the sum, over later units, of the least cost of v with any value of that unit";
--- 02: "h takes the least over values not barred; if there are none, the value can't be written"; a unary cost "isn't part of h"
+-- 01: "h(v)", by `lookahead` of Instance
 unfoldable pub h : View → ℕ → Cost
-h w v = sumFrom (λ j. least (λ u. w .pair j u v) (w .dom j)) (suc (w .place)) (w .n - suc (w .place))
+h w v = w .ahead v
 
 -- 01: "the least, over own values v, of costs to the filled units plus h(v)", k units filled; forbidden where no value is left.
 -- A message carries it as a number.

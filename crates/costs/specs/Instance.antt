@@ -1,9 +1,9 @@
 -- The instance that a table describes, what one unit sees of it, and where the bytes of a cost stand.
 -- Units count from 0 here: place k is document 01's unit k + 1. Values count from 1, as in document 01. Assumes nothing.
-use Rattle.base.specs.Library.{ℕ, suc, _+_, _*_, _-_, pred, cond, not, _&&_, List, ltb, eqb, getD, take, drop}
+use Rattle.base.specs.Library.{ℕ, suc, _+_, _*_, _-_, pred, cond, not, _&&_, List, ltb, leb, eqb, length, getD, take, drop}
 use Rattle.base.specs.{Bytes.u16At, Shape.isValue, Sums.sumFrom, Sums.sumTo}
 use Rattle.table.specs.Stream.{inFormTwo, unitsOf, afterUnits, unariesAt, pairsAt}
-use Rattle.costs.specs.Cost.{Cost, Of, pairCost}
+use Rattle.costs.specs.Cost.{Cost, Of, Forbidden, sumFrom as sumCosts, least, pairCost}
 use Rattle.costs.specs.{declared.Seat.Seat, declared.ValueOrder.ValueOrder, declared.ValueOrder.the-variants.Ascending}
 
 -- ---- the instance
@@ -17,7 +17,7 @@ pub record Instance : Type 0 where
   pub cost : ℕ → ℕ → ℕ → ℕ → Cost
 
 -- What one unit sees: its own place, the unary cost of each of its values, and `pair j u v`, the cost of its own value v with value u of unit j;
--- and the order in which it tries its values, 02, job 9, which is no part of its state.
+-- `ahead v`, h of its own value v, which goes by `lookahead` below; and the order in which it tries its values, 02, job 9, which is no part of its state.
 pub record View : Type 0 where
   pub order : ValueOrder
   pub place : ℕ
@@ -25,9 +25,20 @@ pub record View : Type 0 where
   pub dom : ℕ → ℕ
   pub unary : ℕ → ℕ
   pub pair : ℕ → ℕ → ℕ → Cost
+  pub ahead : ℕ → Cost
+
+-- 01: "h(v) is the sum, over later units, of the least cost of v with any value of that unit";
+-- 02: "h takes the least over values not barred; if there are none, the value can't be written"; a unary cost "isn't part of h".
+-- Of n units with these domain sizes, for the unit at place k, which has these pair costs.
+abbrev pub lookahead : ℕ → ℕ → (ℕ → ℕ) → (ℕ → ℕ → ℕ → Cost) → ℕ → Cost
+lookahead k n dom pair v = sumCosts (λ j. least (λ u. pair j u v) (dom j)) (suc k) (n - suc k)
+
+-- the cost of unit k's value v with value u of unit j
+abbrev pub pairOf : Instance → ℕ → ℕ → ℕ → ℕ → Cost
+pairOf I k j u v = cond (ltb j k) (I .cost j u k v) (I .cost k v j u)
 
 abbrev pub viewBy : ValueOrder → Instance → ℕ → View
-viewBy o I k = record { order = o; place = k; n = I .n; dom = I .dom; unary = I .unary k; pair = λ j u v. cond (ltb j k) (I .cost j u k v) (I .cost k v j u) }
+viewBy o I k = record { order = o; place = k; n = I .n; dom = I .dom; unary = I .unary k; pair = pairOf I k; ahead = lookahead k (I .n) (I .dom) (pairOf I k) }
 
 -- the same where only costs are asked for, which no order changes
 abbrev pub viewOf : Instance → ℕ → View
@@ -90,9 +101,41 @@ lentCost n dom k costs j u v =
 
 -- What unit `own` (1 to n) sees in the costs lent with it.
 unfoldable pub lentView : ValueOrder → ℕ → ℕ → List ℕ → List ℕ → View
-lentView o own n sizes costs =
-    record { order = o; place = pred own; n = n; dom = domIn n sizes; unary = lentUnary (domIn n sizes (pred own)) costs; pair = lentCost n (domIn n sizes) (pred own) costs }
+lentView o own n sizes costs = record {
+  order = o;
+  place = pred own;
+  n = n;
+  dom = domIn n sizes;
+  unary = lentUnary (domIn n sizes (pred own)) costs;
+  pair = lentCost n (domIn n sizes) (pred own) costs;
+  ahead = lookahead (pred own) n (domIn n sizes) (lentCost n (domIn n sizes) (pred own) costs);
+}
 
 -- The same of a unit's seat, which holds the first four.
 abbrev pub viewFrom : Seat → List ℕ → View
 viewFrom seat costs = lentView (seat .order) (seat .own) (seat .n) (seat .sizes) costs
+
+-- ---- h known beforehand, as numbers: value v's at place v - 1
+
+-- the most that 255 costs of 16 bits come to; a larger number is no h, and stands for forbidden
+abbrev pub aheadLimit : ℕ
+aheadLimit = 16711425
+
+abbrev pub aheadCost : ℕ → Cost
+aheadCost x = cond (leb x aheadLimit) (Of x) Forbidden
+
+-- The same view, h of the first values being these numbers. Where they are right it is the view itself: `knowing-sees` of Knowing.
+unfoldable pub knowing : List ℕ → View → View
+knowing ahead w = record {
+  order = w .order;
+  place = w .place;
+  n = w .n;
+  dom = w .dom;
+  unary = w .unary;
+  pair = w .pair;
+  ahead = λ v. cond (isValue (length ahead) v) (aheadCost (getD ahead (v - 1) 0)) (w .ahead v);
+}
+
+-- What the unit in a seat sees in the costs lent with it, where these numbers are known.
+abbrev pub viewKnowing : Seat → List ℕ → List ℕ → View
+viewKnowing seat costs ahead = knowing ahead (viewFrom seat costs)

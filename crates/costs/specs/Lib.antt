@@ -5,6 +5,8 @@ pub mod Bounds
 pub mod Order
 pub mod Least
 pub mod Lent
+pub mod Knowing
+pub mod Rows
 pub mod Gathered
 pub mod Gather
 pub mod StreamCost

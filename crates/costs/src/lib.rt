@@ -2,12 +2,14 @@
 
 mod order; // the place of a value in the order tried
 mod prefix; // the cost of a value with those before it, straight from a stream
+mod rows; // the costs of all own values at once
 mod stream; // what is read out of a stream
 
 use base::is_value;
 use base::wide;
 pub use order::place_tried;
 pub use prefix::stream_cost_with;
+pub use rows::paid;
 pub use stream::gather;
 pub use stream::sizes_of;
 ghost use mathlib.Core.Path.{_≡_};
@@ -18,10 +20,17 @@ ghost use lib.ListN.{getD};
 ghost use Rattle.base.specs.Sums.{sumFrom};
 ghost use Rattle.costs.specs.Cost.{_⊕_, asNumber, pairCost};
 ghost use Rattle.costs.specs.Cost.Laws.{AtMost};
-ghost use Rattle.costs.specs.Instance.{inPair, costNumber, lentUnary, viewFrom};
+ghost use Rattle.costs.specs.Instance.{inPair, costNumber, lentUnary, viewFrom, aheadLimit, aheadCost, viewKnowing};
 ghost use Rattle.costs.specs.Bounds.{costWith, h, estimate};
 ghost use Rattle.costs.specs.Lent.{lentCount, lentRefusal};
+ghost use Rattle.costs.specs.Knowing.{Knows};
 ghost use Rattle.costs.specs.Lent.Parts.{othersBefore, pairFrom, leastRun, runsFrom, domFrom};
+
+// What a forbidden cost counts in a sum, as specs/Rows has it.
+const FORBIDDEN_SUM: u32 = 16777216;
+
+// The most that an h comes to, as specs/Instance has it.
+const AHEAD_LIMIT: u32 = 16711425;
 
 // The order in which a unit tries its values: by number; or by rising h, the lower number first on a tie, values without an h last.
 pub enum ValueOrder {
@@ -30,7 +39,8 @@ pub enum ValueOrder {
 }
 
 // Where a unit sits: its own number, 1 to n, among n units with these domain sizes; places past n are not looked at; and the order in which it
-// tries its values. The costs that touch it are lent beside it.
+// tries its values. The costs that touch it are lent beside it; and with these, as `ahead`, h of its first values where it is known beforehand:
+// value v's at place v - 1, NONE where it has none.
 pub struct Seat {
     pub own: u8,
     pub n: u8,
@@ -80,18 +90,36 @@ pub fn cost_with(seat: Seat, costs: &[u8], values: [u8; 16], k: u8, v: u8) -> Co
 }
 
 // The lookahead bound: over later units, the least cost of own value v with any value of that unit; forbidden where one has none for it.
-pub fn h(seat: Seat, costs: &[u8], v: u8) -> Cost
-    ensures { λ r. ⌜ (r ≡ h (viewFrom seat (now (costs .entry))) v) × AtMost 16711425 r ⌝ }
+pub fn h(seat: Seat, costs: &[u8], ahead: &[u32], v: u8) -> Cost
+    ensures { λ r. ⌜ (r ≡ h (viewKnowing seat (now (costs .entry)) (now (ahead .entry))) v) × AtMost aheadLimit r ⌝ }
 {
-    later_cost(seat, costs, wide(v))
+    known_h(seat, costs, ahead, wide(v))
+}
+
+// h of the first 16 own values, as it is known beforehand.
+pub fn lookahead(seat: Seat, costs: &[u8]) -> [u32; 16]
+    ensures { λ r. ⌜ Knows (viewFrom seat (now (costs .entry))) r ⌝ }
+{
+    let mut ahead = [0u32; 16];
+    let mut k = 0;
+    while k < 16 {
+        ahead[k] = as_number(later_cost(seat, costs, k + 1));
+        k += 1;
+    }
+    ahead
 }
 
 // The least, over own values, of the cost with the values of the first k units and the lookahead bound; NONE where no value is left.
-pub fn estimate(seat: Seat, costs: &[u8], values: [u8; 16], k: u8) -> u32
-    ensures { λ r. ⌜ r ≡ asNumber (estimate (viewFrom seat (now (costs .entry))) values k) ⌝ }
+pub fn estimate(seat: Seat, costs: &[u8], ahead: &[u32], values: [u8; 16], k: u8) -> u32
+    ensures { λ r. ⌜ r ≡ asNumber (estimate (viewKnowing seat (now (costs .entry)) (now (ahead .entry))) values k) ⌝ }
 {
-    let d = size_of(seat, place_of(seat));
-    least_cost(seat, costs, values, wide(k), d)
+    let place = place_of(seat);
+    let d = size_of(seat, place);
+    if rows::in_rows(place, wide(k), d) {
+        let sums = rows::prefix_sums(seat, costs, values, wide(k));
+        return rows::least_sum(seat, costs, ahead, sums, d);
+    }
+    least_cost(seat, costs, ahead, values, wide(k), d)
 }
 
 // How many costs touch the unit.
@@ -185,9 +213,29 @@ fn cost_of(number: u32) -> Cost
     Cost::Of(number)
 }
 
-// The lookahead bound of own value v. What is no value costs nothing: the runs are then read from no bytes, as zeros.
+// The lookahead bound of own value v, as it is known or worked out.
+fn known_h(seat: Seat, costs: &[u8], ahead: &[u32], v: usize) -> Cost
+    ensures { λ r. ⌜ (r ≡ h (viewKnowing seat (now (costs .entry)) (now (ahead .entry))) v) × AtMost aheadLimit r ⌝ }
+{
+    if !is_value(ahead.len(), v) {
+        return later_cost(seat, costs, v);
+    }
+    ahead_cost(ahead[v - 1])
+}
+
+// What a number stands for that is known as h.
+fn ahead_cost(number: u32) -> Cost
+    ensures { λ r. ⌜ (r ≡ aheadCost number) × AtMost aheadLimit r ⌝ }
+{
+    if AHEAD_LIMIT < number {
+        return Cost::Forbidden;
+    }
+    Cost::Of(number)
+}
+
+// The lookahead bound of own value v, worked out. What is no value costs nothing: the runs are then read from no bytes, as zeros.
 fn later_cost(seat: Seat, costs: &[u8], v: usize) -> Cost
-    ensures { λ r. ⌜ (r ≡ h (viewFrom seat (now (costs .entry))) v) × AtMost 16711425 r ⌝ }
+    ensures { λ r. ⌜ (r ≡ h (viewFrom seat (now (costs .entry))) v) × AtMost aheadLimit r ⌝ }
 {
     if is_value(size_of(seat, place_of(seat)), v) {
         return least_runs(seat, costs, v);
@@ -198,7 +246,7 @@ fn later_cost(seat: Seat, costs: &[u8], v: usize) -> Cost
 // The runs of own value v with later units, the least of each added up.
 fn least_runs(seat: Seat, costs: &[u8], v: usize) -> Cost
     requires { ⌜ (1 ≤ v) × (v ≤ 255) ⌝ }
-    ensures { λ r. ⌜ (r ≡ runsFrom seat (now (costs .entry)) v (pred (seat .own) + 1)) × AtMost 16711425 r ⌝ }
+    ensures { λ r. ⌜ (r ≡ runsFrom seat (now (costs .entry)) v (pred (seat .own) + 1)) × AtMost aheadLimit r ⌝ }
 {
     let place = place_of(seat);
     let d = size_of(seat, place);
@@ -234,28 +282,28 @@ fn least_run(costs: &[u8], start: usize, e: usize) -> u32
 }
 
 // The least, over own values up to d, of the cost with the first k units and the lookahead bound; NONE where all are forbidden.
-fn least_cost(seat: Seat, costs: &[u8], values: [u8; 16], k: usize, d: usize) -> u32
+fn least_cost(seat: Seat, costs: &[u8], ahead: &[u32], values: [u8; 16], k: usize, d: usize) -> u32
     requires { ⌜ (k ≤ 255) × (d ≡ domFrom seat (pred (seat .own))) ⌝ }
-    ensures { λ r. ⌜ r ≡ asNumber (estimate (viewFrom seat (now (costs .entry))) values k) ⌝ }
+    ensures { λ r. ⌜ r ≡ asNumber (estimate (viewKnowing seat (now (costs .entry)) (now (ahead .entry))) values k) ⌝ }
 {
     let mut best = base::NONE;
     let mut v = 0;
     while v < d {
         v += 1;
-        best = lesser(best, value_cost(seat, costs, values, k, v));
+        best = lesser(best, value_cost(seat, costs, ahead, values, k, v));
     }
     best
 }
 
 // The cost of own value v with the first k units, and its lookahead bound; NONE where it is forbidden.
-fn value_cost(seat: Seat, costs: &[u8], values: [u8; 16], k: usize, v: usize) -> u32
+fn value_cost(seat: Seat, costs: &[u8], ahead: &[u32], values: [u8; 16], k: usize, v: usize) -> u32
     requires { ⌜ k ≤ 255 ⌝ }
-    ensures { λ r. ⌜ r ≡ asNumber (costWith (viewFrom seat (now (costs .entry))) values k v ⊕ h (viewFrom seat (now (costs .entry))) v) ⌝ }
+    ensures { λ r. ⌜ r ≡ asNumber (costWith (viewKnowing seat (now (costs .entry)) (now (ahead .entry))) values k v ⊕ h (viewKnowing seat (now (costs .entry)) (now (ahead .entry))) v) ⌝ }
 {
     let Cost::Of(cost) = prefix_cost(seat, costs, values, k, v) else {
         return base::NONE;
     };
-    let Cost::Of(later) = later_cost(seat, costs, v) else {
+    let Cost::Of(later) = known_h(seat, costs, ahead, v) else {
         return base::NONE;
     };
     cost + later

@@ -16,7 +16,7 @@ use Rattle.costs.specs.declared.ValueOrder.the-variants.{Ascending, CheapestFir
 use Rattle.costs.specs.declared.Cost.{Cost}
 use Rattle.costs.specs.Cost.{asNumber}
 use Rattle.costs.specs.Cost.Laws.{AtMost}
-use Rattle.costs.specs.Instance.{View, viewFrom}
+use Rattle.costs.specs.Instance.{View, viewKnowing}
 use Rattle.costs.specs.Bounds.{h}
 use Rattle.costs.specs.Order.{earlier, placeTried, next, left}
 use Rattle.costs.specs.Order.Laws.{place-of-none, place-least, place-most, next-place, next-least, next-is, next-none, ascending-place, earlier-is, cheaper-numbers}
@@ -74,13 +74,13 @@ module _ (w : View) (keys : List ℕ) where
           let old = known k (omega (arith, l, ne)) in
           (getD-set-other keys i k x 0 ne ∙ old .0, old .1)
 
-module _ (seat : Seat) (costs keys : List ℕ) where
-  pub all-known : Shaped seat → Known (viewFrom seat costs) keys (getD (seat .sizes) (seat .own - 1) 0) → Keys (viewFrom seat costs) keys
-  all-known s known cheapest k l = known k (omega (arith, l, dom-lent seat costs (s .number .first) (s .within)))
+module _ (seat : Seat) (costs ahead keys : List ℕ) where
+  pub all-known : Shaped seat → Known (viewKnowing seat costs ahead) keys (getD (seat .sizes) (seat .own - 1) 0) → Keys (viewKnowing seat costs ahead) keys
+  all-known s known cheapest k l = known k (omega (arith, l, dom-lent seat costs ahead (s .number .first) (s .within)))
 
   -- ascending, none is asked for
-  pub none-asked : seat .order ≡ Ascending → Keys (viewFrom seat costs) keys
-  none-asked plain cheapest k l = let z : _≡_ {A = ℕ} 0 1 = cc (order-lent seat costs) in absurd (omega arith)
+  pub none-asked : seat .order ≡ Ascending → Keys (viewKnowing seat costs ahead) keys
+  none-asked plain cheapest k l = let z : _≡_ {A = ℕ} 0 1 = cc (order-lent seat costs ahead) in absurd (omega arith)
 
 -- ---- by rising h: two values compared by their keys
 

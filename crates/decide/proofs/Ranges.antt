@@ -9,7 +9,7 @@ use lib.ListN.{getD}
 use borrow.Author.Tests.{le-leb, lt-leb, eq-eqb, ne-eqb}
 use Rattle.base.specs.Limits.{estimateLimit, prefixLimit}
 use Rattle.costs.specs.declared.Seat.{Seat}
-use Rattle.costs.specs.Instance.{viewFrom}
+use Rattle.costs.specs.Instance.{viewKnowing}
 use Rattle.costs.specs.Order.{placeTried}
 use Rattle.base.specs.Every.{every}
 use Rattle.base.specs.Every.Laws.{every-more, every-not}
@@ -127,8 +127,8 @@ module _ (n : ℕ) (sizes : List ℕ) (own paid place : ℕ) (u : Unit) where
   range-unit e = rw e
 
 -- what a unit pays, and its own value's place, by its view
-pub range-lent : (seat : Seat) (costs : List ℕ) (u : Unit) (paid place : ℕ) → 1 ≤ seat .own → paid ≡ ownCost (viewFrom seat costs) u
-    → place ≡ placeTried (viewFrom seat costs) (ownValue (viewFrom seat costs) u)
-    → paidInRange (seat .n) (seat .sizes) (seat .own) paid place u ≡ inRange (seat .sizes) (viewFrom seat costs) u
+pub range-lent : (seat : Seat) (costs ahead : List ℕ) (u : Unit) (paid place : ℕ) → 1 ≤ seat .own → paid ≡ ownCost (viewKnowing seat costs ahead) u
+    → place ≡ placeTried (viewKnowing seat costs ahead) (ownValue (viewKnowing seat costs ahead) u)
+    → paidInRange (seat .n) (seat .sizes) (seat .own) paid place u ≡ inRange (seat .sizes) (viewKnowing seat costs ahead) u
 unfolding inRange
-range-lent seat costs u paid place first pays tried = rw (pays, tried, own-lent seat costs first, n-lent seat costs)
+range-lent seat costs ahead u paid place first pays tried = rw (pays, tried, own-lent seat costs ahead first, n-lent seat costs ahead)

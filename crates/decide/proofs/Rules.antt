@@ -4,31 +4,37 @@ use Prim.Native.Nat.{ℕ, zero, suc, pred, _+_, _-_, _≤_, _<_}
 use native.Mathlib.Omega.{arith}
 use native.Mathlib.Numerals.{add-one}
 use mathlib.Core.Path.{_≡_, refl, sym, ap, _∙_}
+use mathlib.Core.Logic.{_≢_}
 use mathlib.Core.Bool.{Bool, true, false, cond, _&&_, false≢true}
 use mathlib.Core.List.{List}
 use lib.Dec.{ltb, eqb}
-use lib.ListN.{getD}
-use borrow.Author.Tests.{lt-ltb, le-ltb, le-leb, lt-leb, ne-eqb}
+use lib.ListN.{length, getD}
+use lib.Seq.{getD-set-same}
+use borrow.Author.Tests.{lt-ltb, le-ltb, le-leb, lt-leb, ne-eqb, eqb-true, eqb-false}
 use Rattle.base.specs.Sums.{sumFrom}
 use Rattle.costs.specs.declared.Seat.{Seat}
-use Rattle.costs.specs.Instance.{View, viewFrom}
+use Rattle.costs.specs.Cost.{asNumber}
+use Rattle.costs.specs.Instance.{View, viewKnowing}
+use Rattle.costs.specs.Bounds.{costWith}
 use Rattle.costs.specs.Order.{left}
 use Rattle.message.specs.declared.Message.{Message}
 use Rattle.message.specs.declared.Kind.{Kind}
 use Rattle.rules.specs.declared.Unit.{Unit}
+use Rattle.rules.specs.declared.Held.{Held}
 use Rattle.rules.specs.declared.Ordering.{Ordering}
 use Rattle.rules.specs.declared.Ordering.the-variants.{Less, Equal, Greater}
-use Rattle.rules.specs.State.{zeros, fresh, withThreshold, withCpa, withCounter, withEstimates, ownValue, compareOn, sameOn, notLess}
-use Rattle.rules.specs.Step.{refused, quiet, takeBound, bareCost, takeOff, backtrack, tryAfter, begun, assign, resume, onDown, isOut, isCpaOut, onBack, onCpa, onFresh, onRequest, onOwnEstimate, onTimely, onEstimate, byKind, respond}
-use Rattle.rules.specs.Tests.{stored, sumLater, onOwn, takeLower, reachedByEstimates, unlessStopped}
+use Rattle.rules.specs.State.{zeros, fresh, withThreshold, withCpa, ownValue, ownCost, compareOn, sameOn, notLess}
+use Rattle.rules.specs.Step.{refused, quiet, takeBound, bareCost, takeOff, backtrack, tryAfter, begun, assign, resume, received, onDown, isOut, isCpaOut, onBack, onCpa, onFresh, onRequest, onOwnEstimate, onTimely, onEstimate, byKind, respond}
+use Rattle.rules.specs.Tests.{holding, stored, sumLater, onOwn, takeLower, reachedByEstimates, unlessStopped}
 use Rattle.rules.specs.Calls.{start}
-use Rattle.rules.specs.Ready.{Ready, Heard, decidedOf}
-use Rattle.decide.proofs.Lent.{value-lent}
+use Rattle.rules.specs.Ready.{Shaped, Ready, Heard, Paid, decidedOf}
 use Rattle.rules.specs.Laws.Readiness.{pred-sub}
+use Rattle.rules.specs.Laws.Assign.{cost-set}
+use Rattle.decide.proofs.Lent.{place-lent, dom-lent, value-lent, no-value-no-cost, paid-of}
 
 -- ---- the state stays ready
 
-pub ready-lower : (seat : Seat) (b : Bool) (B : ℕ) (l : List ℕ) (u : Unit) → Ready seat u → Ready seat (takeLower b B l u)
+ready-lower : (seat : Seat) (b : Bool) (B : ℕ) (l : List ℕ) (u : Unit) → Ready seat u → Ready seat (takeLower b B l u)
 ready-lower seat true B l u r = record { threshold = r .threshold; value = r .value; counter = r .counter }
 ready-lower seat false B l u r = r
 
@@ -36,16 +42,22 @@ pub ready-bound : (seat : Seat) (m : Message) (u t : Unit) → t ≡ takeBound m
 ready-bound seat m u t e r = rw e (ready-lower seat (ltb (m .bound) (u .bound)) (m .bound) (m .best) u r)
 
 -- the cpa of a message from a lower unit has no own value
-pub ready-down : (seat : Seat) (m : Message) (u : Unit) → Heard (seat .own) m → m .sender < seat .own → Ready seat u → Ready seat (withCpa (m .stamp) (m .values) (m .cost) u)
+ready-down : (seat : Seat) (m : Message) (u : Unit) → Heard (seat .own) m → m .sender < seat .own → Ready seat u → Ready seat (withCpa (m .stamp) (m .values) (m .cost) u)
 ready-down seat m u d l r = record { threshold = r .threshold; value = omega (arith, d .bare l); counter = λ z. absurd (none z) } where
   none : 0 < getD (m .values) (seat .own - 1) 0 → ⊥
   none z = omega (arith, d .bare l)
 
-pub ready-follow : (seat : Seat) (m : Message) (u t : Unit) → t ≡ withThreshold (m .stamp) u → Heard (seat .own) m → Ready seat u → Ready seat t
-ready-follow seat m u t e d r = rw e (record { threshold = d .stamp; value = r .value; counter = r .counter })
+pub ready-follow : (seat : Seat) (m : Message) (u : Unit) → Heard (seat .own) m → Ready seat u → Ready seat (withThreshold (m .stamp) u)
+ready-follow seat m u d r = record { threshold = d .stamp; value = r .value; counter = r .counter }
 
-pub ready-stored : (seat : Seat) (m : Message) (u t : Unit) → t ≡ stored m u → Ready seat u → Ready seat t
-ready-stored seat m u t e r = rw e (record { threshold = r .threshold; value = r .value; counter = r .counter })
+pub ready-received : (seat : Seat) (m : Message) (u : Unit) → Heard (seat .own) m → m .sender < seat .own → Ready seat u → Ready seat (received m u)
+ready-received seat m u d l r = ready-lower seat (ltb (m .bound) (u .bound)) (m .bound) (m .best) (withCpa (m .stamp) (m .values) (m .cost) u) (ready-down seat m u d l r)
+
+-- what is held of a unit asks for no estimates
+pub ready-held : (seat : Seat) (t : Held) (e : List ℕ) (u : Unit) → holding t e ≡ u → Ready seat u → Ready seat (holding t zeros)
+ready-held seat t e u same r =
+    let q : Ready seat (holding t e) = rw same r in
+    record { threshold = q .threshold; value = q .value; counter = q .counter }
 
 -- ---- assign
 
@@ -54,15 +66,23 @@ begun-counter : (v c : ℕ) → (0 < v → c ≤ 16) → cond (eqb v 0) 0 c ≤ 
 begun-counter zero c f = omega arith
 begun-counter (suc v) c f = simp (ne-eqb (suc v) 0 (λ z. omega arith)) (f (omega arith))
 
-module _ (seat : Seat) (costs : List ℕ) where
+module _ (seat : Seat) (costs ahead : List ℕ) where
   abbrev view : View
-  view = viewFrom seat costs
+  view = viewKnowing seat costs ahead
 
-  pub begun-lent : (u : Unit) (x : ℕ) → x ≡ cond (eqb (getD (u .values) (seat .own - 1) 0) 0) 0 (u .counter)
-      → takeOff view (withCounter x (withEstimates zeros u)) ≡ begun view u
-  begun-lent u x e =
-      ap (λ (y : ℕ). takeOff view (withCounter y (withEstimates zeros u)))
-      (e ∙ ap (λ (v : ℕ). cond (eqb v 0) 0 (u .counter)) (sym (value-lent seat costs u)))
+  -- the own value's costs are among those of all values
+  pub own-paid-lent : (u : Unit) (paid : List ℕ) (x : ℕ) → Shaped seat → Ready seat u → Paid view (u .values) paid
+      → (getD (u .values) (seat .own - 1) 0 ≡ 0 → x ≡ 0) × (1 ≤ getD (u .values) (seat .own - 1) 0 → x ≡ getD paid (getD (u .values) (seat .own - 1) 0 - 1) 0) → x ≡ ownCost view u
+  own-paid-lent u paid x s r known is = go (eqb (getD (u .values) (seat .own - 1) 0) 0) refl
+    where
+      go : (t : Bool) → eqb (getD (u .values) (seat .own - 1) 0) 0 ≡ t → x ≡ ownCost view u
+      go true e = let none = eqb-true (getD (u .values) (seat .own - 1) 0) 0 e in is .0 none ∙ no-value-no-cost seat costs ahead u none
+      go false e =
+          let ne : getD (u .values) (seat .own - 1) 0 ≢ 0 = eqb-false (getD (u .values) (seat .own - 1) 0) 0 e in
+          let some : 1 ≤ getD (u .values) (seat .own - 1) 0 = omega (arith, ne) in
+          is .1 some
+          ∙ paid-of view (u .values) paid (getD (u .values) (seat .own - 1) 0) some (omega (arith, r .value, dom-lent seat costs ahead (s .number .first) (s .within))) known
+          ∙ ap (λ (v : ℕ). asNumber (costWith view (u .values) (view .place) v)) (sym (value-lent seat costs ahead u))
 
   module _ (u t : Unit) (e : t ≡ begun view u) where
     -- the threshold is as it was
@@ -72,11 +92,22 @@ module _ (seat : Seat) (costs : List ℕ) where
     pub begun-few : Ready seat u → t .counter ≤ 16
     begun-few r =
         let f : t .counter ≡ cond (eqb (ownValue view u) 0) 0 (u .counter) = ap (λ (s : Unit). s .counter) e in
-        rw (f, value-lent seat costs u) (begun-counter (getD (u .values) (seat .own - 1) 0) (u .counter) (r .counter))
+        rw (f, value-lent seat costs ahead u) (begun-counter (getD (u .values) (seat .own - 1) 0) (u .counter) (r .counter))
+
+    -- the own value is off
+    pub begun-stamp : seat .own - 1 < length (u .stamp) → getD (t .stamp) (seat .own - 1) 0 ≡ 0
+    begun-stamp l = rw (e, place-lent seat costs ahead) (getD-set-same (u .stamp) (seat .own - 1) 0 0 l)
+
+    pub begun-value : seat .own - 1 < length (u .values) → getD (t .values) (seat .own - 1) 0 ≡ 0
+    begun-value l = rw (e, place-lent seat costs ahead) (getD-set-same (u .values) (seat .own - 1) 0 0 l)
+
+    -- so each value costs what it did
+    pub begun-paid : (paid : List ℕ) → Paid view (u .values) paid → Paid view (t .values) paid
+    begun-paid paid known k l = rw e (known k l ∙ ap asNumber (sym (cost-set view (u .values) 0 (suc k))))
 
     pub assign-lent : tryAfter view (left view (getD (u .values) (seat .own - 1) 0)) (getD (u .values) (seat .own - 1) 0) false t ≡ assign view u
     unfolding assign
-    assign-lent = rw (e, ← value-lent seat costs u)
+    assign-lent = rw (e, ← value-lent seat costs ahead u)
 
 -- ---- resume
 
@@ -89,12 +120,6 @@ unfolding resume
 resume-on w u l = simp (lt-leb _ _ l)
 
 -- ---- cpas
-
-pub is-out-not : (w : View) (u : Unit) (k : ℕ) → w .place ≡ k → getD (u .values) k 0 < 1 → isOut w u ≡ false
-is-out-not w u k p l = rw p (le-ltb 0 (getD (u .values) k 0) (omega arith))
-
-pub is-out : (w : View) (u : Unit) (k : ℕ) → w .place ≡ k → 1 ≤ getD (u .values) k 0 → isOut w u ≡ true
-is-out w u k p l = rw p (lt-ltb 0 (getD (u .values) k 0) (omega arith))
 
 -- the stamp of the cpa out, then its values and cost
 pub cpa-out : (w : View) (u : Unit) (m : Message) (own : ℕ) (stamps values : Bool) → suc (w .place) ≡ own

@@ -10,7 +10,7 @@ use lib.ListN.{getD, set}
 use borrow.Author.Tests.{lt-ltb, le-ltb, le-leb, lt-leb}
 use Rattle.base.specs.Sums.{sumFrom}
 use Rattle.costs.specs.declared.Seat.{Seat}
-use Rattle.costs.specs.Instance.{View, viewFrom}
+use Rattle.costs.specs.Instance.{View, viewKnowing}
 use Rattle.message.specs.declared.Kind.{Kind}
 use Rattle.message.specs.declared.Message.{Message}
 use Rattle.message.specs.declared.Read.{Read}
@@ -41,7 +41,7 @@ module _ (own n : ℕ) (u : Unit) (m : Message) where
 pub summed : (seat : Seat) (l : List ℕ) (r : ℕ) → 1 ≤ seat .own → ((w : View) → suc (w .place) ≡ seat .own → w .n ≡ seat .n → r ≡ sumLater w l)
     → r ≡ sumFrom (λ (j : ℕ). getD l j 0) (seat .own) (seat .n - seat .own)
 summed seat l r first f =
-    f (viewFrom seat []) (own-lent seat [] first) (n-lent seat []) ∙ rw (own-lent seat [] first, n-lent seat [])
+    f (viewKnowing seat [] []) (own-lent seat [] [] first) (n-lent seat [] []) ∙ rw (own-lent seat [] [] first, n-lent seat [] [])
 
 -- ---- any message
 

@@ -5,66 +5,73 @@ use crate::backtrack::carry;
 use crate::backtrack::take_off;
 use crate::order::keys;
 use crate::order::next;
+use crate::state::release;
 use crate::state::with_best;
-use costs::Cost;
 use costs::Seat;
 use rules::Decided;
+use rules::Held;
 use rules::Plan;
 use rules::Sending;
 use rules::Unit;
 ghost use mathlib.Core.Path.{_≡_};
-ghost use mathlib.Core.Bool.{false, cond};
-ghost use Prim.Native.Nat.{suc, _+_, _-_, _≤_};
-ghost use lib.Dec.{eqb};
+ghost use mathlib.Core.Bool.{false};
+ghost use mathlib.Core.List.{List};
+ghost use Prim.Native.Nat.{ℕ, suc, _+_, _-_, _≤_};
+ghost use lib.Dec.{ltb};
 ghost use lib.ListN.{getD};
-ghost use Rattle.costs.specs.Instance.{View, viewFrom};
+ghost use Rattle.base.specs.Limits.{NONE};
+ghost use Rattle.costs.specs.Cost.{asNumber};
+ghost use Rattle.costs.specs.Bounds.{h};
+ghost use Rattle.costs.specs.Instance.{View, viewKnowing};
 ghost use Rattle.costs.specs.Order.{left};
-ghost use Rattle.rules.specs.State.{withBest};
-ghost use Rattle.rules.specs.Step.{takeOff, carried, write, tryAfter, begun, assign};
-ghost use Rattle.rules.specs.Tests.{costBelow};
-ghost use Rattle.rules.specs.Ready.{Own, Shaped, Ready, decidedOf};
+ghost use Rattle.rules.specs.State.{zeros, ownCost};
+ghost use Rattle.rules.specs.Step.{write, tryAfter, begun, assign};
+ghost use Rattle.rules.specs.Tests.{holding, improvedBy};
+ghost use Rattle.rules.specs.Ready.{Own, Shaped, Ready, OwnOff, Paid, decidedOf, sentOn};
 
 // Assign: the first value after the own one that stays below the bound is written and sent on; without one, backtrack.
-pub(crate) fn assign(seat: Seat, costs: &[u8], u: Unit) -> Decided
-    requires { ⌜ Shaped seat × Ready seat u ⌝ }
-    ensures { λ r. ⌜ ((was : Unit) → r ≡ decidedOf was (assign (viewFrom seat (now (costs .entry))) u)) ⌝ }
+pub(crate) fn assign(seat: Seat, costs: &[u8], ahead: &[u32], t: Held) -> Decided
+    requires { ⌜ Shaped seat × Ready seat (holding t zeros) ⌝ }
+    ensures { λ r. ⌜ ((was : Unit) (e : List ℕ) → r ≡ decidedOf was (assign (viewKnowing seat (now (costs .entry)) (now (ahead .entry))) (holding t e))) ⌝ }
 {
-    let place = (seat.own - 1) as usize;
-    let value = u.values[place];
-    let t = begin(seat, costs, u);
-    try_after(seat, costs, value, t)
+    let values = t.values;
+    let value = values[(seat.own - 1) as usize];
+    let paid = costs::paid(seat, costs, values);
+    let s = begin(seat.own, own_paid(value, paid), t);
+    try_after(seat, costs, ahead, paid, value, s)
 }
 
-// Estimates cleared, the counter as assigning begins, the own value off.
-fn begin(seat: Seat, costs: &[u8], u: Unit) -> Unit
-    requires { ⌜ Own (seat .own) ⌝ }
-    ensures { λ r. ⌜ r ≡ begun (viewFrom seat (now (costs .entry))) u ⌝ }
-{
-    let place = (seat.own - 1) as usize;
-    let count = started(u.values[place], u.counter);
-    let mut t = u;
-    t.estimates = [0u32; 16];
-    t.counter = count;
-    take_off(seat, costs, t)
-}
-
-// The counter where assigning begins: 0 with no own value.
-fn started(value: u8, counter: u8) -> u8
-    ensures { λ r. ⌜ r ≡ cond (eqb value 0) 0 counter ⌝ }
+// The own value's costs, of those of all values; without one there are none.
+fn own_paid(value: u8, paid: [u32; 16]) -> u32
+    requires { ⌜ value ≤ 16 ⌝ }
+    ensures { λ r. ⌜ (value ≡ 0 → r ≡ 0) × (1 ≤ value → r ≡ getD paid (value - 1) 0) ⌝ }
 {
     if value == 0 {
         return 0;
     }
-    counter
+    paid[(value - 1) as usize]
 }
 
-// Try the values after `from`, in the order of the seat; the own value is off.
-fn try_after(seat: Seat, costs: &[u8], from: u8, u: Unit) -> Decided
-    requires { ⌜ Shaped seat × (from ≤ getD (seat .sizes) (seat .own - 1) 0) × (getD (u .threshold) (seat .own - 1) 0 ≤ 17) × (u .counter ≤ 16) ⌝ }
-    ensures { λ r. ⌜ ((was : Unit) → r ≡ decidedOf was (tryAfter (viewFrom seat (now (costs .entry))) (left (viewFrom seat (now (costs .entry))) from) from false u)) ⌝ }
+// The counter as assigning begins, 0 with no own value; and the own value off, which costs `paid`.
+fn begin(own: u8, paid: u32, t: Held) -> Held
+    requires { ⌜ Own own ⌝ }
+    ensures { λ r. ⌜ ((w : View) (e : List ℕ) → suc (w .place) ≡ own → paid ≡ ownCost w (holding t e) → holding r zeros ≡ begun w (holding t e)) ⌝ }
 {
-    let keys = keys(seat, costs);
-    let mut t = u;
+    let mut s = take_off(own, paid, t);
+    if t.values[(own - 1) as usize] == 0 {
+        s.counter = 0;
+    }
+    s
+}
+
+// Try the values after `from`, in the order of the seat; the own value is off. Sums are wide, so that none wraps; NONE, for what is forbidden,
+// reaches every bound.
+fn try_after(seat: Seat, costs: &[u8], ahead: &[u32], paid: [u32; 16], from: u8, s: Held) -> Decided
+    requires { ⌜ Shaped seat × Paid (viewKnowing seat (now costs) (now ahead)) (s .values) paid × (from ≤ getD (seat .sizes) (seat .own - 1) 0) × OwnOff (seat .own) s ⌝ }
+    ensures { λ r. ⌜ ((was : Unit) → r ≡ decidedOf was (tryAfter (viewKnowing seat (now (costs .entry)) (now (ahead .entry))) (left (viewKnowing seat (now (costs .entry)) (now (ahead .entry))) from) from false (holding s zeros))) ⌝ }
+{
+    let keys = keys(seat, costs, ahead);
+    let mut t = s;
     let mut improved = false;
     let mut records = 0;
     let mut v = from;
@@ -72,81 +79,81 @@ fn try_after(seat: Seat, costs: &[u8], from: u8, u: Unit) -> Decided
     while after != 0 {
         v = after;
         after = next(seat, keys, v);
-        if let Cost::Of(cost) = cost_below(seat, costs, v, t) {
+        let place = (v - 1) as usize;
+        let cost = base::wide_u64(t.cost) + base::wide_u64(paid[place]);
+        if below_bound(seat, costs, ahead, v, cost, t.bound) {
             records += 1;
-            let s = put(seat.own, v, cost, t);
             if seat.own != seat.n {
-                let sending = forward(seat.own, s);
-                return Decided {
-                    refusal: 0,
-                    unit: s,
-                    sending,
-                    records,
-                };
+                return forward(seat.own, v, cost as u32, records, t);
             }
-            t = improve(seat, costs, s);
+            t = improve(seat.own, v, cost as u32, t);
             improved = true;
         }
     }
-    let mut back = backtrack(seat.own, improved, t);
-    back.records = records;
-    back
+    backtrack(seat.own, improved, records, t)
 }
 
-// The cost with own value v where that and h are below the bound, else forbidden; wide, so that no sum wraps.
-fn cost_below(seat: Seat, costs: &[u8], v: u8, u: Unit) -> Cost
-    requires { ⌜ Own (seat .own) ⌝ }
-    ensures { λ r. ⌜ r ≡ costBelow (viewFrom seat (now (costs .entry))) v u ⌝ }
+// Whether this cost with own value v, and h, stay below the bound. h is asked for only where the cost does.
+fn below_bound(seat: Seat, costs: &[u8], ahead: &[u32], v: u8, cost: u64, bound: u32) -> bool
+    requires { ⌜ cost ≤ 8589934590 ⌝ }
+    ensures { λ r. ⌜ (r ≡ ltb (cost + asNumber (h (viewKnowing seat (now (costs .entry)) (now (ahead .entry))) v)) bound) × (bound ≤ NONE) ⌝ }
 {
-    let values = u.values;
-    let Cost::Of(paid) = costs::cost_with(seat, costs, values, seat.own - 1, v) else {
-        return Cost::Forbidden;
-    };
-    let Cost::Of(ahead) = costs::h(seat, costs, v) else {
-        return Cost::Forbidden;
-    };
-    let cost = base::wide_u64(u.cost) + base::wide_u64(paid);
-    if base::wide_u64(u.bound) <= cost + base::wide_u64(ahead) {
-        return Cost::Forbidden;
+    if base::wide_u64(bound) <= cost {
+        return false;
     }
-    Cost::Of(cost as u32)
+    let later = costs::as_number(costs::h(seat, costs, ahead, v));
+    cost + base::wide_u64(later) < base::wide_u64(bound)
+}
+
+// Value v at this cost is written: the cpa goes to the next unit, and requests to every later one.
+fn forward(own: u8, v: u8, cost: u32, records: u8, t: Held) -> Decided
+    requires { ⌜ Own own × (t .counter ≤ 254) ⌝ }
+    ensures { λ r. ⌜ ((w : View) → suc (w .place) ≡ own → r ≡ sentOn w records (write w v cost (holding t zeros))) ⌝ }
+{
+    let s = put(own, v, cost, t);
+    let message = carry(own, s);
+    Decided {
+        refusal: 0,
+        unit: release([0u32; 16], s),
+        sending: Sending {
+            plan: Plan::Forward,
+            improved: false,
+            message,
+        },
+        records,
+    }
 }
 
 // Value v at this cost is written: one record.
-fn put(own: u8, v: u8, cost: u32, u: Unit) -> Unit
-    requires { ⌜ Own own × (u .counter ≤ 254) ⌝ }
-    ensures { λ r. ⌜ (r .counter ≡ u .counter + 1) × (getD (r .threshold) (own - 1) 0 ≡ u .counter + 1) × ((w : View) → suc (w .place) ≡ own → r ≡ write w v cost u) ⌝ }
+fn put(own: u8, v: u8, cost: u32, t: Held) -> Held
+    requires { ⌜ Own own × (t .counter ≤ 254) ⌝ }
+    ensures { λ r. ⌜ ((w : View) (e : List ℕ) → suc (w .place) ≡ own → holding r e ≡ write w v cost (holding t e)) ⌝ }
 {
     let place = (own - 1) as usize;
-    let count = u.counter + 1;
-    let mut t = u;
-    t.counter = count;
-    t.stamp[place] = count;
-    t.values[place] = v;
-    t.cost = cost;
-    let stamp = t.stamp;
-    t.threshold = stamp;
-    t
+    let count = t.counter + 1;
+    let mut s = t;
+    s.counter = count;
+    s.stamp[place] = count;
+    s.values[place] = v;
+    s.cost = cost;
+    let stamp = s.stamp;
+    s.threshold = stamp;
+    s
 }
 
-// Unit n takes its cost as bound and its values as best, and the own value off.
-fn improve(seat: Seat, costs: &[u8], u: Unit) -> Unit
-    requires { ⌜ Own (seat .own) ⌝ }
-    ensures { λ r. ⌜ r ≡ takeOff (viewFrom seat (now (costs .entry))) (withBest (u .cost) (u .values) u) ⌝ }
+// Unit n writes value v at this cost and takes it as its best. It is off again at once, so the cpa in hand stays.
+fn improve(own: u8, v: u8, cost: u32, t: Held) -> Held
+    requires { ⌜ Own own × (t .counter ≤ 254) ⌝ }
+    ensures { λ r. ⌜ (getD (r .threshold) (own - 1) 0 ≡ t .counter + 1) × ((w : View) (e : List ℕ) → suc (w .place) ≡ own → holding r e ≡ improvedBy w v cost (holding t e)) ⌝ }
 {
-    let values = u.values;
-    let t = with_best(u.cost, values, u);
-    take_off(seat, costs, t)
-}
-
-// The cpa goes to the next unit, and requests to every later one.
-fn forward(own: u8, u: Unit) -> Sending
-    ensures { λ r. ⌜ ((w : View) → suc (w .place) ≡ own → r ≡ record { plan = Plan.Forward; improved = false; message = carried w u }) ⌝ }
-{
-    let message = carry(own, u);
-    Sending {
-        plan: Plan::Forward,
-        improved: false,
-        message,
-    }
+    let place = (own - 1) as usize;
+    let count = t.counter + 1;
+    let mut best = t.values;
+    best[place] = v;
+    let mut threshold = t.stamp;
+    threshold[place] = count;
+    let mut s = with_best(cost, best, t);
+    s.counter = count;
+    s.threshold = threshold;
+    s
 }

@@ -1,97 +1,94 @@
 // Backtracking: 01, "Back up"; the own value off, and the fields that a cpa's messages carry.
 
-use crate::state::own_cost;
-use crate::state::with_stopped;
-use costs::Seat;
+use crate::state::release;
 use message::Message;
 use rules::Decided;
+use rules::Held;
 use rules::Plan;
 use rules::Sending;
 use rules::Unit;
 ghost use mathlib.Core.Path.{_≡_};
-ghost use Prim.Native.Nat.{suc, _-_, _≤_};
+ghost use mathlib.Core.List.{List};
+ghost use Prim.Native.Nat.{ℕ, suc, _-_, _≤_};
 ghost use lib.ListN.{getD};
-ghost use Rattle.costs.specs.Instance.{View, viewFrom};
-ghost use Rattle.rules.specs.Step.{bareCost, takeOff, carried, backedUp, backtrack};
-ghost use Rattle.rules.specs.Ready.{Own, decidedOf};
+ghost use Rattle.costs.specs.Instance.{View};
+ghost use Rattle.rules.specs.State.{ownCost};
+ghost use Rattle.rules.specs.Step.{takeOff, carried, backedUp, backtrack};
+ghost use Rattle.rules.specs.Tests.{holding};
+ghost use Rattle.rules.specs.Ready.{Own, counted};
 
-// Backtrack, the own value off already.
-pub(crate) fn backtrack(own: u8, improved: bool, u: Unit) -> Decided
-    requires { ⌜ Own own × (getD (u .threshold) (own - 1) 0 ≤ 254) ⌝ }
-    ensures { λ r. ⌜ ((w : View) (was : Unit) → suc (w .place) ≡ own → r ≡ decidedOf was (backtrack w improved u)) ⌝ }
+// Backtrack after this many records, the own value off already.
+pub(crate) fn backtrack(own: u8, improved: bool, records: u8, t: Held) -> Decided
+    requires { ⌜ Own own × (getD (t .threshold) (own - 1) 0 ≤ 254) ⌝ }
+    ensures { λ r. ⌜ ((w : View) (was : Unit) (e : List ℕ) → suc (w .place) ≡ own → r ≡ counted records was (backtrack w improved (holding t e))) ⌝ }
 {
-    let unit = back_up(own, u);
-    let message = carry(own, u);
+    let message = carry(own, t);
     Decided {
         refusal: 0,
-        unit,
+        unit: back_up(own, t),
         sending: Sending {
             plan: Plan::Back,
             improved,
             message,
         },
-        records: 0,
+        records,
     }
 }
 
 // The state after backtracking: the threshold's own place up by 1, no cpa out, unit 1 stopped.
-fn back_up(own: u8, u: Unit) -> Unit
-    requires { ⌜ Own own × (getD (u .threshold) (own - 1) 0 ≤ 254) ⌝ }
-    ensures { λ r. ⌜ ((w : View) → suc (w .place) ≡ own → r ≡ backedUp w u) ⌝ }
+fn back_up(own: u8, t: Held) -> Unit
+    requires { ⌜ Own own × (getD (t .threshold) (own - 1) 0 ≤ 254) ⌝ }
+    ensures { λ r. ⌜ ((w : View) (e : List ℕ) → suc (w .place) ≡ own → r ≡ backedUp w (holding t e)) ⌝ }
 {
     let place = (own - 1) as usize;
-    let mut v = u;
-    v.threshold[place] = v.threshold[place] + 1;
-    v.estimates = [0u32; 16];
-    v.stamp = [0u8; 16];
-    v.values = [0u8; 16];
-    v.cost = 0;
+    let mut s = t;
+    s.threshold[place] = s.threshold[place] + 1;
+    s.stamp = [0u8; 16];
+    s.values = [0u8; 16];
+    s.cost = 0;
     if own == 1 {
-        return with_stopped(true, v);
+        s.stopped = true;
     }
-    v
+    release([0u32; 16], s)
 }
 
-// The own value taken off.
-pub(crate) fn take_off(seat: Seat, costs: &[u8], u: Unit) -> Unit
-    requires { ⌜ Own (seat .own) ⌝ }
-    ensures { λ r. ⌜ r ≡ takeOff (viewFrom seat (now (costs .entry))) u ⌝ }
+// The own value off, which costs `paid`.
+pub(crate) fn take_off(own: u8, paid: u32, t: Held) -> Held
+    requires { ⌜ Own own ⌝ }
+    ensures { λ r. ⌜ ((w : View) (e : List ℕ) → suc (w .place) ≡ own → paid ≡ ownCost w (holding t e) → holding r e ≡ takeOff w (holding t e)) ⌝ }
 {
-    let place = (seat.own - 1) as usize;
-    let cost = bare_cost(seat, costs, u);
-    let mut v = u;
-    v.stamp[place] = 0;
-    v.values[place] = 0;
-    v.cost = cost;
-    v
+    let place = (own - 1) as usize;
+    let mut s = t;
+    s.stamp[place] = 0;
+    s.values[place] = 0;
+    s.cost = bare_cost(t.cost, paid);
+    s
 }
 
-// The cost without the own value.
-pub(crate) fn bare_cost(seat: Seat, costs: &[u8], u: Unit) -> u32
-    requires { ⌜ Own (seat .own) ⌝ }
-    ensures { λ r. ⌜ r ≡ bareCost (viewFrom seat (now (costs .entry))) u ⌝ }
+// The cost without the own value, which costs `paid`; 0 where that is more.
+pub(crate) fn bare_cost(cost: u32, paid: u32) -> u32
+    ensures { λ r. ⌜ r ≡ cost - paid ⌝ }
 {
-    let paid = own_cost(seat, costs, u);
-    if paid <= u.cost {
-        return u.cost - paid;
+    if cost < paid {
+        return 0;
     }
-    0
+    cost - paid
 }
 
 // The fields that the messages of a cpa carry.
-pub(crate) fn carry(own: u8, u: Unit) -> Message
-    ensures { λ r. ⌜ ((w : View) → suc (w .place) ≡ own → r ≡ carried w u) ⌝ }
+pub(crate) fn carry(own: u8, t: Held) -> Message
+    ensures { λ r. ⌜ ((w : View) (e : List ℕ) → suc (w .place) ≡ own → r ≡ carried w (holding t e)) ⌝ }
 {
-    let stamp = u.stamp;
-    let values = u.values;
-    let best = u.best;
+    let stamp = t.stamp;
+    let values = t.values;
+    let best = t.best;
     Message {
         sender: own,
         receiver: 0,
         stamp,
         values,
-        cost: u.cost,
-        bound: u.bound,
+        cost: t.cost,
+        bound: t.bound,
         best,
     }
 }

@@ -1,41 +1,49 @@
 // Solutions and stops: 01, "News", "Stop"; and what is decided where nothing is sent.
 
+use crate::state::hold;
+use crate::state::release;
 use crate::state::with_best;
-use crate::state::with_stopped;
 use message::Message;
 use rules::Decided;
+use rules::Held;
 use rules::Plan;
 use rules::Sending;
 use rules::Unit;
 ghost use mathlib.Core.Path.{_≡_};
+ghost use mathlib.Core.List.{List};
+ghost use Prim.Native.Nat.{ℕ};
 ghost use Rattle.costs.specs.Instance.{View};
 ghost use Rattle.rules.specs.Step.{quiet, refused, takeBound, onSolution, onStop};
-ghost use Rattle.rules.specs.Tests.{silent};
+ghost use Rattle.rules.specs.Tests.{silent, holding};
 ghost use Rattle.rules.specs.Ready.{decidedOf};
 
 // A solution.
 pub(crate) fn on_solution(u: Unit, m: Message) -> Decided
     ensures { λ r. ⌜ ((w : View) (was : Unit) → r ≡ decidedOf was (onSolution w u m)) ⌝ }
 {
-    quiet(take_bound(m, u))
+    let estimates = u.estimates;
+    quiet(release(estimates, take_bound(m, hold(u))))
 }
 
 // A stop.
 pub(crate) fn on_stop(u: Unit, m: Message) -> Decided
     ensures { λ r. ⌜ ((w : View) (was : Unit) → r ≡ decidedOf was (onStop w u m)) ⌝ }
 {
-    quiet(with_stopped(true, take_bound(m, u)))
+    let estimates = u.estimates;
+    let mut t = take_bound(m, hold(u));
+    t.stopped = true;
+    quiet(release(estimates, t))
 }
 
 // The bound and best of a message, if lower.
-pub(crate) fn take_bound(m: Message, u: Unit) -> Unit
-    ensures { λ r. ⌜ r ≡ takeBound m u ⌝ }
+pub(crate) fn take_bound(m: Message, t: Held) -> Held
+    ensures { λ r. ⌜ ((e : List ℕ) → holding r e ≡ takeBound m (holding t e)) ⌝ }
 {
-    if m.bound < u.bound {
+    if m.bound < t.bound {
         let best = m.best;
-        return with_best(m.bound, best, u);
+        return with_best(m.bound, best, t);
     }
-    u
+    t
 }
 
 // This state, and nothing is sent.

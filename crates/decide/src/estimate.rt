@@ -3,10 +3,11 @@
 use crate::assign::assign;
 use crate::bound::quiet;
 use crate::bound::refuse;
-use crate::receive::follow;
 use crate::receive::is_stamp_out;
 use crate::short::reply;
 use crate::state::compare;
+use crate::state::hold;
+use crate::state::with_threshold;
 use costs::Seat;
 use message::Message;
 use rules::Decided;
@@ -18,32 +19,32 @@ ghost use mathlib.Core.Path.{_≡_};
 ghost use mathlib.Core.List.{[]};
 ghost use Prim.Native.Nat.{suc, _*_, _≤_};
 ghost use Rattle.base.specs.Limits.{NONE, places};
-ghost use Rattle.costs.specs.Instance.{View, viewFrom};
+ghost use Rattle.costs.specs.Instance.{View, viewKnowing};
 ghost use Rattle.rules.specs.Step.{reply, onRequest, onTimely, onEstimate, accepted};
 ghost use Rattle.rules.specs.Tests.{sumLater, stored};
 ghost use Rattle.rules.specs.Ready.{Own, Shaped, Ready, Heard, decidedOf};
 
 // A request.
-pub(crate) fn on_request(seat: Seat, costs: &[u8], u: Unit, m: Message) -> Decided
+pub(crate) fn on_request(seat: Seat, costs: &[u8], ahead: &[u32], u: Unit, m: Message) -> Decided
     requires { ⌜ Own (seat .own) ⌝ }
-    ensures { λ r. ⌜ ((was : Unit) → r ≡ decidedOf was (onRequest (viewFrom seat (now (costs .entry))) u m)) ⌝ }
+    ensures { λ r. ⌜ ((was : Unit) → r ≡ decidedOf was (onRequest (viewKnowing seat (now (costs .entry)) (now (ahead .entry))) u m)) ⌝ }
 {
     let stamp = m.stamp;
     let threshold = u.threshold;
     let order = compare((seat.own - 1) as usize, stamp, threshold);
     match order {
         Ordering::Less => quiet(u),
-        Ordering::Equal => answer(seat, costs, u, m),
-        Ordering::Greater => answer(seat, costs, follow(m, u), m),
+        Ordering::Equal => answer(seat, costs, ahead, u, m),
+        Ordering::Greater => answer(seat, costs, ahead, with_threshold(stamp, u), m),
     }
 }
 
 // The estimate for a request goes back to its sender.
-fn answer(seat: Seat, costs: &[u8], u: Unit, m: Message) -> Decided
+fn answer(seat: Seat, costs: &[u8], ahead: &[u32], u: Unit, m: Message) -> Decided
     requires { ⌜ Own (seat .own) ⌝ }
-    ensures { λ r. ⌜ ((was : Unit) → r ≡ decidedOf was (accepted u (reply (viewFrom seat (now (costs .entry))) m) [])) ⌝ }
+    ensures { λ r. ⌜ ((was : Unit) → r ≡ decidedOf was (accepted u (reply (viewKnowing seat (now (costs .entry)) (now (ahead .entry))) m) [])) ⌝ }
 {
-    let message = reply(seat, costs, m);
+    let message = reply(seat, costs, ahead, m);
     Decided {
         refusal: 0,
         unit: u,
@@ -57,34 +58,37 @@ fn answer(seat: Seat, costs: &[u8], u: Unit, m: Message) -> Decided
 }
 
 // An estimate.
-pub(crate) fn on_estimate(seat: Seat, costs: &[u8], u: Unit, m: Message) -> Decided
+pub(crate) fn on_estimate(seat: Seat, costs: &[u8], ahead: &[u32], u: Unit, m: Message) -> Decided
     requires { ⌜ Shaped seat × Ready seat u × Heard (seat .own) m ⌝ }
-    ensures { λ r. ⌜ r ≡ decidedOf u (onEstimate (viewFrom seat (now (costs .entry))) u m) ⌝ }
+    ensures { λ r. ⌜ r ≡ decidedOf u (onEstimate (viewKnowing seat (now (costs .entry)) (now (ahead .entry))) u m) ⌝ }
 {
     let stamp = m.stamp;
     let threshold = u.threshold;
     let order = compare(seat.own as usize, stamp, threshold);
     match order {
         Ordering::Less => quiet(u),
-        Ordering::Equal => on_own_estimate(seat, costs, u, m),
+        Ordering::Equal => on_own_estimate(seat, costs, ahead, u, m),
         Ordering::Greater => refuse(11, u),
     }
 }
 
-// An estimate that is neither stale nor ahead.
-fn on_own_estimate(seat: Seat, costs: &[u8], u: Unit, m: Message) -> Decided
+// An estimate that is neither stale nor ahead. It is stored, but not where assigning clears it at once.
+fn on_own_estimate(seat: Seat, costs: &[u8], ahead: &[u32], u: Unit, m: Message) -> Decided
     requires { ⌜ Shaped seat × Ready seat u × Heard (seat .own) m ⌝ }
-    ensures { λ r. ⌜ r ≡ decidedOf u (onTimely (viewFrom seat (now (costs .entry))) Ordering.Equal u m) ⌝ }
+    ensures { λ r. ⌜ r ≡ decidedOf u (onTimely (viewKnowing seat (now (costs .entry)) (now (ahead .entry))) Ordering.Equal u m) ⌝ }
 {
-    if !is_stamp_out(seat.own, u, m) {
+    let values = u.values;
+    let stamp = u.stamp;
+    let theirs = m.stamp;
+    if !is_stamp_out(seat.own, values, stamp, theirs) {
         return refuse(11, u);
     }
-    let t = store(m, u);
-    let estimates = t.estimates;
-    if base::wide_u64(t.bound) <= base::wide_u64(t.cost) + sum_later(seat, estimates) {
-        return assign(seat, costs, t);
+    let mut estimates = u.estimates;
+    estimates[(m.sender - 1) as usize] = m.cost;
+    if base::wide_u64(u.bound) <= base::wide_u64(u.cost) + sum_later(seat, estimates) {
+        return assign(seat, costs, ahead, hold(u));
     }
-    quiet(t)
+    quiet(store(m, u))
 }
 
 // The estimate is stored.

@@ -6,7 +6,7 @@ mod bound; // solutions and stops, and what is decided where nothing is sent
 mod estimate; // requests and the estimates that answer them
 mod order; // the value tried after another
 mod receive; // a cpa that comes in
-mod state; // whether a state is in range, the order of stamps, and the parts of a state set
+mod state; // whether a state is in range, the order of stamps, the parts of a state set, and what is held of it
 mod short; // the way of a message that changes little
 
 use bound::on_solution;
@@ -28,15 +28,15 @@ pub use state::compare_stamps;
 pub use state::in_range;
 pub use state::in_range_paid;
 ghost use mathlib.Core.Path.{_≡_};
-ghost use Rattle.costs.specs.Instance.{viewFrom};
+ghost use Rattle.costs.specs.Instance.{viewKnowing};
 ghost use Rattle.rules.specs.State.{fresh, noUnit};
 ghost use Rattle.rules.specs.Step.{respond};
 ghost use Rattle.rules.specs.Trusted.{canStep, canHear, respondTo, startTo};
 ghost use Rattle.rules.specs.Ready.{Own, Shaped, Ready, Heard, decidedOf};
 
 // What a message that was read makes a unit do; 5 or 9 where it could not be done at all.
-pub fn respond(seat: Seat, costs: &[u8], kind: Kind, u: Unit, m: Message) -> Decided
-    ensures { λ r. ⌜ r ≡ decidedOf u (respondTo seat (now (costs .entry)) kind u m) ⌝ }
+pub fn respond(seat: Seat, costs: &[u8], ahead: &[u32], kind: Kind, u: Unit, m: Message) -> Decided
+    ensures { λ r. ⌜ r ≡ decidedOf u (respondTo seat (now (costs .entry)) (now (ahead .entry)) kind u m) ⌝ }
 {
     if !can_step(seat, u) {
         return refuse(5, u);
@@ -44,35 +44,35 @@ pub fn respond(seat: Seat, costs: &[u8], kind: Kind, u: Unit, m: Message) -> Dec
     if !can_hear(seat.own, m) {
         return refuse(9, u);
     }
-    by_kind(seat, costs, kind, u, m)
+    by_kind(seat, costs, ahead, kind, u, m)
 }
 
 // What a new unit decides: unit 1 assigns, the others wait; 5 where it could not be done at all.
-pub fn start(seat: Seat, costs: &[u8]) -> Decided
-    ensures { λ r. ⌜ r ≡ decidedOf fresh (startTo seat (now (costs .entry))) ⌝ }
+pub fn start(seat: Seat, costs: &[u8], ahead: &[u32]) -> Decided
+    ensures { λ r. ⌜ r ≡ decidedOf fresh (startTo seat (now (costs .entry)) (now (ahead .entry))) ⌝ }
 {
     let u = fresh();
     if !can_step(seat, u) {
         return refuse(5, u);
     }
     if seat.own == 1 {
-        return assign::assign(seat, costs, u);
+        return assign::assign(seat, costs, ahead, state::hold(u));
     }
     quiet(u)
 }
 
 // By the message's kind.
-fn by_kind(seat: Seat, costs: &[u8], kind: Kind, u: Unit, m: Message) -> Decided
+fn by_kind(seat: Seat, costs: &[u8], ahead: &[u32], kind: Kind, u: Unit, m: Message) -> Decided
     requires { ⌜ Shaped seat × Ready seat u × Heard (seat .own) m ⌝ }
-    ensures { λ r. ⌜ r ≡ decidedOf u (respond (viewFrom seat (now (costs .entry))) kind u m) ⌝ }
+    ensures { λ r. ⌜ r ≡ decidedOf u (respond (viewKnowing seat (now (costs .entry)) (now (ahead .entry))) kind u m) ⌝ }
 {
     if u.stopped {
         return refuse(12, u);
     }
     match kind {
-        Kind::Cpa => on_cpa(seat, costs, u, m),
-        Kind::Request => on_request(seat, costs, u, m),
-        Kind::Estimate => on_estimate(seat, costs, u, m),
+        Kind::Cpa => on_cpa(seat, costs, ahead, u, m),
+        Kind::Request => on_request(seat, costs, ahead, u, m),
+        Kind::Estimate => on_estimate(seat, costs, ahead, u, m),
         Kind::Solution => on_solution(u, m),
         Kind::Stop => on_stop(u, m),
     }

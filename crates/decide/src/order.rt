@@ -8,14 +8,14 @@ ghost use mathlib.Core.List.{List};
 ghost use Prim.Native.Nat.{ℕ, _-_, _≤_};
 ghost use lib.Dec.{ltb, eqb};
 ghost use lib.ListN.{getD};
-ghost use Rattle.costs.specs.Instance.{View, viewFrom};
+ghost use Rattle.costs.specs.Instance.{View, viewKnowing};
 ghost use Rattle.costs.specs.Order.{placeTried, next};
 ghost use Rattle.rules.specs.Ready.{Shaped, Keys};
 
 // h of each value as a number, NONE where it has none: value v's at place v - 1. Ascending, no h is looked at.
-pub(crate) fn keys(seat: Seat, costs: &[u8]) -> [u32; 16]
+pub(crate) fn keys(seat: Seat, costs: &[u8], ahead: &[u32]) -> [u32; 16]
     requires { ⌜ Shaped seat ⌝ }
-    ensures { λ r. ⌜ Keys (viewFrom seat (now (costs .entry))) r ⌝ }
+    ensures { λ r. ⌜ Keys (viewKnowing seat (now (costs .entry)) (now (ahead .entry))) r ⌝ }
 {
     let mut keys = [0u32; 16];
     let order = seat.order;
@@ -26,7 +26,7 @@ pub(crate) fn keys(seat: Seat, costs: &[u8]) -> [u32; 16]
     let d = sizes[(seat.own - 1) as usize];
     let mut v: u8 = 0;
     while v < d {
-        keys[v as usize] = costs::as_number(costs::h(seat, costs, v + 1));
+        keys[v as usize] = costs::as_number(costs::h(seat, costs, ahead, v + 1));
         v += 1;
     }
     keys
@@ -35,7 +35,7 @@ pub(crate) fn keys(seat: Seat, costs: &[u8]) -> [u32; 16]
 // The value tried after v, 0 where there is none; before the first of all stands no value, 0.
 pub(crate) fn next(seat: Seat, keys: [u32; 16], v: u8) -> u8
     requires { ⌜ Shaped seat × (v ≤ getD (seat .sizes) (seat .own - 1) 0) ⌝ }
-    ensures { λ r. ⌜ ((costs : List ℕ) → Keys (viewFrom seat costs) keys → r ≡ next (viewFrom seat costs) v) × (r ≤ getD (seat .sizes) (seat .own - 1) 0) ⌝ }
+    ensures { λ r. ⌜ ((costs ahead : List ℕ) → Keys (viewKnowing seat costs ahead) keys → r ≡ next (viewKnowing seat costs ahead) v) × (r ≤ getD (seat .sizes) (seat .own - 1) 0) ⌝ }
 {
     let sizes = seat.sizes;
     let d = sizes[(seat.own - 1) as usize];

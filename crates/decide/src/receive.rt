@@ -8,119 +8,123 @@ use crate::bound::quiet;
 use crate::bound::refuse;
 use crate::bound::take_bound;
 use crate::state::compare;
+use crate::state::hold;
 use crate::state::not_less;
+use crate::state::own_cost;
 use crate::state::same;
-use crate::state::with_cpa;
-use crate::state::with_threshold;
 use costs::Seat;
 use message::Message;
 use rules::Decided;
+use rules::Held;
 use rules::Ordering;
 use rules::Unit;
 ghost use mathlib.Core.Path.{_≡_};
 ghost use mathlib.Core.Bool.{_&&_};
-ghost use Prim.Native.Nat.{suc, _<_};
-ghost use Rattle.costs.specs.Instance.{View, viewFrom};
-ghost use Rattle.rules.specs.State.{withThreshold, sameOn};
-ghost use Rattle.rules.specs.Step.{received, resume, onDown, isCpaOut, onBack, onCpa, isOut};
+ghost use mathlib.Core.List.{List};
+ghost use Prim.Native.Nat.{ℕ, suc, _<_};
+ghost use lib.Dec.{ltb};
+ghost use lib.ListN.{getD};
+ghost use Rattle.costs.specs.Instance.{View, viewKnowing};
+ghost use Rattle.rules.specs.State.{zeros, withThreshold, sameOn};
+ghost use Rattle.rules.specs.Step.{received, resume, onDown, isCpaOut, onBack, onCpa};
+ghost use Rattle.rules.specs.Tests.{holding};
 ghost use Rattle.rules.specs.Ready.{Own, Shaped, Ready, Heard, decidedOf};
 
 // A cpa: one from a lower unit goes down.
-pub(crate) fn on_cpa(seat: Seat, costs: &[u8], u: Unit, m: Message) -> Decided
+pub(crate) fn on_cpa(seat: Seat, costs: &[u8], ahead: &[u32], u: Unit, m: Message) -> Decided
     requires { ⌜ Shaped seat × Ready seat u × Heard (seat .own) m ⌝ }
-    ensures { λ r. ⌜ r ≡ decidedOf u (onCpa (viewFrom seat (now (costs .entry))) u m) ⌝ }
+    ensures { λ r. ⌜ r ≡ decidedOf u (onCpa (viewKnowing seat (now (costs .entry)) (now (ahead .entry))) u m) ⌝ }
 {
     let stamp = m.stamp;
     let threshold = u.threshold;
     let order = compare(seat.own as usize, stamp, threshold);
     if m.sender < seat.own {
-        return on_down(seat, costs, order, u, m);
+        return on_down(seat, costs, ahead, order, u, m);
     }
-    on_back(seat, costs, order, u, m)
+    on_back(seat, costs, ahead, order, u, m)
 }
 
 // A cpa going down, by how its stamp compares with the threshold.
-fn on_down(seat: Seat, costs: &[u8], order: Ordering, u: Unit, m: Message) -> Decided
+fn on_down(seat: Seat, costs: &[u8], ahead: &[u32], order: Ordering, u: Unit, m: Message) -> Decided
     requires { ⌜ Shaped seat × Ready seat u × Heard (seat .own) m × (m .sender < seat .own) ⌝ }
-    ensures { λ r. ⌜ ((was : Unit) → r ≡ decidedOf was (onDown (viewFrom seat (now (costs .entry))) order u m)) ⌝ }
+    ensures { λ r. ⌜ ((was : Unit) → r ≡ decidedOf was (onDown (viewKnowing seat (now (costs .entry)) (now (ahead .entry))) order u m)) ⌝ }
 {
+    let threshold = u.threshold;
+    let stamp = m.stamp;
     match order {
         Ordering::Less => quiet(u),
-        Ordering::Equal => resume(seat, costs, receive(m, u)),
-        Ordering::Greater => resume(seat, costs, receive(m, follow(m, u))),
+        Ordering::Equal => resume(seat, costs, ahead, receive(m, threshold, u)),
+        Ordering::Greater => resume(seat, costs, ahead, receive(m, stamp, u)),
     }
 }
 
-// The cpa of a message is the one out, and its bound is taken if lower.
-fn receive(m: Message, u: Unit) -> Unit
-    ensures { λ r. ⌜ r ≡ received m u ⌝ }
+// The cpa of a message is the one out, with this threshold, and its bound is taken if lower.
+fn receive(m: Message, threshold: [u8; 16], u: Unit) -> Held
+    ensures { λ r. ⌜ holding r (u .estimates) ≡ received m (withThreshold threshold u) ⌝ }
 {
     let stamp = m.stamp;
     let values = m.values;
-    let t = with_cpa(stamp, values, m.cost, u);
+    let mut t = hold(u);
+    t.threshold = threshold;
+    t.stamp = stamp;
+    t.values = values;
+    t.cost = m.cost;
     take_bound(m, t)
 }
 
-// The threshold becomes the message's stamp.
-pub(crate) fn follow(m: Message, u: Unit) -> Unit
-    ensures { λ r. ⌜ r ≡ withThreshold (m .stamp) u ⌝ }
-{
-    let stamp = m.stamp;
-    with_threshold(stamp, u)
-}
-
 // A cpa going back, by how its stamp compares with the threshold.
-fn on_back(seat: Seat, costs: &[u8], order: Ordering, u: Unit, m: Message) -> Decided
+fn on_back(seat: Seat, costs: &[u8], ahead: &[u32], order: Ordering, u: Unit, m: Message) -> Decided
     requires { ⌜ Shaped seat × Ready seat u ⌝ }
-    ensures { λ r. ⌜ r ≡ decidedOf u (onBack (viewFrom seat (now (costs .entry))) order u m) ⌝ }
+    ensures { λ r. ⌜ r ≡ decidedOf u (onBack (viewKnowing seat (now (costs .entry)) (now (ahead .entry))) order u m) ⌝ }
 {
     if !not_less(order) {
         return quiet(u);
     }
-    if !is_cpa_out(seat.own, u, m) {
+    let t = hold(u);
+    if !is_cpa_out(seat.own, t, m) {
         return refuse(11, u);
     }
-    resume(seat, costs, take_bound(m, u))
+    resume(seat, costs, ahead, take_bound(m, t))
 }
 
 // Whether a message's cpa is the one out.
-fn is_cpa_out(own: u8, u: Unit, m: Message) -> bool
+fn is_cpa_out(own: u8, t: Held, m: Message) -> bool
     requires { ⌜ Own own ⌝ }
-    ensures { λ r. ⌜ ((w : View) → suc (w .place) ≡ own → r ≡ isCpaOut w u m) ⌝ }
+    ensures { λ r. ⌜ ((w : View) (e : List ℕ) → suc (w .place) ≡ own → r ≡ isCpaOut w (holding t e) m) ⌝ }
 {
-    if !is_stamp_out(own, u, m) {
+    let values = t.values;
+    let stamp = t.stamp;
+    let theirs = m.stamp;
+    if !is_stamp_out(own, values, stamp, theirs) {
         return false;
     }
-    let values = u.values;
-    let theirs = m.values;
-    if !same(own as usize, theirs, values) {
+    let their_values = m.values;
+    if !same(own as usize, their_values, values) {
         return false;
     }
-    m.cost == u.cost
+    m.cost == t.cost
 }
 
-// Whether a cpa is out, and a message's stamp is its stamp.
-pub(crate) fn is_stamp_out(own: u8, u: Unit, m: Message) -> bool
+// Whether a cpa with these values and this stamp is out, and a message's stamp is its stamp.
+pub(crate) fn is_stamp_out(own: u8, values: [u8; 16], stamp: [u8; 16], theirs: [u8; 16]) -> bool
     requires { ⌜ Own own ⌝ }
-    ensures { λ r. ⌜ ((w : View) → suc (w .place) ≡ own → r ≡ (isOut w u && sameOn (suc (w .place)) (m .stamp) (u .stamp))) ⌝ }
+    ensures { λ r. ⌜ ((w : View) → suc (w .place) ≡ own → r ≡ (ltb 0 (getD values (w .place) 0) && sameOn (suc (w .place)) theirs stamp)) ⌝ }
 {
-    if u.values[(own - 1) as usize] < 1 {
+    if values[(own - 1) as usize] < 1 {
         return false;
     }
-    let stamp = u.stamp;
-    let theirs = m.stamp;
     same(own as usize, theirs, stamp)
 }
 
 // Backtrack where the cost without the own value reaches the bound, else assign.
-fn resume(seat: Seat, costs: &[u8], u: Unit) -> Decided
-    requires { ⌜ Shaped seat × Ready seat u ⌝ }
-    ensures { λ r. ⌜ ((was : Unit) → r ≡ decidedOf was (resume (viewFrom seat (now (costs .entry))) u)) ⌝ }
+fn resume(seat: Seat, costs: &[u8], ahead: &[u32], t: Held) -> Decided
+    requires { ⌜ Shaped seat × Ready seat (holding t zeros) ⌝ }
+    ensures { λ r. ⌜ ((was : Unit) (e : List ℕ) → r ≡ decidedOf was (resume (viewKnowing seat (now (costs .entry)) (now (ahead .entry))) (holding t e))) ⌝ }
 {
-    let bare = bare_cost(seat, costs, u);
-    if u.bound <= bare {
-        let t = take_off(seat, costs, u);
-        return backtrack(seat.own, false, t);
+    let values = t.values;
+    let paid = own_cost(seat, costs, values);
+    if t.bound <= bare_cost(t.cost, paid) {
+        return backtrack(seat.own, false, 0, take_off(seat.own, paid, t));
     }
-    assign(seat, costs, u)
+    assign(seat, costs, ahead, t)
 }

@@ -2,10 +2,9 @@
 
 use crate::estimate::store;
 use crate::estimate::sum_later;
-use crate::receive::follow;
 use crate::state::compare;
 use crate::state::same;
-use crate::state::with_best;
+use crate::state::with_threshold;
 use costs::Seat;
 use message::Kind;
 use message::Message;
@@ -17,7 +16,7 @@ ghost use mathlib.Core.Path.{_≡_};
 ghost use Prim.Native.Nat.{ℕ, _-_, _≤_};
 ghost use Rattle.message.specs.declared.Read.the-variants.{Good};
 ghost use Rattle.message.specs.declared.Kind.the-variants.{Solution};
-ghost use Rattle.rules.specs.State.{compareOn};
+ghost use Rattle.rules.specs.State.{withBest, compareOn};
 ghost use Rattle.rules.specs.Way.{requestWay, estimateWay, staysBelow, wayBy, wayOf, changedBy, replyTo};
 ghost use Rattle.rules.specs.Ready.{Own};
 
@@ -126,15 +125,26 @@ fn solution_way(u: Unit, m: Message) -> Way
 pub fn changed(way: Way, m: Message, u: Unit) -> Unit
     ensures { λ r. ⌜ r ≡ changedBy way m u ⌝ }
 {
-    let best = m.best;
+    let stamp = m.stamp;
     match way {
         Way::Quiet => u,
         Way::Reply => u,
-        Way::Follow => follow(m, u),
+        Way::Follow => with_threshold(stamp, u),
         Way::Store => keep(m, u),
-        Way::Lower => with_best(m.bound, best, u),
+        Way::Lower => lower(m, u),
         Way::Whole => u,
     }
+}
+
+// A bound and its best are taken.
+fn lower(m: Message, u: Unit) -> Unit
+    ensures { λ r. ⌜ r ≡ withBest (m .bound) (m .best) u ⌝ }
+{
+    let best = m.best;
+    let mut t = u;
+    t.bound = m.bound;
+    t.best = best;
+    t
 }
 
 // An estimate of one of 16 units is stored.
@@ -148,12 +158,12 @@ fn keep(m: Message, u: Unit) -> Unit
 }
 
 // The estimate that answers a request.
-pub fn reply(seat: Seat, costs: &[u8], m: Message) -> Message
-    ensures { λ r. ⌜ r ≡ replyTo seat (now (costs .entry)) m ⌝ }
+pub fn reply(seat: Seat, costs: &[u8], ahead: &[u32], m: Message) -> Message
+    ensures { λ r. ⌜ r ≡ replyTo seat (now (costs .entry)) (now (ahead .entry)) m ⌝ }
 {
     let stamp = m.stamp;
     let values = m.values;
-    let cost = costs::estimate(seat, costs, values, m.sender);
+    let cost = costs::estimate(seat, costs, ahead, values, m.sender);
     Message {
         sender: seat.own,
         receiver: m.sender,

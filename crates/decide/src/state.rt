@@ -1,21 +1,20 @@
-// A unit's state: whether it is in range, the order of stamps, and its parts set one at a time.
+// A unit's state: whether it is in range, the order of stamps, its parts set one at a time, and what is held of it.
 
 use costs::Seat;
+use rules::Held;
 use rules::Ordering;
 use rules::Unit;
 ghost use mathlib.Core.Path.{_≡_};
 ghost use mathlib.Core.Bool.{_&&_};
-ghost use Prim.Native.Nat.{_≤_};
+ghost use mathlib.Core.List.{List};
+ghost use Prim.Native.Nat.{ℕ, _≤_};
 ghost use Rattle.base.specs.Limits.{estimateLimit};
-ghost use Rattle.costs.specs.Instance.{viewFrom};
-ghost use Rattle.costs.specs.Order.{placeTried};
+ghost use Rattle.costs.specs.Instance.{viewKnowing};
 ghost use Rattle.rules.specs.State.{
-  ownValue,
   ownCost,
   withThreshold,
   withBest,
-  withCpa,
-  withStopped,
+  withEstimates,
   compareOn,
   sameOn,
   notLess,
@@ -25,43 +24,35 @@ ghost use Rattle.rules.specs.State.{
   paidInRange,
   inRangePaid,
 };
+ghost use Rattle.rules.specs.Tests.{holding};
 ghost use Rattle.rules.specs.Trusted.{inRangeAt};
 ghost use Rattle.rules.specs.Ready.{Own};
 
 // Whether a lent state is in range; none is for a number that is not 1 to 16.
-pub fn in_range(seat: Seat, costs: &[u8], u: Unit) -> bool
-    ensures { λ r. ⌜ r ≡ inRangeAt seat (now (costs .entry)) u ⌝ }
+pub fn in_range(seat: Seat, costs: &[u8], ahead: &[u32], u: Unit) -> bool
+    ensures { λ r. ⌜ r ≡ inRangeAt seat (now (costs .entry)) (now (ahead .entry)) u ⌝ }
 {
     if !message::is_unit(16, seat.own) {
         return false;
     }
-    let paid = own_cost(seat, costs, u);
-    let place = own_place(seat, costs, u);
+    let values = u.values;
+    let paid = own_cost(seat, costs, values);
+    let place = costs::place_tried(seat, costs, ahead, values[(seat.own - 1) as usize]);
     let sizes = seat.sizes;
     paid_in_range(seat.own, seat.n, sizes, paid, place, u)
 }
 
 // The own value's costs, NONE where they are forbidden; without one there are none to add up.
-pub(crate) fn own_cost(seat: Seat, costs: &[u8], u: Unit) -> u32
+pub(crate) fn own_cost(seat: Seat, costs: &[u8], values: [u8; 16]) -> u32
     requires { ⌜ Own (seat .own) ⌝ }
-    ensures { λ r. ⌜ r ≡ ownCost (viewFrom seat (now (costs .entry))) u ⌝ }
+    ensures { λ r. ⌜ ((ahead : List ℕ) (u : Unit) → u .values ≡ values → r ≡ ownCost (viewKnowing seat (now (costs .entry)) ahead) u) ⌝ }
 {
     let place = seat.own - 1;
-    let values = u.values;
     let value = values[place as usize];
     if value == 0 {
         return 0;
     }
     costs::as_number(costs::cost_with(seat, costs, values, place, value))
-}
-
-// The own value's place in the order tried, 0 without one.
-fn own_place(seat: Seat, costs: &[u8], u: Unit) -> usize
-    requires { ⌜ Own (seat .own) ⌝ }
-    ensures { λ r. ⌜ r ≡ placeTried (viewFrom seat (now (costs .entry))) (ownValue (viewFrom seat (now (costs .entry))) u) ⌝ }
-{
-    let values = u.values;
-    costs::place_tried(seat, costs, values[(seat.own - 1) as usize])
 }
 
 // Whether the state of unit `own` is in range, its own value's costs being `paid` and its place `place`; no state is for a number that is not
@@ -219,29 +210,52 @@ pub(crate) fn with_threshold(t: [u8; 16], u: Unit) -> Unit
 }
 
 // A bound and the assignment that has it, always together.
-pub(crate) fn with_best(bound: u32, best: [u8; 16], u: Unit) -> Unit
-    ensures { λ r. ⌜ r ≡ withBest bound best u ⌝ }
+pub(crate) fn with_best(bound: u32, best: [u8; 16], t: Held) -> Held
+    ensures { λ r. ⌜ ((e : List ℕ) → holding r e ≡ withBest bound best (holding t e)) ⌝ }
 {
-    let mut v = u;
-    v.bound = bound;
-    v.best = best;
-    v
+    let mut s = t;
+    s.bound = bound;
+    s.best = best;
+    s
 }
 
-pub(crate) fn with_cpa(stamp: [u8; 16], values: [u8; 16], cost: u32, u: Unit) -> Unit
-    ensures { λ r. ⌜ r ≡ withCpa stamp values cost u ⌝ }
+// What is held of a unit.
+pub(crate) fn hold(u: Unit) -> Held
+    ensures { λ r. ⌜ ((e : List ℕ) → holding r e ≡ withEstimates e u) ⌝ }
 {
-    let mut v = u;
-    v.stamp = stamp;
-    v.values = values;
-    v.cost = cost;
-    v
+    let threshold = u.threshold;
+    let best = u.best;
+    let stamp = u.stamp;
+    let values = u.values;
+    Held {
+        threshold,
+        bound: u.bound,
+        best,
+        stamp,
+        values,
+        cost: u.cost,
+        counter: u.counter,
+        stopped: u.stopped,
+    }
 }
 
-pub(crate) fn with_stopped(b: bool, u: Unit) -> Unit
-    ensures { λ r. ⌜ r ≡ withStopped b u ⌝ }
+// The unit with these estimates.
+pub(crate) fn release(estimates: [u32; 16], t: Held) -> Unit
+    ensures { λ r. ⌜ r ≡ holding t estimates ⌝ }
 {
-    let mut v = u;
-    v.stopped = b;
-    v
+    let threshold = t.threshold;
+    let best = t.best;
+    let stamp = t.stamp;
+    let values = t.values;
+    Unit {
+        threshold,
+        bound: t.bound,
+        best,
+        estimates,
+        stamp,
+        values,
+        cost: t.cost,
+        counter: t.counter,
+        stopped: t.stopped,
+    }
 }

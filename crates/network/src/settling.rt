@@ -48,13 +48,15 @@ pub fn settle_by(order: ValueOrder, stream: &[u8], pool: &mut [u8]) -> Answer
 }
 
 // Delivers cell 0 of a new network until unit 1 stops. No delivery is asked what the making has seen: the costs of each unit are gathered
-// once, and the packets are those that the units sent. Most go a short way, on which the unit stays where it is.
+// once, and so is h of its values; the packets are those that the units sent. Most go a short way, on which the unit stays where it is.
 fn run(order: ValueOrder, stream: &[u8], net: Network, pool: &mut [u8]) -> Network
     requires { ⌜ Begun order (now stream) net (now pool) ⌝ }
     ensures { λ r. ⌜ Ended order (now (stream .entry)) net (now (pool .entry)) r (now (pool .exit)) ⌝ }
 {
     let mut lent = [0u8; LENT_SIZE];
-    let starts = lend(stream, &mut lent);
+    let loans = lend(order, stream, &mut lent);
+    let starts = loans.starts;
+    let looks = loans.looks;
     let first = first_seat(order, stream);
     let mut out = [0u8; base::SENDING_SIZE];
     let mut core = net.core;
@@ -68,8 +70,10 @@ fn run(order: ValueOrder, stream: &[u8], net: Network, pool: &mut [u8]) -> Netwo
         let place = (seat.own - 1) as usize;
         let lo = starts[place];
         let hi = starts[place + 1];
+        let known = looks[place];
+        let ahead = known.ahead;
         let u = core.units[place];
-        let turn = hear(seat, &lent[lo..hi], u, pool, used as usize);
+        let turn = hear(seat, &lent[lo..hi], &ahead, u, pool, used as usize);
         let way = turn.way;
         let mut sent = turn.sent;
         match way {
@@ -80,7 +84,15 @@ fn run(order: ValueOrder, stream: &[u8], net: Network, pool: &mut [u8]) -> Netwo
             }
             Way::Whole => {
                 let w = core.units[place];
-                let r = hand_oldest(seat, &lent[lo..hi], w, pool, used as usize, &mut out);
+                let r = hand_oldest(
+                    seat,
+                    &lent[lo..hi],
+                    &ahead,
+                    w,
+                    pool,
+                    used as usize,
+                    &mut out,
+                );
                 let w = r.unit;
                 core.units[place] = w;
                 let records = core.records;
@@ -98,26 +110,16 @@ fn run(order: ValueOrder, stream: &[u8], net: Network, pool: &mut [u8]) -> Netwo
 fn hand_oldest(
     seat: Seat,
     costs: &[u8],
+    ahead: &[u32],
     u: Unit,
     pool: &mut [u8],
     used: usize,
     out: &mut [u8],
 ) -> Outcome
-    requires { ⌜ Oldest (seat .order) u (seat .own) (seat .n) (seat .sizes) (now costs) (now pool) used × (sendingSize ≤ length (now out)) ⌝ }
-    ensures { λ r. ⌜ ((t : Oldest (seat .order) u (seat .own) (seat .n) (seat .sizes) (now (costs .entry)) (now (pool .entry)) used) → Handed t r (now (pool .exit))) ⌝ }
+    requires { ⌜ Oldest (seat .order) u (seat .own) (seat .n) (seat .sizes) (now costs) (now ahead) (now pool) used × (sendingSize ≤ length (now out)) ⌝ }
+    ensures { λ r. ⌜ ((t : Oldest (seat .order) u (seat .own) (seat .n) (seat .sizes) (now (costs .entry)) (now (ahead .entry)) (now (pool .entry)) used) → Handed t r (now (pool .exit))) ⌝ }
 {
-    let order = seat.order;
-    let sizes = seat.sizes;
-    let r = unit::step_trusted_by(
-        order,
-        u,
-        seat.own,
-        seat.n,
-        sizes,
-        costs,
-        &pool[0..base::MESSAGE_SIZE],
-        out,
-    );
+    let r = unit::step_trusted(seat, u, costs, ahead, &pool[0..base::MESSAGE_SIZE], out);
     take_oldest(pool, used, out, r.sent as usize);
     r
 }

@@ -55,15 +55,22 @@ pub(crate) fn seat_of(any: Seat, packet: &[u8]) -> Seat
 }
 
 // The message at cell 0 is read, and leaves the pool if it goes a short way.
-pub(crate) fn hear(seat: Seat, costs: &[u8], u: Unit, pool: &mut [u8], used: usize) -> Turn
-    requires { ⌜ Oldest (seat .order) u (seat .own) (seat .n) (seat .sizes) (now costs) (now pool) used ⌝ }
-    ensures { λ r. ⌜ ((t : Oldest (seat .order) u (seat .own) (seat .n) (seat .sizes) (now (costs .entry)) (now (pool .entry)) used) → Heard t (r .way) (r .message) (r .sent) (now (pool .exit))) ⌝ }
+pub(crate) fn hear(
+    seat: Seat,
+    costs: &[u8],
+    ahead: &[u32],
+    u: Unit,
+    pool: &mut [u8],
+    used: usize,
+) -> Turn
+    requires { ⌜ Oldest (seat .order) u (seat .own) (seat .n) (seat .sizes) (now costs) (now ahead) (now pool) used ⌝ }
+    ensures { λ r. ⌜ ((t : Oldest (seat .order) u (seat .own) (seat .n) (seat .sizes) (now (costs .entry)) (now (ahead .entry)) (now (pool .entry)) used) → Heard t (r .way) (r .message) (r .sent) (now (pool .exit))) ⌝ }
 {
     let known = message::unpack(&pool[0..MESSAGE_SIZE]);
     let read = known.answer;
     let message = known.message;
     let way = unit::way(seat, read, u, message);
-    let sent = pass(way, seat, costs, message, pool, used);
+    let sent = pass(way, seat, costs, ahead, message, pool, used);
     Turn { message, way, sent }
 }
 
@@ -77,14 +84,22 @@ pub(crate) fn changed(turn: Turn, u: Unit) -> Unit
 }
 
 // What the way of the message at cell 0 does to the pool; how many messages are sent. The whole way does nothing yet.
-fn pass(way: Way, seat: Seat, costs: &[u8], m: Message, pool: &mut [u8], used: usize) -> u8
+fn pass(
+    way: Way,
+    seat: Seat,
+    costs: &[u8],
+    ahead: &[u32],
+    m: Message,
+    pool: &mut [u8],
+    used: usize,
+) -> u8
     requires { ⌜ (1 ≤ used) × (used ≤ poolCells) × (poolSize ≤ length (now pool)) ⌝ }
-    ensures { λ r. ⌜ Passed way seat (now (costs .entry)) m (now (pool .entry)) used r (now (pool .exit)) ⌝ }
+    ensures { λ r. ⌜ Passed way seat (now (costs .entry)) (now (ahead .entry)) m (now (pool .entry)) used r (now (pool .exit)) ⌝ }
 {
     match way {
         Way::Quiet => take_out(pool, used),
-        Way::Reply => answer(seat, costs, m, pool, used),
-        Way::Follow => answer(seat, costs, m, pool, used),
+        Way::Reply => answer(seat, costs, ahead, m, pool, used),
+        Way::Follow => answer(seat, costs, ahead, m, pool, used),
         Way::Store => take_out(pool, used),
         Way::Lower => take_out(pool, used),
         Way::Whole => 0,
@@ -101,11 +116,11 @@ fn take_out(pool: &mut [u8], used: usize) -> u8
 }
 
 // The request at cell 0 is taken out, and the estimate that answers it is put behind the others.
-fn answer(seat: Seat, costs: &[u8], m: Message, pool: &mut [u8], used: usize) -> u8
+fn answer(seat: Seat, costs: &[u8], ahead: &[u32], m: Message, pool: &mut [u8], used: usize) -> u8
     requires { ⌜ (1 ≤ used) × (used ≤ poolCells) × (poolSize ≤ length (now pool)) ⌝ }
-    ensures { λ r. ⌜ (r ≡ 1) × Sized (replyTo seat (now (costs .entry)) m) × (now (pool .exit) ≡ putInto Estimate (replyTo seat (now (costs .entry)) m) (closeGap (now (pool .entry)) 0 (messageSize * used)) (messageSize * (used - 1))) ⌝ }
+    ensures { λ r. ⌜ (r ≡ 1) × Sized (replyTo seat (now (costs .entry)) (now (ahead .entry)) m) × (now (pool .exit) ≡ putInto Estimate (replyTo seat (now (costs .entry)) (now (ahead .entry)) m) (closeGap (now (pool .entry)) 0 (messageSize * used)) (messageSize * (used - 1))) ⌝ }
 {
-    let estimate = unit::reply(seat, costs, m);
+    let estimate = unit::reply(seat, costs, ahead, m);
     close(pool, 0, MESSAGE_SIZE * used);
     message::put(Kind::Estimate, estimate, pool, MESSAGE_SIZE * (used - 1));
     1

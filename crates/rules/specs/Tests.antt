@@ -3,9 +3,10 @@
 -- Assumes nothing.
 use Rattle.base.specs.Library.{ℕ, suc, _-_, Bool, false, cond, List, eqb, getD, set}
 use Rattle.base.specs.Sums.{sumFrom}
-use Rattle.costs.specs.{declared.Cost.Cost, declared.Cost.the-variants.Of, declared.Cost.the-variants.Forbidden, Cost._⊕_, Cost.below, Instance.View, Bounds.costWith, Bounds.h}
+use Rattle.costs.specs.{declared.Cost.Cost, declared.Cost.the-variants.Of, Cost._⊕_, Instance.View, Bounds.costWith}
 use Rattle.message.specs.{declared.Message.Message, declared.Kind.Kind, Message.noMessage}
-use Rattle.rules.specs.{declared.Unit.Unit, declared.Sending.Sending, declared.Plan.the-variants.Nothing, State.withBest, State.withEstimates, State.compareOn}
+use Rattle.rules.specs.{declared.Unit.Unit, declared.Held.Held, declared.Sending.Sending, declared.Plan.the-variants.Nothing}
+use Rattle.rules.specs.State.{unit, withThreshold, withBest, withEstimates, withCounter, compareOn}
 use Rattle.rules.specs.Step.{Decision, refused, quiet, takeBound, takeOff, backtrack, write, afterWrite, assign, resume, onDown, onBack, byKind}
 
 -- nothing is sent
@@ -20,9 +21,13 @@ isLast w = eqb (suc (w .place)) (w .n)
 abbrev pub costAt : View → ℕ → Unit → Cost
 costAt w v u = Of (u .cost) ⊕ costWith w (u .values) (w .place) v
 
--- the same where that and h are below the bound, else forbidden
-abbrev pub costBelow : View → ℕ → Unit → Cost
-costBelow w v u = cond (below (costAt w v u ⊕ h w v) (u .bound)) (costAt w v u) Forbidden
+-- the unit with what is held of it and these estimates
+abbrev pub holding : Held → List ℕ → Unit
+holding t e = unit (t .threshold) (t .bound) (t .best) e (t .stamp) (t .values) (t .cost) (t .counter) (t .stopped)
+
+-- unit n writes value v at cost c, takes it as its best and has it off again, the own value being off before
+abbrev pub improvedBy : View → ℕ → ℕ → Unit → Unit
+improvedBy w v c u = withThreshold (set (u .stamp) (w .place) (suc (u .counter))) (withCounter (suc (u .counter)) (withBest c (set (u .values) (w .place) v) u))
 
 -- the estimates of units i+1 to n, added up
 abbrev pub sumLater : View → List ℕ → ℕ

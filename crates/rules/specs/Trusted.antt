@@ -1,8 +1,9 @@
--- What a unit does on what is known to be good: a run checks its table once, and its units send what can be read. Nobody has to believe it: on what
--- a step accepts it is the step, `trusted-steps` of Laws/Trusted, and a run hands it nothing else (network/specs/Trusted). Assumes nothing.
+-- What a unit does on what is known to be good: a run checks its table once and knows h of its values, and its units send what can be read. Nobody
+-- has to believe it: on what a step accepts it is the step, `trusted-steps` of Laws/Trusted, and a run hands it nothing else (runs/specs/Trusted).
+-- Assumes nothing.
 use Rattle.base.specs.Library.{ℕ, pred, _-_, Bool, cond, _&&_, _||_, List, ltb, leb, eqb, getD}
 use Rattle.base.specs.Limits.{sendingSize}
-use Rattle.costs.specs.{declared.Seat.Seat, declared.ValueOrder.ValueOrder, Instance.viewFrom}
+use Rattle.costs.specs.{declared.Seat.Seat, Instance.viewKnowing}
 use Rattle.message.specs.{declared.Message.Message, declared.Kind.Kind, declared.Read.Read, declared.Read.the-variants.Good, declared.Read.the-variants.Refused, Message.isUnit, Unpack.unpackOf}
 use Rattle.rules.specs.{declared.Unit.Unit, State.fresh, State.inRange, Calls.start}
 use Rattle.rules.specs.Step.{Decision, refused, respond}
@@ -19,22 +20,21 @@ abbrev pub canHear : ℕ → Message → Bool
 canHear own m = isUnit 16 (m .sender) && leb (getD (m .stamp) (own - 1) 0) 17 && (leb own (m .sender) || eqb (getD (m .values) (own - 1) 0) 0)
 
 -- a message that was read
-unfoldable pub respondTo : Seat → List ℕ → Kind → Unit → Message → Decision
-respondTo seat costs k u m = cond (canStep (seat .own) (seat .n) (seat .sizes) u) (cond (canHear (seat .own) m) (respond (viewFrom seat costs) k u m) (refused 9)) (refused 5)
+unfoldable pub respondTo : Seat → List ℕ → List ℕ → Kind → Unit → Message → Decision
+respondTo seat costs ahead k u m = cond (canStep (seat .own) (seat .n) (seat .sizes) u) (cond (canHear (seat .own) m) (respond (viewKnowing seat costs ahead) k u m) (refused 9)) (refused 5)
 
 -- a new unit
-unfoldable pub startTo : Seat → List ℕ → Decision
-startTo seat costs = cond (canStep (seat .own) (seat .n) (seat .sizes) fresh) (start (viewFrom seat costs) (pred (seat .own))) (refused 5)
+unfoldable pub startTo : Seat → List ℕ → List ℕ → Decision
+startTo seat costs ahead = cond (canStep (seat .own) (seat .n) (seat .sizes) fresh) (start (viewKnowing seat costs ahead) (pred (seat .own))) (refused 5)
 
 -- a lent state: none is in range for a number that is not 1 to 16
-unfoldable pub inRangeAt : Seat → List ℕ → Unit → Bool
-inRangeAt seat costs u = isUnit 16 (seat .own) && inRange (seat .sizes) (viewFrom seat costs) u
+unfoldable pub inRangeAt : Seat → List ℕ → List ℕ → Unit → Bool
+inRangeAt seat costs ahead u = isUnit 16 (seat .own) && inRange (seat .sizes) (viewKnowing seat costs ahead) u
 
-abbrev pub onKnown : Seat → List ℕ → Unit → Read → Message → Decision
-onKnown seat costs u (Good k) m = respondTo seat costs k u m
-onKnown seat costs u (Refused r) m = refused r
+abbrev pub onKnown : Seat → List ℕ → List ℕ → Unit → Read → Message → Decision
+onKnown seat costs ahead u (Good k) m = respondTo seat costs ahead k u m
+onKnown seat costs ahead u (Refused r) m = refused r
 
 -- 13; then 8 and 9 of the packet; then 5 and 9, and what a step gives
-unfoldable pub trustedOut : ValueOrder → Unit → ℕ → ℕ → List ℕ → List ℕ → List ℕ → ℕ → Decision
-trustedOut order u own n sizes costs bytes room =
-    let p = unpackOf bytes in cond (ltb room sendingSize) (refused 13) (onKnown (record { own = own; n = n; sizes = sizes; order = order }) costs u (p .answer) (p .message))
+unfoldable pub trustedOut : Seat → Unit → List ℕ → List ℕ → List ℕ → ℕ → Decision
+trustedOut seat u costs ahead bytes room = let p = unpackOf bytes in cond (ltb room sendingSize) (refused 13) (onKnown seat costs ahead u (p .answer) (p .message))

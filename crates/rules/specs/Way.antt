@@ -3,7 +3,7 @@
 use Rattle.base.specs.Library.{ℕ, _+_, _-_, Bool, cond, _&&_, List, [], ltb, leb, getD, set}
 use Rattle.base.specs.Sums.{sumFrom}
 use Rattle.costs.specs.declared.Seat.{Seat}
-use Rattle.costs.specs.{Cost.asNumber, Instance.View, Instance.viewFrom, Bounds.estimate}
+use Rattle.costs.specs.{Cost.asNumber, Instance.View, Instance.viewKnowing, Bounds.estimate}
 use Rattle.message.specs.{declared.Message.Message, declared.Read.Read, declared.Read.the-variants.Good, declared.Read.the-variants.Refused, Message.isUnit}
 use Rattle.message.specs.declared.Kind.the-variants.{Cpa, Request, Estimate, Solution, Stop}
 use Rattle.rules.specs.{declared.Unit.Unit, declared.Way.Way, declared.Ordering.Ordering}
@@ -53,8 +53,8 @@ byWay Lower w u m o = quiet (withBest (m .bound) (m .best) u)
 byWay Whole w u m o = o
 
 -- the estimate that answers a request, from a seat
-abbrev pub replyTo : Seat → List ℕ → Message → Message
-replyTo seat costs m = record { sender = seat .own; receiver = m .sender; stamp = m .stamp; values = zeros; cost = asNumber (estimate (viewFrom seat costs) (m .values) (m .sender)); bound = 0; best = zeros }
+abbrev pub replyTo : Seat → List ℕ → List ℕ → Message → Message
+replyTo seat costs ahead m = record { sender = seat .own; receiver = m .sender; stamp = m .stamp; values = zeros; cost = asNumber (estimate (viewKnowing seat costs ahead) (m .values) (m .sender)); bound = 0; best = zeros }
 
 -- the state with what a way changes; no estimate is stored but of one of 16 units
 abbrev pub changedBy : Way → Message → Unit → Unit

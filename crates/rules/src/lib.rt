@@ -17,6 +17,18 @@ pub struct Unit {
     pub stopped: bool,
 }
 
+// A unit's state without its estimates, which assigning and backtracking clear. A cpa that comes in is worked on as this, as less is copied.
+pub struct Held {
+    pub threshold: [u8; 16],
+    pub bound: u32,
+    pub best: [u8; 16],
+    pub stamp: [u8; 16],
+    pub values: [u8; 16],
+    pub cost: u32,
+    pub counter: u8,
+    pub stopped: bool,
+}
+
 // How two stamps compare.
 pub enum Ordering {
     Less,

@@ -15,8 +15,13 @@ use Rattle.base.specs.Put.{putAt, putWithin}
 use Rattle.base.specs.Put.Laws.{put-fits, put-behind}
 use Rattle.table.specs.Stream.{unitsOf, Accepted}
 use Rattle.table.specs.StreamLaws.{accepted-units}
+use Rattle.costs.specs.declared.ValueOrder.{ValueOrder}
+use Rattle.costs.specs.Instance.{lentView}
+use Rattle.costs.specs.Knowing.{Knows}
+use Rattle.costs.specs.Gather.{sizesIn}
 use Rattle.costs.specs.Gathered.{gathered}
 use Rattle.costs.specs.Gather.Laws.{gathered-most}
+use Rattle.runs.specs.declared.Outlook.{Outlook}
 
 -- room for the costs of 16 units
 abbrev pub lentSize : ℕ
@@ -128,3 +133,37 @@ module _ (s starts bytes : List ℕ) (l : Lent s starts bytes) (k : ℕ) (h : k 
       let n : length (gathered s (suc k)) ≡ getD starts (k + 1) 0 - getD starts k 0 = omega (arith, from, to) in
       ap (take (getD starts (k + 1) 0 - getD starts k 0)) (ap (drop (getD starts k 0)) stands ∙ drop-at (lentTo s k) (gathered s (suc k) ++ rest) (getD starts k 0) (sym from))
       ∙ take-at (gathered s (suc k)) rest (getD starts (k + 1) 0 - getD starts k 0) n
+
+-- ---- h of all units' values
+
+abbrev pub noOutlook : Outlook
+noOutlook = record { ahead = [] }
+
+-- of the first i units h of 16 values is known, in the costs lent with them
+pub record Told (order : ValueOrder) (s : List ℕ) (k : ℕ) (look : Outlook) : Type 0 where
+  pub long : length (look .ahead) ≡ 16
+  pub knows : Knows (lentView order (suc k) (unitsOf s) (sizesIn s) (gathered s (suc k))) (look .ahead)
+
+abbrev pub Looked : ValueOrder → List ℕ → ℕ → List Outlook → Type 0
+Looked order s i looks = (k : ℕ) → k < i → Told order s k (getD looks k noOutlook)
+
+module _ (order : ValueOrder) (s : List ℕ) (looks : List Outlook) where
+  pub looked-none : Looked order s 0 looks
+  looked-none k l = absurd (omega arith)
+
+  -- one unit more
+  pub looked-more : (i : ℕ) (look : Outlook) → i < length looks → Looked order s i looks → Told order s i look → Looked order s (suc i) (set looks i look)
+  looked-more i look in-list old told k l = go (eqb k i) refl
+    where
+      go : (t : Bool) → eqb k i ≡ t → Told order s k (getD (set looks i look) k noOutlook)
+      go true e = rw (eqb-true k i e, getD-set-same looks i look noOutlook in-list) told
+      go false e = let ne = eqb-false k i e in rw (getD-set-other looks i k look noOutlook ne) (old k (omega (arith, l, ne)))
+
+  -- so it is where a message is handed over
+  module _ (all : Looked order s (unitsOf s) looks) where
+    pub looked-long : (k : ℕ) → k < unitsOf s → length (getD looks k noOutlook .ahead) ≡ 16
+    looked-long k l = all k l .long
+
+    pub looked-at : (own n : ℕ) (sizes lent : List ℕ) → 1 ≤ own → own ≤ unitsOf s → n ≡ unitsOf s → sizes ≡ sizesIn s → lent ≡ gathered s own → Knows (lentView order own n sizes lent) (getD looks (own - 1) noOutlook .ahead)
+    looked-at zero n sizes lent first last units array is = absurd (omega arith)
+    looked-at (suc k) n sizes lent first last units array is = let e : suc k - 1 ≡ k = omega arith in rw (e, units, array, is) (all k (omega arith) .knows)

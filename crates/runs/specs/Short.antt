@@ -13,7 +13,8 @@ use Rattle.table.specs.Stream.{unitsOf}
 use Rattle.table.specs.StreamLaws.{accepted-units}
 use Rattle.costs.specs.declared.Seat.{Seat}
 use Rattle.costs.specs.declared.ValueOrder.{ValueOrder}
-use Rattle.costs.specs.Instance.{View, viewFrom}
+use Rattle.costs.specs.Instance.{View, lentView, viewKnowing}
+use Rattle.costs.specs.Knowing.{Knows}
 use Rattle.costs.specs.Gather.{sizesIn}
 use Rattle.costs.specs.Gathered.{gathered}
 use Rattle.message.specs.declared.Kind.{Kind}
@@ -46,10 +47,11 @@ use Rattle.rules.specs.Laws.Ways.{way-decides, reply-is, store-sender, unrefuse
 use Rattle.runs.specs.declared.Count.{Count}
 use Rattle.runs.specs.declared.Core.{Core}
 use Rattle.runs.specs.declared.Network.{Network}
+use Rattle.runs.specs.declared.Outlook.{Outlook}
 use Rattle.runs.specs.Count.{plus}
 use Rattle.runs.specs.Count.Laws.{Words, plus-none}
 use Rattle.runs.specs.Calls.{networkAfter, receiverOf, deliverOf}
-use Rattle.runs.specs.Lending.{Lent, part-order, part-end, part-costs}
+use Rattle.runs.specs.Lending.{Lent, Looked, noOutlook, looked-long, looked-at, part-order, part-end, part-costs}
 use Rattle.runs.specs.Pool.Laws.{closeGap, length-closed, sent-front}
 use Rattle.runs.specs.Code.{Open, own-first, own-last, pred-sub}
 use Rattle.runs.specs.Trusted.{checks, Oldest, Handed, oldest-unrefused, oldest-handed}
@@ -59,18 +61,18 @@ abbrev pub shortOutcome : UnitState → ℕ → Outcome
 shortOutcome u sent = record { refusal = 0; unit = u; sent = sent; records = 0 }
 
 -- what a way does to the pool, and how many messages are sent; the whole way does nothing yet
-abbrev pub Passed : Way → Seat → List ℕ → Message → List ℕ → ℕ → ℕ → List ℕ → Type 0
-Passed Quiet seat costs m pool used sent after = (sent ≡ 0) × (after ≡ closeGap pool 0 (messageSize * used))
-Passed Reply seat costs m pool used sent after =
-    (sent ≡ 1) × Sized (replyTo seat costs m) × (after ≡ putInto Estimate (replyTo seat costs m) (closeGap pool 0 (messageSize * used)) (messageSize * (used - 1)))
-Passed Follow seat costs m pool used sent after =
-    (sent ≡ 1) × Sized (replyTo seat costs m) × (after ≡ putInto Estimate (replyTo seat costs m) (closeGap pool 0 (messageSize * used)) (messageSize * (used - 1)))
-Passed Store seat costs m pool used sent after = (sent ≡ 0) × (after ≡ closeGap pool 0 (messageSize * used))
-Passed Lower seat costs m pool used sent after = (sent ≡ 0) × (after ≡ closeGap pool 0 (messageSize * used))
-Passed Whole seat costs m pool used sent after = (sent ≡ 0) × (after ≡ pool)
+abbrev pub Passed : Way → Seat → List ℕ → List ℕ → Message → List ℕ → ℕ → ℕ → List ℕ → Type 0
+Passed Quiet seat costs ahead m pool used sent after = (sent ≡ 0) × (after ≡ closeGap pool 0 (messageSize * used))
+Passed Reply seat costs ahead m pool used sent after =
+    (sent ≡ 1) × Sized (replyTo seat costs ahead m) × (after ≡ putInto Estimate (replyTo seat costs ahead m) (closeGap pool 0 (messageSize * used)) (messageSize * (used - 1)))
+Passed Follow seat costs ahead m pool used sent after =
+    (sent ≡ 1) × Sized (replyTo seat costs ahead m) × (after ≡ putInto Estimate (replyTo seat costs ahead m) (closeGap pool 0 (messageSize * used)) (messageSize * (used - 1)))
+Passed Store seat costs ahead m pool used sent after = (sent ≡ 0) × (after ≡ closeGap pool 0 (messageSize * used))
+Passed Lower seat costs ahead m pool used sent after = (sent ≡ 0) × (after ≡ closeGap pool 0 (messageSize * used))
+Passed Whole seat costs ahead m pool used sent after = (sent ≡ 0) × (after ≡ pool)
 
 -- the oldest message was heard: handed over where it goes a short way, else all is as it was
-abbrev pub Heard : {order : ValueOrder} {u : UnitState} {own n : ℕ} {sizes costs pool : List ℕ} {used : ℕ} → Oldest order u own n sizes costs pool used → Way → Message → ℕ → List ℕ → Type 0
+abbrev pub Heard : {order : ValueOrder} {u : UnitState} {own n : ℕ} {sizes costs ahead pool : List ℕ} {used : ℕ} → Oldest order u own n sizes costs ahead pool used → Way → Message → ℕ → List ℕ → Type 0
 Heard {u = u} t Quiet m sent after = Handed t (shortOutcome (changedBy Quiet m u) sent) after
 Heard {u = u} t Reply m sent after = Handed t (shortOutcome (changedBy Reply m u) sent) after
 Heard {u = u} t Follow m sent after = Handed t (shortOutcome (changedBy Follow m u) sent) after
@@ -85,7 +87,7 @@ one-sent pool at m out z fits =
     let front : take messageSize (laid (packet Estimate m ∷ []) out) ≡ encode Estimate m = sent-front (packet Estimate m ∷ []) out (wide-one Estimate m z) ∙ append-nil (encode Estimate m) in
     rw (front, put-fits Estimate m pool at fits .1, length-encode Estimate m z)
 
-module _ {order : ValueOrder} {u : UnitState} {own n : ℕ} {sizes costs pool : List ℕ} {used : ℕ} (t : Oldest order u own n sizes costs pool used) (arrays : SizedUnit u) (p : Parsed) (read : p ≡ unpackOf (take messageSize (drop 0 pool))) where
+module _ {order : ValueOrder} {u : UnitState} {own n : ℕ} {sizes costs ahead pool : List ℕ} {used : ℕ} (t : Oldest order u own n sizes costs ahead pool used) (arrays : SizedUnit u) (p : Parsed) (read : p ≡ unpackOf (take messageSize (drop 0 pool))) where
   abbrev blank : List ℕ
   blank = replicate sendingSize 0
 
@@ -96,18 +98,18 @@ module _ {order : ValueOrder} {u : UnitState} {own n : ℕ} {sizes costs pool : 
   seat = seatAt order own n sizes
 
   abbrev view : View
-  view = viewFrom seat costs
+  view = viewKnowing seat costs ahead
 
   abbrev decision : Decision
-  decision = trustedOut order u own n sizes costs (take messageSize (drop 0 pool)) (length blank)
+  decision = trustedOut seat u costs ahead (take messageSize (drop 0 pool)) (length blank)
 
   unrefused : outcomeOf n (pred own) u decision .refusal ≡ 0
   unrefused = oldest-unrefused t blank (bytesOf n (pred own) blank decision) fits (outcomeOf n (pred own) u decision) refl refl arrays
 
   by-kind : (k : Kind) → p .answer ≡ Good k → decision ≡ byKind view k u (p .message)
   by-kind k e =
-      let f = trusted-on order u own n sizes costs (take messageSize (drop 0 pool)) (length blank) fits p read k e in
-      f ∙ unrefused-by-kind seat costs k u (p .message) n (pred own) (ap (λ (o : Decision). outcomeOf n (pred own) u o .refusal) (sym f) ∙ unrefused)
+      let f = trusted-on seat u costs ahead (take messageSize (drop 0 pool)) (length blank) fits p read k e in
+      f ∙ unrefused-by-kind seat costs ahead k u (p .message) n (pred own) (ap (λ (o : Decision). outcomeOf n (pred own) u o .refusal) (sym f) ∙ unrefused)
 
   by-way : decision ≡ byWay (wayOf seat (p .answer) u (p .message)) view u (p .message) decision
   by-way = go (p .answer) refl
@@ -115,7 +117,7 @@ module _ {order : ValueOrder} {u : UnitState} {own n : ℕ} {sizes costs pool : 
       go : (r : Read) → p .answer ≡ r → decision ≡ byWay (wayOf seat r u (p .message)) view u (p .message) decision
       go (Good k) e =
           let f = by-kind k e in
-          f ∙ way-decides seat costs k u (p .message) ∙ ap (λ (o : Decision). byWay (wayOf seat (Good k) u (p .message)) view u (p .message) o) (sym f)
+          f ∙ way-decides seat costs ahead k u (p .message) ∙ ap (λ (o : Decision). byWay (wayOf seat (Good k) u (p .message)) view u (p .message) o) (sym f)
       go (Refused r) e = ap (λ (x : Way). byWay x view u (p .message) decision) (sym (way-unread seat r u (p .message)))
 
   -- what the unit decides is handed over
@@ -162,18 +164,18 @@ module _ {order : ValueOrder} {u : UnitState} {own n : ℕ} {sizes costs pool : 
 
       -- the estimate was
       answered : (x : Way) (v : UnitState) → way ≡ x → byWay x view u (p .message) decision ≡ accepted v (reply view (p .message)) []
-          → (sent ≡ 1) × Sized (replyTo seat costs (p .message)) × (after ≡ putInto Estimate (replyTo seat costs (p .message)) (closeGap pool 0 (messageSize * used)) (messageSize * (used - 1))) → Handed t (shortOutcome v sent) after
+          → (sent ≡ 1) × Sized (replyTo seat costs ahead (p .message)) × (after ≡ putInto Estimate (replyTo seat costs ahead (p .message)) (closeGap pool 0 (messageSize * used)) (messageSize * (used - 1))) → Handed t (shortOutcome v sent) after
       answered x v e f q =
           let first = own-first order (t .net .core) (t .stream) (short-open .passed .core) n own (take messageSize (drop 0 pool)) (t .units) (t .named) in
-          rw (q .0) (answering v (decided x e ∙ f) (replyTo seat costs (p .message)) (reply-is seat costs (p .message) first) (q .1) after (q .2))
+          rw (q .0) (answering v (decided x e ∙ f) (replyTo seat costs ahead (p .message)) (reply-is seat costs ahead (p .message) first) (q .1) after (q .2))
 
       stored-is : way ≡ Store → changedBy Store (p .message) u ≡ stored (p .message) u
       stored-is e = rw (store-sender seat (p .answer) u (p .message) (sym is ∙ e))
 
-      pub heard : Passed way seat costs (p .message) pool used sent after → Heard t way (p .message) sent after
+      pub heard : Passed way seat costs ahead (p .message) pool used sent after → Heard t way (p .message) sent after
       heard = go way refl
         where
-          go : (x : Way) → way ≡ x → Passed x seat costs (p .message) pool used sent after → Heard t x (p .message) sent after
+          go : (x : Way) → way ≡ x → Passed x seat costs ahead (p .message) pool used sent after → Heard t x (p .message) sent after
           go Quiet e q = still Quiet u e refl q
           go Reply e q = answered Reply u e refl q
           go Follow e q = answered Follow (withThreshold (p .message .stamp) u) e refl q
@@ -186,7 +188,7 @@ module _ {order : ValueOrder} {u : UnitState} {own n : ℕ} {sizes costs pool : 
 abbrev pub stepped : Core → ℕ → Outcome → Core
 stepped core place r = record { units = set (core .units) place (r .unit); records = plus (r .records) (core .records); deliveries = core .deliveries }
 
-pub record Turned {order : ValueOrder} {u : UnitState} {own n : ℕ} {sizes costs pool : List ℕ} {used : ℕ} (t : Oldest order u own n sizes costs pool used) (core : Core) (place : ℕ) (after : List ℕ) (next : Core) (sent : ℕ) : Type 0 where
+pub record Turned {order : ValueOrder} {u : UnitState} {own n : ℕ} {sizes costs ahead pool : List ℕ} {used : ℕ} (t : Oldest order u own n sizes costs ahead pool used) (core : Core) (place : ℕ) (after : List ℕ) (next : Core) (sent : ℕ) : Type 0 where
   pub outcome : Outcome
   pub handed : Handed t outcome after
   pub state : next ≡ stepped core place outcome
@@ -195,7 +197,8 @@ pub record Turned {order : ValueOrder} {u : UnitState} {own n : ℕ} {sizes cost
 -- ---- a turn of the loop: the unit that the message is for, by its seat, and the costs lent with it
 
 module _ (order : ValueOrder) (s : List ℕ) (net : Network) (pool : List ℕ) (accepted : deliverOf order net s pool 0 .answer .refusal ≡ 0) (one seat : Seat) (table : one ≡ seatAt order 1 (unitsOf s) (sizesIn s))
-    (its : seat ≡ seatAt (one .order) (receiverOf (one .n) (take messageSize (drop 0 pool))) (one .n) (one .sizes)) (bytes : AllBytes (take messageSize (drop 0 pool))) (starts lent : List ℕ) (laid : Lent s starts lent) where
+    (its : seat ≡ seatAt (one .order) (receiverOf (one .n) (take messageSize (drop 0 pool))) (one .n) (one .sizes)) (bytes : AllBytes (take messageSize (drop 0 pool))) (starts lent : List ℕ) (laid : Lent s starts lent)
+    (looks : List Outlook) (looked : Looked order s (unitsOf s) looks) where
   pub turn-open : Open order net s pool 0
   turn-open = checks order net s pool 0 accepted
 
@@ -225,7 +228,16 @@ module _ (order : ValueOrder) (s : List ℕ) (net : Network) (pool : List ℕ) (
       let e : suc (seat .own - 1) ≡ seat .own = omega (arith, turn-first) in
       part-costs s starts lent laid (seat .own - 1) below ∙ ap (gathered s) e
 
-  abbrev pub turn-oldest : Oldest (seat .order) (unitAt (net .core .units) (seat .own - 1)) (seat .own) (seat .n) (seat .sizes) (take (getD starts (seat .own - 1 + 1) 0 - getD starts (seat .own - 1) 0) (drop (getD starts (seat .own - 1) 0) lent)) pool (net .used)
+  pub turn-long : length (getD looks (seat .own - 1) noOutlook .ahead) ≡ 16
+  turn-long = looked-long order s looks looked (seat .own - 1) below
+
+  pub known-is : Knows (lentView (seat .order) (seat .own) (seat .n) (seat .sizes) (take (getD starts (seat .own - 1 + 1) 0 - getD starts (seat .own - 1) 0) (drop (getD starts (seat .own - 1) 0) lent))) (getD looks (seat .own - 1) noOutlook .ahead)
+  known-is =
+      let o : seat .order ≡ order = rw (its, table) in
+      let array : seat .sizes ≡ sizesIn s = rw (its, table) in
+      rw o (looked-at order s looks looked (seat .own) (seat .n) (seat .sizes) (take (getD starts (seat .own - 1 + 1) 0 - getD starts (seat .own - 1) 0) (drop (getD starts (seat .own - 1) 0) lent)) turn-first (omega (arith, below, turn-first)) units-are array costs-are)
+
+  abbrev pub turn-oldest : Oldest (seat .order) (unitAt (net .core .units) (seat .own - 1)) (seat .own) (seat .n) (seat .sizes) (take (getD starts (seat .own - 1 + 1) 0 - getD starts (seat .own - 1) 0) (drop (getD starts (seat .own - 1) 0) lent)) (getD looks (seat .own - 1) noOutlook .ahead) pool (net .used)
   turn-oldest = record {
     stream = s;
     net = net;
@@ -235,6 +247,7 @@ module _ (order : ValueOrder) (s : List ℕ) (net : Network) (pool : List ℕ) (
     named = named-is;
     unit = refl;
     lent = costs-are;
+    knows = known-is;
     count = refl;
     bytes = bytes;
   }
@@ -263,7 +276,7 @@ wayCode Store = 3
 wayCode Lower = 4
 wayCode Whole = 5
 
-module _ (core : Core) (place : ℕ) {order : ValueOrder} {own n : ℕ} {sizes costs pool : List ℕ} {used : ℕ} (t : Oldest order (unitAt (core .units) place) own n sizes costs pool used) (words : Words (core .records)) (m : Message) (sent : ℕ) (after : List ℕ) where
+module _ (core : Core) (place : ℕ) {order : ValueOrder} {own n : ℕ} {sizes costs ahead pool : List ℕ} {used : ℕ} (t : Oldest order (unitAt (core .units) place) own n sizes costs ahead pool used) (words : Words (core .records)) (m : Message) (sent : ℕ) (after : List ℕ) where
   -- the unit stays as it is
   pub kept-turned : (way : Way) → (wayCode way ≡ 0) ⊎ (wayCode way ≡ 1) → Heard t way m sent after → Turned t core place after core sent
   kept-turned = go
@@ -305,6 +318,6 @@ module _ (core : Core) (place : ℕ) {order : ValueOrder} {own n : ℕ} {sizes c
         go Whole e h f = absurd (⊎-elim (λ (q : _≡_ {A = ℕ} 5 2). omega arith) (λ q. ⊎-elim (λ (q : _≡_ {A = ℕ} 5 3). omega arith) (λ (q : _≡_ {A = ℕ} 5 4). omega arith) q) e)
 
 -- the whole way is gone with the pool as it was
-pub whole-handed : {order : ValueOrder} {u : UnitState} {own n : ℕ} {sizes costs pool : List ℕ} {used : ℕ} (t : Oldest order u own n sizes costs pool used) (was : List ℕ) → was ≡ pool → (r : Outcome) (after : List ℕ)
-    → ((o : Oldest order u own n sizes costs was used) → Handed o r after) → Handed t r after
-whole-handed {order} {u} {own} {n} {sizes} {costs} {pool} {used} t was e r after f = subst (λ (q : List ℕ). (o : Oldest order u own n sizes costs q used) → Handed o r after) e f t
+pub whole-handed : {order : ValueOrder} {u : UnitState} {own n : ℕ} {sizes costs ahead pool : List ℕ} {used : ℕ} (t : Oldest order u own n sizes costs ahead pool used) (was : List ℕ) → was ≡ pool → (r : Outcome) (after : List ℕ)
+    → ((o : Oldest order u own n sizes costs ahead was used) → Handed o r after) → Handed t r after
+whole-handed {order} {u} {own} {n} {sizes} {costs} {ahead} {pool} {used} t was e r after f = subst (λ (q : List ℕ). (o : Oldest order u own n sizes costs ahead q used) → Handed o r after) e f t

@@ -14,6 +14,8 @@ use Rattle.base.specs.Limits.{poolCells, sendingSize, messageSize}
 use Rattle.table.specs.Stream.{unitsOf}
 use Rattle.table.specs.StreamLaws.{accepted-units}
 use Rattle.costs.specs.declared.ValueOrder.{ValueOrder}
+use Rattle.costs.specs.Instance.{lentView}
+use Rattle.costs.specs.Knowing.{Knows}
 use Rattle.costs.specs.Gather.{sizesIn}
 use Rattle.costs.specs.Gathered.{gathered}
 use Rattle.costs.specs.Gather.Sizes.{length-sizes}
@@ -29,7 +31,7 @@ use Rattle.rules.specs.Calls.{outcomeOf, bytesOf, stepOut}
 use Rattle.rules.specs.Trusted.{trustedOut}
 use Rattle.rules.specs.Laws.Range.{SizedUnit}
 use Rattle.rules.specs.Laws.Refusals.{NumberedRead, parse-numbered}
-use Rattle.rules.specs.Laws.Trusted.{trusted-steps}
+use Rattle.rules.specs.Laws.Trusted.{seatAt, trusted-steps}
 use Rattle.runs.specs.declared.Network.{Network}
 use Rattle.runs.specs.declared.Answer.{Answer}
 use Rattle.runs.specs.Pool.{cellOf}
@@ -38,18 +40,19 @@ use Rattle.runs.specs.Calls.{Result, deliverRefusal, receiverOf, stepFro
 use Rattle.runs.specs.Code.{Open, opened, deliver-goes, Stepping, Stepped, passes, step-told, stepping, hand-sent, hand-refuses, hand-stores, storedAnswer, storedPool, pred-sub}
 
 -- the step that trusts, lent what the stream says
-trusted-told : (order : ValueOrder) (s : List ℕ) (own : ℕ) (u : UnitState) (us : List UnitState) → unitAt us (pred own) ≡ u → Stepping order s own u → (n : ℕ) (sizes costs bytes before after : List ℕ) (r : Outcome) → n ≡ unitsOf s
-    → sizes ≡ sizesIn s → costs ≡ gathered s own → sendingSize ≤ length before → (k : Kind) → parseFor (unitsOf s) (sizesIn s) own bytes .answer ≡ Good k
-    → r ≡ outcomeOf n (pred own) u (trustedOut order u own n sizes costs bytes (length before)) → after ≡ bytesOf n (pred own) before (trustedOut order u own n sizes costs bytes (length before))
+trusted-told : (order : ValueOrder) (s : List ℕ) (own : ℕ) (u : UnitState) (us : List UnitState) → unitAt us (pred own) ≡ u → Stepping order s own u → (n : ℕ) (sizes costs ahead bytes before after : List ℕ) (r : Outcome) → n ≡ unitsOf s
+    → sizes ≡ sizesIn s → costs ≡ gathered s own → Knows (lentView order own n sizes costs) ahead → sendingSize ≤ length before → (k : Kind) → parseFor (unitsOf s) (sizesIn s) own bytes .answer ≡ Good k
+    → r ≡ outcomeOf n (pred own) u (trustedOut (seatAt order own n sizes) u costs ahead bytes (length before)) → after ≡ bytesOf n (pred own) before (trustedOut (seatAt order own n sizes) u costs ahead bytes (length before))
     → Stepped order s own u bytes before r after
-trusted-told order s own u us at g n sizes costs bytes before after r units array lent fits k good e f =
+trusted-told order s own u us at g n sizes costs ahead bytes before after r units array lent knows fits k good e f =
     step-told order s own u g n sizes costs bytes before after r units array lent fits (e ∙ ap (λ (o : Decision). outcomeOf n (pred own) u o) same) (f ∙ ap (λ (o : Decision). bytesOf n (pred own) before o) same)
   where
-    same : trustedOut order u own n sizes costs bytes (length before) ≡ stepOut order u own n sizes costs bytes (length before)
+    same : trustedOut (seatAt order own n sizes) u costs ahead bytes (length before) ≡ stepOut order u own n sizes costs bytes (length before)
     same =
         let long : unitsOf s ≤ length (sizesIn s) = omega (arith, length-sizes s, accepted-units s (g .table) .1) in
         let p = passes order s (g .table) us own (g .first) (g .last) (rw at (g .state)) bytes (length before) fits in
-        rw (units, array, lent) (trusted-steps order u own (unitsOf s) (sizesIn s) (gathered s own) (length before) (rw at at p) long bytes k good)
+        let k′ : Knows (lentView order own (unitsOf s) (sizesIn s) (gathered s own)) ahead = rw (units, array, lent) at knows in
+        rw (units, array, lent) (trusted-steps (seatAt order own (unitsOf s) (sizesIn s)) u (gathered s own) ahead (length before) (rw at at p) long k′ bytes k good)
 
 module _ (order : ValueOrder) (net : Network) (s pool : List ℕ) (cell : ℕ) (accepted : deliverOf order net s pool cell .answer .refusal ≡ 0) where
   unrefused : deliverRefusal order net s pool cell ≡ 0
@@ -85,9 +88,9 @@ module _ (order : ValueOrder) (net : Network) (s pool : List ℕ) (cell : ℕ) (
   -- ---- n and own as the code has them, and the cell's m bytes
 
   module _ (n own m : ℕ) (units : n ≡ unitsOf s) (size : m ≡ messageSize) (named : own ≡ receiverOf n (take m (drop (messageSize * cell) pool))) (u : UnitState) (at : u ≡ unitAt (net .core .units) (own - 1))
-      (sizes costs before out : List ℕ) (array : sizes ≡ sizesIn s) (lent : costs ≡ gathered s own) (fits : sendingSize ≤ length before) (r : Outcome)
-      (told : r ≡ outcomeOf n (pred own) u (trustedOut order u own n sizes costs (take m (drop (messageSize * cell) pool)) (length before)))
-      (left : out ≡ bytesOf n (pred own) before (trustedOut order u own n sizes costs (take m (drop (messageSize * cell) pool)) (length before))) (arrays : SizedUnit u) (all : AllBytes (take m (drop (messageSize * cell) pool))) where
+      (sizes costs ahead before out : List ℕ) (array : sizes ≡ sizesIn s) (lent : costs ≡ gathered s own) (knows : Knows (lentView order own n sizes costs) ahead) (fits : sendingSize ≤ length before) (r : Outcome)
+      (told : r ≡ outcomeOf n (pred own) u (trustedOut (seatAt order own n sizes) u costs ahead (take m (drop (messageSize * cell) pool)) (length before)))
+      (left : out ≡ bytesOf n (pred own) before (trustedOut (seatAt order own n sizes) u costs ahead (take m (drop (messageSize * cell) pool)) (length before))) (arrays : SizedUnit u) (all : AllBytes (take m (drop (messageSize * cell) pool))) where
     named-is : own ≡ receiverOf (unitsOf s) (cellOf pool cell)
     named-is = named ∙ rw (units, size)
 
@@ -99,8 +102,8 @@ module _ (order : ValueOrder) (net : Network) (s pool : List ℕ) (cell : ℕ) (
 
     steps : Stepped order s own u (take m (drop (messageSize * cell) pool)) before r out
     steps =
-        trusted-told order s own u (net .core .units) (ap (λ (k : ℕ). unitAt (net .core .units) k) (pred-sub own) ∙ sym at) (stepping order (net .core) s (checks .passed .core) n own (take m (drop (messageSize * cell) pool)) units named u at) n sizes costs (take m (drop (messageSize * cell) pool))
-        before out r units array lent fits (good .0) (good .1) told left
+        trusted-told order s own u (net .core .units) (ap (λ (k : ℕ). unitAt (net .core .units) k) (pred-sub own) ∙ sym at) (stepping order (net .core) s (checks .passed .core) n own (take m (drop (messageSize * cell) pool)) units named u at) n sizes costs ahead (take m (drop (messageSize * cell) pool))
+        before out r units array lent knows fits (good .0) (good .1) told left
 
     pub trusted-sent : r .sent ≤ 16
     trusted-sent = hand-sent order (net .core) s (checks .passed .core) n own (take m (drop (messageSize * cell) pool)) units named u at before out r steps arrays all
@@ -136,7 +139,7 @@ module _ (order : ValueOrder) (net : Network) (s pool : List ℕ) (cell : ℕ) (
 
 -- ---- the oldest message, cell 0, of a network whose next delivery of it is accepted; the unit that it is for, and the costs lent with it
 
-pub record Oldest (order : ValueOrder) (u : UnitState) (own n : ℕ) (sizes costs pool : List ℕ) (used : ℕ) : Type 0 where
+pub record Oldest (order : ValueOrder) (u : UnitState) (own n : ℕ) (sizes costs ahead pool : List ℕ) (used : ℕ) : Type 0 where
   pub stream : List ℕ
   pub net : Network
   pub accepted : deliverOf order net stream pool 0 .answer .refusal ≡ 0
@@ -145,35 +148,36 @@ pub record Oldest (order : ValueOrder) (u : UnitState) (own n : ℕ) (sizes cost
   pub named : own ≡ receiverOf n (take messageSize (drop 0 pool))
   pub unit : u ≡ unitAt (net .core .units) (own - 1)
   pub lent : costs ≡ gathered stream own
+  pub knows : Knows (lentView order own n sizes costs) ahead
   pub count : used ≡ net .used
   pub bytes : AllBytes (take messageSize (drop 0 pool))
 
 -- it is handed over: r is what its unit gave, and `after` the pool then
-abbrev pub Handed : {order : ValueOrder} {u : UnitState} {own n : ℕ} {sizes costs pool : List ℕ} {used : ℕ} → Oldest order u own n sizes costs pool used → Outcome → List ℕ → Type 0
-Handed {order} {u} {own} {n} {sizes} {costs} {pool} {used} t r after =
+abbrev pub Handed : {order : ValueOrder} {u : UnitState} {own n : ℕ} {sizes costs ahead pool : List ℕ} {used : ℕ} → Oldest order u own n sizes costs ahead pool used → Outcome → List ℕ → Type 0
+Handed {order} {u} {own} {n} {sizes} {costs} {ahead} {pool} {used} t r after =
     (record { refusal = 0; network = networkAfter (t .net) own (r .unit) (t .net .used - 1 + r .sent) (r .records) } ≡ deliverOf order (t .net) (t .stream) pool 0 .answer)
     × (after ≡ deliverOf order (t .net) (t .stream) pool 0 .pool) × (used - 1 + r .sent ≤ poolCells)
 
-module _ {order : ValueOrder} {u : UnitState} {own n : ℕ} {sizes costs pool : List ℕ} {used : ℕ} (t : Oldest order u own n sizes costs pool used) (before out : List ℕ) (fits : sendingSize ≤ length before) (r : Outcome)
-    (told : r ≡ outcomeOf n (pred own) u (trustedOut order u own n sizes costs (take messageSize (drop 0 pool)) (length before)))
-    (left : out ≡ bytesOf n (pred own) before (trustedOut order u own n sizes costs (take messageSize (drop 0 pool)) (length before))) (arrays : SizedUnit u) where
+module _ {order : ValueOrder} {u : UnitState} {own n : ℕ} {sizes costs ahead pool : List ℕ} {used : ℕ} (t : Oldest order u own n sizes costs ahead pool used) (before out : List ℕ) (fits : sendingSize ≤ length before) (r : Outcome)
+    (told : r ≡ outcomeOf n (pred own) u (trustedOut (seatAt order own n sizes) u costs ahead (take messageSize (drop 0 pool)) (length before)))
+    (left : out ≡ bytesOf n (pred own) before (trustedOut (seatAt order own n sizes) u costs ahead (take messageSize (drop 0 pool)) (length before))) (arrays : SizedUnit u) where
   pub oldest-open : Open order (t .net) (t .stream) pool 0
   oldest-open = checks order (t .net) (t .stream) pool 0 (t .accepted)
 
   pub oldest-unrefused : r .refusal ≡ 0
   oldest-unrefused =
-      unrefused-step order (t .net) (t .stream) pool 0 (t .accepted) n own messageSize (t .units) refl (t .named) u (t .unit) sizes costs before out (t .array) (t .lent) fits r told left arrays (t .bytes)
+      unrefused-step order (t .net) (t .stream) pool 0 (t .accepted) n own messageSize (t .units) refl (t .named) u (t .unit) sizes costs ahead before out (t .array) (t .lent) (t .knows) fits r told left arrays (t .bytes)
 
   pub oldest-sent : r .sent ≤ 16
   oldest-sent =
-      trusted-sent order (t .net) (t .stream) pool 0 (t .accepted) n own messageSize (t .units) refl (t .named) u (t .unit) sizes costs before out (t .array) (t .lent) fits r told left arrays (t .bytes)
+      trusted-sent order (t .net) (t .stream) pool 0 (t .accepted) n own messageSize (t .units) refl (t .named) u (t .unit) sizes costs ahead before out (t .array) (t .lent) (t .knows) fits r told left arrays (t .bytes)
 
   pub oldest-room : used - 1 + r .sent ≤ poolCells
   oldest-room =
       rw (t .count)
-      (trusted-room order (t .net) (t .stream) pool 0 (t .accepted) n own messageSize (t .units) refl (t .named) u (t .unit) sizes costs before out (t .array) (t .lent) fits r told left arrays (t .bytes))
+      (trusted-room order (t .net) (t .stream) pool 0 (t .accepted) n own messageSize (t .units) refl (t .named) u (t .unit) sizes costs ahead before out (t .array) (t .lent) (t .knows) fits r told left arrays (t .bytes))
 
   pub oldest-handed : (after : List ℕ) → after ≡ paste (closeGap pool 0 (messageSize * used)) (messageSize * (used - 1)) out (messageSize * r .sent) → Handed t r after
   oldest-handed after e =
-      let g = trusted-gives order (t .net) (t .stream) pool 0 (t .accepted) n own messageSize (t .units) refl (t .named) u (t .unit) sizes costs before out (t .array) (t .lent) fits r told left arrays (t .bytes) in
+      let g = trusted-gives order (t .net) (t .stream) pool 0 (t .accepted) n own messageSize (t .units) refl (t .named) u (t .unit) sizes costs ahead before out (t .array) (t .lent) (t .knows) fits r told left arrays (t .bytes) in
       (g .0, e ∙ rw (t .count) (g .1), oldest-room)

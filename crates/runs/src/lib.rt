@@ -38,3 +38,8 @@ pub struct Answer {
     pub refusal: u8,
     pub network: Network,
 }
+
+// What is known of a unit's values for a whole run: h of each as a number.
+pub struct Outlook {
+    pub ahead: [u32; 16],
+}

@@ -4,7 +4,7 @@ use Prim.Native.Nat.{ℕ, zero, suc, pred, _-_, _≤_, _<_}
 use native.Mathlib.Omega.{arith}
 use mathlib.Core.Path.{_≡_, refl, sym, ap, _∙_}
 use mathlib.Core.Bool.{Bool, true, false}
-use mathlib.Core.List.{List}
+use mathlib.Core.List.{[], List}
 use lib.ListN.{length}
 use borrow.Author.Tests.{lt-ltb, le-ltb}
 use Rattle.base.specs.Refusal.Laws.{or-first}
@@ -12,7 +12,8 @@ use Rattle.base.specs.Shape.{shapeGood}
 use Rattle.base.specs.Shape.Laws.{shape-n}
 use Rattle.costs.specs.declared.Seat.{Seat}
 use Rattle.costs.specs.declared.ValueOrder.{ValueOrder}
-use Rattle.costs.specs.Instance.{View, lentView, viewFrom}
+use Rattle.costs.specs.Instance.{View, lentView, viewFrom, knowing, viewKnowing}
+use Rattle.costs.specs.Knowing.{knows-nothing}
 use Rattle.costs.specs.Lent.{lentRefusal}
 use Rattle.message.specs.declared.Message.{Message}
 use Rattle.message.specs.declared.Parsed.{Parsed}
@@ -155,10 +156,10 @@ whoever : (was was′ : Unit) (o : Decision) → Accepts o → decidedOf was o �
 whoever was was′ (refused x) a = absurd a
 whoever was was′ (accepted u s ws) a = refl
 
-pub start-decides : (order : ValueOrder) (own n : ℕ) (sizes costs : List ℕ) (room : ℕ) → Makes own n sizes costs room → n ≤ length sizes → (was : Unit) (d : Decided) → d ≡ decidedOf fresh (startTo (seatAt order own n sizes) costs)
+pub start-decides : (order : ValueOrder) (own n : ℕ) (sizes costs : List ℕ) (room : ℕ) → Makes own n sizes costs room → n ≤ length sizes → (was : Unit) (d : Decided) → d ≡ decidedOf fresh (startTo (seatAt order own n sizes) costs [])
     → d ≡ decidedOf was (start (lentView order own n sizes costs) (pred own))
 start-decides order own n sizes costs room m long was d e =
-    e ∙ ap (λ (o : Decision). decidedOf fresh o) (starts order own n sizes costs room m long) ∙ whoever fresh was (start (lentView order own n sizes costs) (pred own)) (start-accepts (lentView order own n sizes costs) (pred own))
+    e ∙ ap (λ (o : Decision). decidedOf fresh o) (starts (seatAt order own n sizes) costs [] room m long (knows-nothing (lentView order own n sizes costs))) ∙ whoever fresh was (start (lentView order own n sizes costs) (pred own)) (start-accepts (lentView order own n sizes costs) (pred own))
 
 -- ---- a step
 
@@ -194,8 +195,8 @@ module _ (order : ValueOrder) (u : Unit) (own n : ℕ) (sizes costs out : List �
     to-own : p .message .receiver ≡ own
     to-own = rw fields (known .receiver)
 
-    pub step-decides : (d : Decided) → d ≡ decidedOf u (respondTo (seatAt order own n sizes) costs k u (p .message)) → d ≡ decidedOf u (respond (lentView order own n sizes costs) k u (p .message))
-    step-decides d e = e ∙ rw fields (ap (λ (o : Decision). decidedOf u o) (responds order u own n sizes costs (length out) q long bytes k answered))
+    pub step-decides : (d : Decided) → d ≡ decidedOf u (respondTo (seatAt order own n sizes) costs [] k u (p .message)) → d ≡ decidedOf u (respond (lentView order own n sizes costs) k u (p .message))
+    step-decides d e = e ∙ rw fields (ap (λ (o : Decision). decidedOf u o) (responds (seatAt order own n sizes) u costs [] (length out) q long (knows-nothing (lentView order own n sizes costs)) bytes k answered))
 
     pub step-few : SizedUnit u → Sized (p .message) → (was : Unit) (d : Decided) → d ≡ decidedOf was (respond (lentView order own n sizes costs) k u (p .message)) → length (packets n (own - 1) (d .sending)) ≤ 16
     unfolding lentView
@@ -207,9 +208,9 @@ module _ (order : ValueOrder) (u : Unit) (own n : ℕ) (sizes costs out : List �
 
 -- ---- a step on what is known to be good
 
-module _ (seat : Seat) (costs : List ℕ) (k : Kind) (u : Unit) (m : Message) (d : Decided) (e : d ≡ decidedOf u (respondTo seat costs k u m)) (z : d .refusal ≡ 0) where
+module _ (seat : Seat) (costs ahead : List ℕ) (k : Kind) (u : Unit) (m : Message) (d : Decided) (e : d ≡ decidedOf u (respondTo seat costs ahead k u m)) (z : d .refusal ≡ 0) where
   steps : canStep (seat .own) (seat .n) (seat .sizes) u ≡ true
-  steps = responded seat costs k u m (sym (ap (λ (q : Decided). q .refusal) e) ∙ z)
+  steps = responded seat costs ahead k u m (sym (ap (λ (q : Decided). q .refusal) e) ∙ z)
 
   shaped : Shaped seat
   shaped = known-shaped seat u steps
@@ -218,11 +219,11 @@ module _ (seat : Seat) (costs : List ℕ) (k : Kind) (u : Unit) (m : Message) (d
   trusted-room out fits = record { first = shaped .number .first; last = shaped .within; units = shaped .units; bytes = fits }
 
   pub trusted-few : length (packets (seat .n) (seat .own - 1) (d .sending)) ≤ 16
-  unfolding lentView packets
-  trusted-few = rw (← pred-sub (seat .own)) (by (respondTo seat costs k u m) e (go (canHear (seat .own) m) refl))
+  unfolding knowing lentView packets
+  trusted-few = rw (← pred-sub (seat .own)) (by (respondTo seat costs ahead k u m) e (go (canHear (seat .own) m) refl))
     where
       w : View
-      w = viewFrom seat costs
+      w = viewKnowing seat costs ahead
 
       below : w .place < seat .n
       below = omega (arith, pred-sub (seat .own), shaped .number .first, shaped .within)
@@ -231,6 +232,6 @@ module _ (seat : Seat) (costs : List ℕ) (k : Kind) (u : Unit) (m : Message) (d
       by (refused x) f h = rw f (omega arith)
       by (accepted t s ws) f h = rw f (omega (arith, h, shaped .units))
 
-      go : (t : Bool) → canHear (seat .own) m ≡ t → Whenever (Few (seat .n) w refl below) (respondTo seat costs k u m)
-      go true h = rw (respond-on seat costs k u m steps h) (respond-few (seat .n) w refl below k u m)
-      go false h = rw (respond-9 seat costs k u m steps h) tt
+      go : (t : Bool) → canHear (seat .own) m ≡ t → Whenever (Few (seat .n) w refl below) (respondTo seat costs ahead k u m)
+      go true h = rw (respond-on seat costs ahead k u m steps h) (respond-few (seat .n) w refl below k u m)
+      go false h = rw (respond-9 seat costs ahead k u m steps h) tt

@@ -58,7 +58,8 @@ pub fn make_by(
     if refusal != 0 {
         return refused(refusal, no_unit());
     }
-    let d = decide::start(seat, costs);
+    let unknown = [0u32; 1];
+    let d = decide::start(seat, costs, &unknown[0..0]);
     carry_out(seat, d, out)
 }
 
@@ -115,30 +116,23 @@ pub fn step_by(
         return refused(message::refusal_of(answer), u);
     };
     let m = parsed.message;
-    let d = decide::respond(seat, costs, kind, u, m);
+    let unknown = [0u32; 1];
+    let d = decide::respond(seat, costs, &unknown[0..0], kind, u, m);
     carry_out(seat, d, out)
 }
 
-// The step on what is known to be good, as in a run that checked its table once: it asks only what it can't do without. Refusals 13, 8, 9, 5,
-// then 12, 11. On what `step_by` accepts it is the step.
-pub fn step_trusted_by(
-    order: ValueOrder,
+// The step on what is known to be good, as in a run that checked its table once and knows h: it asks only what it can't do without. Refusals 13,
+// 8, 9, 5, then 12, 11. On what `step_by` accepts it is the step, where what is known is right.
+pub fn step_trusted(
+    seat: Seat,
     u: Unit,
-    own: u8,
-    n: u8,
-    sizes: [u8; 16],
     costs: &[u8],
+    ahead: &[u32],
     packet: &[u8],
     out: &mut [u8],
 ) -> Outcome
-    ensures { λ r. ⌜ (r ≡ outcomeOf n (pred own) u (trustedOut order u own n sizes (now (costs .entry)) (now (packet .entry)) (length (now (out .entry))))) × (now (out .exit) ≡ bytesOf n (pred own) (now (out .entry)) (trustedOut order u own n sizes (now (costs .entry)) (now (packet .entry)) (length (now (out .entry))))) ⌝ }
+    ensures { λ r. ⌜ (r ≡ outcomeOf (seat .n) (pred (seat .own)) u (trustedOut seat u (now (costs .entry)) (now (ahead .entry)) (now (packet .entry)) (length (now (out .entry))))) × (now (out .exit) ≡ bytesOf (seat .n) (pred (seat .own)) (now (out .entry)) (trustedOut seat u (now (costs .entry)) (now (ahead .entry)) (now (packet .entry)) (length (now (out .entry))))) ⌝ }
 {
-    let seat = Seat {
-        own,
-        n,
-        sizes,
-        order,
-    };
     if out.len() < base::SENDING_SIZE {
         return refused(13, u);
     }
@@ -148,7 +142,7 @@ pub fn step_trusted_by(
         return refused(message::refusal_of(answer), u);
     };
     let m = known.message;
-    let d = decide::respond(seat, costs, kind, u, m);
+    let d = decide::respond(seat, costs, ahead, kind, u, m);
     carry_out(seat, d, out)
 }
 
@@ -251,7 +245,8 @@ fn range_refusal(seat: Seat, costs: &[u8], u: Unit) -> u8
     if refusal != 0 {
         return refusal;
     }
-    if !decide::in_range(seat, costs, u) {
+    let unknown = [0u32; 1];
+    if !decide::in_range(seat, costs, &unknown[0..0], u) {
         return 5;
     }
     0

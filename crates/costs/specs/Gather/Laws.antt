@@ -22,7 +22,7 @@ use Rattle.table.specs.StreamLaws.{unaries-two, streamUnary, streamCost, costs-
 use Rattle.base.specs.Shape.{isValue}
 use Rattle.base.specs.Shape.Laws.{range-value, value-range}
 use Rattle.costs.specs.Cost.{Cost, Of, pairCost}
-use Rattle.costs.specs.Instance.{View, viewOf, viewBy, pairStart, inPair, costNumber, instanceOf, otherStart, lentUnary, lentCost, lentView, domOf, unaryOf}
+use Rattle.costs.specs.Instance.{View, viewOf, viewBy, pairStart, inPair, costNumber, instanceOf, otherStart, lentUnary, lentCost, lentView, lookahead, domOf, unaryOf}
 use Rattle.costs.specs.declared.ValueOrder.{ValueOrder}
 use Rattle.costs.specs.Laws.Stream.{unariesFrom, costsOf, in-pair-lt, unary-number-at, cost-number-at, unary-costs, pair-costs, accepted-fit, dom-most}
 use Rattle.costs.specs.Lent.{unaryCount, lentCount, lentRefusal}
@@ -260,16 +260,17 @@ gathered-view order s ok own lo hi sizes e = same-sizes ∙ same-costs
     costs = gatherTo s (pred own) (unitsOf s)
 
     seen : List ℕ → View
-    seen t = record { order = order; place = pred own; n = unitsOf s; dom = λ k. getD t k 0; unary = lentUnary (getD t (pred own) 0) costs; pair = lentCost (unitsOf s) (λ k. getD t k 0) (pred own) costs }
+    seen t =
+        record { order = order; place = pred own; n = unitsOf s; dom = λ k. getD t k 0; unary = lentUnary (getD t (pred own) 0) costs; pair = lentCost (unitsOf s) (λ k. getD t k 0) (pred own) costs; ahead = lookahead (pred own) (unitsOf s) (λ k. getD t k 0) (lentCost (unitsOf s) (λ k. getD t k 0) (pred own) costs) }
 
     same-sizes : lentView order own (unitsOf s) sizes (gathered s own) ≡ seen (sizesOf s)
     same-sizes = ap seen e
 
     same-costs : seen (sizesOf s) ≡ viewBy order (instanceOf s) (pred own)
     same-costs =
-        ap (λ (f : ℕ → ℕ). record { order = order; place = pred own; n = unitsOf s; dom = domOf s; unary = f; pair = lentCost (unitsOf s) (domOf s) (pred own) costs })
+        ap (λ (f : ℕ → ℕ). record { order = order; place = pred own; n = unitsOf s; dom = domOf s; unary = f; pair = lentCost (unitsOf s) (domOf s) (pred own) costs; ahead = lookahead (pred own) (unitsOf s) (domOf s) (lentCost (unitsOf s) (domOf s) (pred own) costs) })
         (fun-ext (λ v. unary-seen s (accepted-fit s ok) (pred own) (omega arith) v))
-        ∙ ap (λ (p : ℕ → ℕ → ℕ → Cost). record { order = order; place = pred own; n = unitsOf s; dom = domOf s; unary = unaryOf s (pred own); pair = p })
+        ∙ ap (λ (p : ℕ → ℕ → ℕ → Cost). record { order = order; place = pred own; n = unitsOf s; dom = domOf s; unary = unaryOf s (pred own); pair = p; ahead = lookahead (pred own) (unitsOf s) (domOf s) p })
         (fun-ext (λ j. fun-ext (λ u. fun-ext (λ v. pair-seen s (accepted-fit s ok) (pred own) (omega arith) j u v))))
 
 -- ---- and they pass the checks of lent costs

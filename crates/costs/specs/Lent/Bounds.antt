@@ -2,7 +2,7 @@
 -- Each sum has at most so many terms, and each that is a number is within the limit; a cost number past the end is 0.
 -- Assumes nothing.
 use Prim.Native.Nat.{ℕ, suc, _+_, _*_, _-_, _≤_, pred}
-use mathlib.Core.Path.{_≡_, refl}
+use mathlib.Core.Path.{_≡_, refl, sym, subst}
 use mathlib.Core.Bool.{Bool, true, false, cond, not, _&&_}
 use mathlib.Core.List.{List}
 use native.Mathlib.Nat.{zero-add}
@@ -18,7 +18,7 @@ use Rattle.table.specs.Stream.{unaryGood, pairGood, costsGood}
 use Rattle.table.specs.StreamLaws.{costs-at, pair-small, unary-most}
 use Rattle.costs.specs.Cost.{Cost, Of, _⊕_, sumTo, least}
 use Rattle.costs.specs.Cost.Laws.{AtMost, good-cost, most-add, most-least, most-sumFrom, most-sumTo}
-use Rattle.costs.specs.Instance.{View, domIn, costNumber, lentView}
+use Rattle.costs.specs.Instance.{View, lookahead, domIn, costNumber, lentView}
 use Rattle.costs.specs.declared.ValueOrder.{ValueOrder}
 use Rattle.costs.specs.Bounds.{costWith, h, estimate}
 use Rattle.costs.specs.Lent.{unaryCount, lentCount, lentGood, lentRefusal}
@@ -32,17 +32,22 @@ module _ (w : View) (unary-small : (v : ℕ) → w .unary v ≤ unaryLimit) (sma
       most-add unaryLimit (pairLimit * k) (Of (w .unary v)) (sumTo (λ j. w .pair j (getD values j 0) v) k) (unary-small v)
       (most-sumTo pairLimit (λ j. w .pair j (getD values j 0) v) k (λ j. small j (getD values j 0) v))
 
-  pub h-most : (v : ℕ) → AtMost (pairLimit * (w .n - suc (w .place))) (h w v)
-  unfolding h
-  h-most v =
+  lookahead-most : (v : ℕ) → AtMost (pairLimit * (w .n - suc (w .place))) (lookahead (w .place) (w .n) (w .dom) (w .pair) v)
+  lookahead-most v =
       most-sumFrom pairLimit (λ j. least (λ u. w .pair j u v) (w .dom j)) (suc (w .place)) (w .n - suc (w .place))
       (λ j. most-least pairLimit (λ u. w .pair j u v) (w .dom j) (λ u. small j u v))
 
-  pub estimate-most : (values : List ℕ) (k : ℕ) → AtMost (unaryLimit + pairLimit * k + pairLimit * (w .n - suc (w .place))) (estimate w values k)
-  unfolding estimate
-  estimate-most values k =
-      most-least (unaryLimit + pairLimit * k + pairLimit * (w .n - suc (w .place))) (λ v. costWith w values k v ⊕ h w v) (w .dom (w .place))
-      (λ v. most-add (unaryLimit + pairLimit * k) (pairLimit * (w .n - suc (w .place))) (costWith w values k v) (h w v) (cost-most values k v) (h-most v))
+  -- where h is what `lookahead` says
+  module _ (looks : (v : ℕ) → w .ahead v ≡ lookahead (w .place) (w .n) (w .dom) (w .pair) v) where
+    h-most : (v : ℕ) → AtMost (pairLimit * (w .n - suc (w .place))) (h w v)
+    unfolding h
+    h-most v = subst (AtMost (pairLimit * (w .n - suc (w .place)))) (sym (looks v)) (lookahead-most v)
+
+    pub estimate-most : (values : List ℕ) (k : ℕ) → AtMost (unaryLimit + pairLimit * k + pairLimit * (w .n - suc (w .place))) (estimate w values k)
+    unfolding estimate
+    estimate-most values k =
+        most-least (unaryLimit + pairLimit * k + pairLimit * (w .n - suc (w .place))) (λ v. costWith w values k v ⊕ h w v) (w .dom (w .place))
+        (λ v. most-add (unaryLimit + pairLimit * k) (pairLimit * (w .n - suc (w .place))) (costWith w values k v) (h w v) (cost-most values k v) (h-most v))
 
 -- ---- costs that were not refused
 
@@ -92,6 +97,10 @@ module _ (own n : ℕ) (sizes costs : List ℕ) (ok : lentRefusal own n sizes co
           let l : length costs ≤ 2 * i = omega (arith, lent-length, ltb-false i (lentCount own n sizes) e) in
           let z : costNumber costs i ≡ 0 = u16-past costs (2 * i) l in
           rw z (pair-small 0 (omega arith))
+
+  pub lent-looks : (order : ValueOrder) (v : ℕ) → let w = lentView order own n sizes costs in w .ahead v ≡ lookahead (w .place) (w .n) (w .dom) (w .pair) v
+  unfolding lentView
+  lent-looks order v = refl
 
   pub lent-pair-most : (order : ValueOrder) (j u v : ℕ) → AtMost pairLimit (lentView order own n sizes costs .pair j u v)
   unfolding lentView

@@ -18,7 +18,7 @@ use Rattle.base.specs.Shape.{isValue}
 use Rattle.base.specs.Shape.Laws.{range-value}
 use Rattle.costs.specs.Cost.{Cost, Of, Forbidden, _⊕_, sumTo, lesser, least, pairCost}
 use Rattle.costs.specs.Cost.Laws.{add-assoc as sum-assoc, add-zero, sumFrom-cong, sum-forbidden}
-use Rattle.costs.specs.Instance.{View, domIn, inPair, costNumber, lentUnary, lentCost, lentView, viewFrom}
+use Rattle.costs.specs.Instance.{View, domIn, inPair, costNumber, lentUnary, lentCost, lentView, viewFrom, knowing, viewKnowing}
 use Rattle.costs.specs.declared.Seat.{Seat}
 use Rattle.costs.specs.Bounds.{costWith, h, estimate}
 use Rattle.costs.specs.declared.ValueOrder.the-variants.{CheapestFirst}
@@ -132,7 +132,11 @@ module _ (seat : Seat) where
   pub others-all : (j : ℕ) → pred (seat .own) < j → Number.sumFrom (domFrom seat) 0 j ≡ othersBefore seat j + domFrom seat (pred (seat .own))
   others-all j h = sym (sumTo-sumFrom (domFrom seat) j) ∙ sym (sum-without (domFrom seat) (pred (seat .own)) j h)
 
-  -- the others before the next place, once past the own
+  -- the others before the next place, up to the own
+  pub others-earlier : (j : ℕ) → j < pred (seat .own) → othersBefore seat (j + 1) ≡ othersBefore seat j + domFrom seat j
+  others-earlier j l = rw (add-one, ne-eqb j (pred (seat .own)) (λ q. omega arith))
+
+  -- and once past it
   pub others-later : (j : ℕ) → pred (seat .own) < j → othersBefore seat (j + 1) ≡ othersBefore seat j + domFrom seat j
   others-later j l = rw (add-one, ne-eqb j (pred (seat .own)) (λ q. omega arith))
 
@@ -178,10 +182,9 @@ module _ (seat : Seat) where
 
 -- ---- the estimate
 
-module _ (seat : Seat) (costs values : List ℕ) (m : ℕ) where
-  pub estimate-least : estimate (viewFrom seat costs) values m ≡ leastCost (viewFrom seat costs) values m (domFrom seat (pred (seat .own)))
-  unfolding estimate lentView leastCost
-  estimate-least = refl
+pub estimate-least : (seat : Seat) (costs ahead values : List ℕ) (m : ℕ) → estimate (viewKnowing seat costs ahead) values m ≡ leastCost (viewKnowing seat costs ahead) values m (domFrom seat (pred (seat .own)))
+unfolding estimate knowing lentView leastCost
+estimate-least seat costs ahead values m = refl
 
 pub leastCost-none : (w : View) (values : List ℕ) (m : ℕ) → leastCost w values m 0 ≡ Forbidden
 unfolding leastCost
@@ -202,12 +205,12 @@ pub earlier-more : (w : View) (v u : ℕ) → earlierUpTo w v (u + 1) ≡ earlie
 unfolding earlierUpTo earlier
 earlier-more w v u = rw add-one
 
-pub order-from : (seat : Seat) (costs : List ℕ) → viewFrom seat costs .order ≡ seat .order
-unfolding lentView
-order-from seat costs = refl
+pub order-from : (seat : Seat) (costs ahead : List ℕ) → viewKnowing seat costs ahead .order ≡ seat .order
+unfolding knowing lentView
+order-from seat costs ahead = refl
 
-pub cheapest-place : (seat : Seat) (costs : List ℕ) (v : ℕ) → seat .order ≡ CheapestFirst → 1 ≤ v
-    → placeTried (viewFrom seat costs) v ≡ suc (earlierUpTo (viewFrom seat costs) v (domFrom seat (pred (seat .own))))
-unfolding placeTried lentView earlierUpTo
-cheapest-place seat costs zero e lo = absurd (omega arith)
-cheapest-place seat costs (suc v) e lo = ap (λ o. placeBy o (viewFrom seat costs) (suc v)) e
+pub cheapest-place : (seat : Seat) (costs ahead : List ℕ) (v : ℕ) → seat .order ≡ CheapestFirst → 1 ≤ v
+    → placeTried (viewKnowing seat costs ahead) v ≡ suc (earlierUpTo (viewKnowing seat costs ahead) v (domFrom seat (pred (seat .own))))
+unfolding placeTried knowing lentView earlierUpTo
+cheapest-place seat costs ahead zero e lo = absurd (omega arith)
+cheapest-place seat costs ahead (suc v) e lo = ap (λ o. placeBy o (viewKnowing seat costs ahead) (suc v)) e

@@ -1,6 +1,6 @@
 -- Assigning and backtracking keep a state in range and send what can be written, from a CPA in hand whose own value is off.
 -- The threshold's own place is at most 16 before, so at most 17 after backtracking; the counter is at most the value tried. By recursion over
--- the values left. In order: what is kept; backtrack; a value written; the values left; assign and resume. Assumes nothing.
+-- the values left. In order: what is kept; what a value written costs; backtrack; a value written; the values left; assign and resume. Assumes nothing.
 use Prim.Native.Nat.{ℕ, zero, suc, _+_, _*_, _≤_, _<_}
 use mathlib.Core.Path.{_≡_, refl, sym, ap, _∙_, subst}
 use mathlib.Core.Bool.{Bool, true, false, cond, false≢true}
@@ -72,6 +72,21 @@ pub record InHand (n : ℕ) (sizes : List ℕ) (w : View) (u : State) : Type 0 w
   pub values : filledTo (w .place) sizes (u .values) ≡ true
   pub cost : u .cost ≤ prefixLimit (w .place)
 
+-- ---- what a value written costs
+
+module _ (w : View) where
+  -- the cost of a value with the units before doesn't ask for the own place
+  sum-set : (l : List ℕ) (a x k m : ℕ) → m ≤ k → sumTo (λ j. w .pair j (getD (set l k a) j 0) x) m ≡ sumTo (λ j. w .pair j (getD l j 0) x) m
+  sum-set l a x k zero h = refl
+  sum-set l a x k (suc m) h = rw (sum-set l a x k m (omega arith), getD-set-other l k m a 0 (λ z. omega arith))
+
+  pub cost-set : (l : List ℕ) (a x : ℕ) → costWith w (set l (w .place) a) (w .place) x ≡ costWith w l (w .place) x
+  unfolding costWith
+  cost-set l a x = ap (λ (c : Cost). Of (w .unary x) ⊕ c) (sum-set l a x (w .place) (w .place) (omega arith))
+
+  pub paid-written : (u : State) (x c : ℕ) → w .place < length (u .values) → ownCost w (write w x c u) ≡ asNumber (costWith w (u .values) (w .place) x)
+  paid-written u x c l = rw (getD-set-same (u .values) (w .place) x 0 l) (ap asNumber (cost-set (u .values) x x))
+
 module _ (n : ℕ) (sizes : List ℕ) (w : View) (g : GoodView n sizes w) where
   k16 : w .place < 16
   k16 = place-16 n sizes w g
@@ -113,15 +128,6 @@ module _ (n : ℕ) (sizes : List ℕ) (w : View) (g : GoodView n sizes w) where
 
   -- ---- a value written
 
-  -- the cost of a value with the units before doesn't ask for the own place
-  sum-set : (l : List ℕ) (a x k m : ℕ) → m ≤ k → sumTo (λ j. w .pair j (getD (set l k a) j 0) x) m ≡ sumTo (λ j. w .pair j (getD l j 0) x) m
-  sum-set l a x k zero h = refl
-  sum-set l a x k (suc m) h = rw (sum-set l a x k m (omega arith), getD-set-other l k m a 0 (λ z. omega arith))
-
-  cost-set : (l : List ℕ) (a x : ℕ) → costWith w (set l (w .place) a) (w .place) x ≡ costWith w l (w .place) x
-  unfolding costWith
-  cost-set l a x = ap (λ (c : Cost). Of (w .unary x) ⊕ c) (sum-set l a x (w .place) (w .place) (omega arith))
-
   -- value x, one of the unit's, whose place is past the counter
   module _ (u : State) (x : ℕ) (i : InHand n sizes w u) (least : 1 ≤ x) (most : x ≤ getD sizes (w .place) 0) (tried : u .counter < placeTried w x)
       (number : costWith w (u .values) (w .place) x ≡ Of (asNumber (costWith w (u .values) (w .place) x))) where
@@ -150,7 +156,7 @@ module _ (n : ℕ) (sizes : List ℕ) (w : View) (g : GoodView n sizes w) where
     own-stamp = getD-set-same (u .stamp) (w .place) (suc (u .counter)) 0 (omega (arith, i .arrays .stamp, k16))
 
     paid-is : ownCost w written ≡ asNumber (costWith w (u .values) (w .place) x)
-    paid-is = rw own-is (ap asNumber (cost-set (u .values) x x))
+    paid-is = paid-written w u x next-cost (omega (arith, i .arrays .values, k16))
 
     bare-is : bareCost w written ≡ u .cost
     bare-is = omega (arith, paid-is, next-is)

@@ -221,7 +221,7 @@ module _ (n : ℕ) (sizes : List ℕ) (w : View) (g : GoodView n sizes w) where
       reply-good : Sendable n sizes (packet Estimate (reply w m .message))
       reply-good =
           let limit : AtMost estimateLimit (estimate w (m .values) (m .sender)) =
-          most-mono _ estimateLimit (estimate w (m .values) (m .sender)) (omega (arith, earlier, g .units, g .place, units-most n sizes w g)) (estimate-most w (g .unary-small) (g .small) (m .values) (m .sender)) in
+          most-mono _ estimateLimit (estimate w (m .values) (m .sender)) (omega (arith, earlier, g .units, g .place, units-most n sizes w g)) (estimate-most w (g .unary-small) (g .small) (g .looks) (m .values) (m .sender)) in
           record {
             address = address-by n (reply w m .message) (omega arith) (g .place) (from .from) (from .fromMost);
             form =

@@ -1,7 +1,7 @@
 -- A unit on what is known to be good: what is asked is what the deciding functions ask, it sends at most 16 packets,
 -- and on what making and a step accept it is these. By the tests, and the walk through what a unit decides. Assumes nothing.
 use Prim.Native.Nat.{ℕ, suc, pred, _-_, _≤_, _<_}
-use mathlib.Core.Path.{_≡_, refl, _∙_}
+use mathlib.Core.Path.{_≡_, refl, ap, _∙_}
 use mathlib.Core.Bool.{Bool, true, false, _&&_, _||_}
 use mathlib.Core.List.{List}
 use native.Mathlib.Omega.{arith}
@@ -12,7 +12,8 @@ use Rattle.base.specs.Limits.{sendingSize}
 use Rattle.base.specs.Shape.Laws.{and-left, and-right}
 use Rattle.costs.specs.declared.Seat.{Seat}
 use Rattle.costs.specs.declared.ValueOrder.{ValueOrder}
-use Rattle.costs.specs.Instance.{View, lentView, viewFrom}
+use Rattle.costs.specs.Instance.{View, viewFrom, viewKnowing}
+use Rattle.costs.specs.Knowing.{Knows, knowing-sees}
 use Rattle.message.specs.declared.Kind.{Kind}
 use Rattle.message.specs.declared.Message.{Message}
 use Rattle.message.specs.declared.Parsed.{Parsed}
@@ -86,47 +87,47 @@ known-heard own m e =
 
 -- ---- which way it goes
 
-module _ (seat : Seat) (costs : List ℕ) (k : Kind) (u : State) (m : Message) where
-  pub respond-5 : canStep (seat .own) (seat .n) (seat .sizes) u ≡ false → respondTo seat costs k u m ≡ refused 5
+module _ (seat : Seat) (costs ahead : List ℕ) (k : Kind) (u : State) (m : Message) where
+  pub respond-5 : canStep (seat .own) (seat .n) (seat .sizes) u ≡ false → respondTo seat costs ahead k u m ≡ refused 5
   unfolding respondTo
   respond-5 e = rw e
 
-  pub respond-9 : canStep (seat .own) (seat .n) (seat .sizes) u ≡ true → canHear (seat .own) m ≡ false → respondTo seat costs k u m ≡ refused 9
+  pub respond-9 : canStep (seat .own) (seat .n) (seat .sizes) u ≡ true → canHear (seat .own) m ≡ false → respondTo seat costs ahead k u m ≡ refused 9
   unfolding respondTo
   respond-9 e f = rw (e, f)
 
-  pub respond-on : canStep (seat .own) (seat .n) (seat .sizes) u ≡ true → canHear (seat .own) m ≡ true → respondTo seat costs k u m ≡ respond (viewFrom seat costs) k u m
+  pub respond-on : canStep (seat .own) (seat .n) (seat .sizes) u ≡ true → canHear (seat .own) m ≡ true → respondTo seat costs ahead k u m ≡ respond (viewKnowing seat costs ahead) k u m
   unfolding respondTo
   respond-on e f = rw (e, f)
 
   -- what is not refused could be done
-  pub responded : decidedOf u (respondTo seat costs k u m) .refusal ≡ 0 → canStep (seat .own) (seat .n) (seat .sizes) u ≡ true
+  pub responded : decidedOf u (respondTo seat costs ahead k u m) .refusal ≡ 0 → canStep (seat .own) (seat .n) (seat .sizes) u ≡ true
   responded z = go (canStep (seat .own) (seat .n) (seat .sizes) u) refl
     where
       go : (t : Bool) → canStep (seat .own) (seat .n) (seat .sizes) u ≡ t → canStep (seat .own) (seat .n) (seat .sizes) u ≡ true
       go true e = e
-      go false e = let f : decidedOf u (respondTo seat costs k u m) .refusal ≡ 5 = rw (respond-5 e) in absurd (omega arith)
+      go false e = let f : decidedOf u (respondTo seat costs ahead k u m) .refusal ≡ 5 = rw (respond-5 e) in absurd (omega arith)
 
-module _ (seat : Seat) (costs : List ℕ) where
-  pub start-5 : canStep (seat .own) (seat .n) (seat .sizes) fresh ≡ false → startTo seat costs ≡ refused 5
+module _ (seat : Seat) (costs ahead : List ℕ) where
+  pub start-5 : canStep (seat .own) (seat .n) (seat .sizes) fresh ≡ false → startTo seat costs ahead ≡ refused 5
   unfolding startTo
   start-5 e = rw e
 
-  pub start-on : canStep (seat .own) (seat .n) (seat .sizes) fresh ≡ true → startTo seat costs ≡ start (viewFrom seat costs) (pred (seat .own))
+  pub start-on : canStep (seat .own) (seat .n) (seat .sizes) fresh ≡ true → startTo seat costs ahead ≡ start (viewKnowing seat costs ahead) (pred (seat .own))
   unfolding startTo
   start-on e = rw e
 
-module _ (order : ValueOrder) (u : State) (own n : ℕ) (sizes costs bytes : List ℕ) (room : ℕ) where
-  pub trusted-13 : room < sendingSize → trustedOut order u own n sizes costs bytes room ≡ refused 13
+module _ (seat : Seat) (u : State) (costs ahead bytes : List ℕ) (room : ℕ) where
+  pub trusted-13 : room < sendingSize → trustedOut seat u costs ahead bytes room ≡ refused 13
   unfolding trustedOut
   trusted-13 l = rw (lt-ltb room sendingSize l)
 
   module _ (fits : sendingSize ≤ room) (p : Parsed) (read : p ≡ unpackOf bytes) where
-    pub trusted-unread : (x : ℕ) → p .answer ≡ Refused x → (y : ℕ) → y ≡ refusalOf (p .answer) → trustedOut order u own n sizes costs bytes room ≡ refused y
+    pub trusted-unread : (x : ℕ) → p .answer ≡ Refused x → (y : ℕ) → y ≡ refusalOf (p .answer) → trustedOut seat u costs ahead bytes room ≡ refused y
     unfolding trustedOut
     trusted-unread x a y g = rw (g, le-ltb room sendingSize fits, ← read, a)
 
-    pub trusted-on : (k : Kind) → p .answer ≡ Good k → trustedOut order u own n sizes costs bytes room ≡ respondTo (seatAt order own n sizes) costs k u (p .message)
+    pub trusted-on : (k : Kind) → p .answer ≡ Good k → trustedOut seat u costs ahead bytes room ≡ respondTo seat costs ahead k u (p .message)
     unfolding trustedOut
     trusted-on k a = rw (le-ltb room sendingSize fits, ← read, a)
 
@@ -148,9 +149,9 @@ module _ (n : ℕ) (w : View) (units : w .n ≡ n) (below : w .place < n) where
 
 -- ---- on what making and a step accept
 
-pub in-range-at : (seat : Seat) (costs : List ℕ) (u : State) → Own (seat .own) → inRangeAt seat costs u ≡ inRange (seat .sizes) (viewFrom seat costs) u
+pub in-range-at : (seat : Seat) (costs ahead : List ℕ) (u : State) → Own (seat .own) → inRangeAt seat costs ahead u ≡ inRange (seat .sizes) (viewKnowing seat costs ahead) u
 unfolding inRangeAt
-in-range-at seat costs u o = rw (le-leb 1 (seat .own) (o .first), le-leb (seat .own) 16 (o .last))
+in-range-at seat costs ahead u o = rw (le-leb 1 (seat .own) (o .first), le-leb (seat .own) 16 (o .last))
 
 fits-counter : (value counter : ℕ) → (0 < value → counter ≤ 16) → (eqb value 0 || leb counter 16) ≡ true
 fits-counter value counter f = go (eqb value 0) refl
@@ -172,23 +173,25 @@ can-hear own m h = rw (le-leb 1 (m .sender) (h .sender .first), le-leb (m .sende
     go true e = refl
     go false e = eq-eqb _ 0 (h .bare (leb-false own (m .sender) e))
 
-pub starts : (order : ValueOrder) (own n : ℕ) (sizes costs : List ℕ) (room : ℕ) → Makes own n sizes costs room → n ≤ length sizes → startTo (seatAt order own n sizes) costs ≡ start (lentView order own n sizes costs) (pred own)
-starts order own n sizes costs room m long =
-    let seat : Seat = seatAt order own n sizes in
+pub starts : (seat : Seat) (costs ahead : List ℕ) (room : ℕ) → Makes (seat .own) (seat .n) (seat .sizes) costs room → seat .n ≤ length (seat .sizes) → Knows (viewFrom seat costs) ahead
+    → startTo seat costs ahead ≡ start (viewFrom seat costs) (pred (seat .own))
+starts seat costs ahead room m long knows =
     let s = shaped-of seat (m .shape) long (m .unit) in
-    start-on seat costs (can-step seat fresh s (m .unit) (ready-fresh seat (s .number)))
+    start-on seat costs ahead (can-step seat fresh s (m .unit) (ready-fresh seat (s .number))) ∙ ap (λ (w : View). start w (pred (seat .own))) (knowing-sees (viewFrom seat costs) ahead knows)
 
-module _ (order : ValueOrder) (u : State) (own n : ℕ) (sizes costs : List ℕ) (room : ℕ) (q : Passed order u own n sizes costs room) (long : n ≤ length sizes) (bytes : List ℕ) (k : Kind) (good : parseFor n sizes own bytes .answer ≡ Good k) where
-  known : ParsedGood n sizes own bytes k
-  known = parsed-good n sizes own bytes k good
+module _ (seat : Seat) (u : State) (costs ahead : List ℕ) (room : ℕ) (q : Passed (seat .order) u (seat .own) (seat .n) (seat .sizes) costs room) (long : seat .n ≤ length (seat .sizes)) (knows : Knows (viewFrom seat costs) ahead) (bytes : List ℕ) (k : Kind)
+    (good : parseFor (seat .n) (seat .sizes) (seat .own) bytes .answer ≡ Good k) where
+  known : ParsedGood (seat .n) (seat .sizes) (seat .own) bytes k
+  known = parsed-good (seat .n) (seat .sizes) (seat .own) bytes k good
 
-  pub responds : respondTo (seatAt order own n sizes) costs k u (messageIn bytes) ≡ respond (lentView order own n sizes costs) k u (messageIn bytes)
+  pub responds : respondTo seat costs ahead k u (messageIn bytes) ≡ respond (viewFrom seat costs) k u (messageIn bytes)
   responds =
-      let seat : Seat = seatAt order own n sizes in
       let s = shaped-of seat (q .shape) long (q .unit) in
-      let m = heard-of own n sizes k (messageIn bytes) (q .shape) long (known .address) (known .receiver) (known .formed) in
-      respond-on seat costs k u (messageIn bytes) (can-step seat u s (q .unit) (ready-of seat costs u (q .shape) long (q .unit) (q .state))) (can-hear own (messageIn bytes) m)
+      let m = heard-of (seat .own) (seat .n) (seat .sizes) k (messageIn bytes) (q .shape) long (known .address) (known .receiver) (known .formed) in
+      respond-on seat costs ahead k u (messageIn bytes) (can-step seat u s (q .unit) (ready-of seat costs u (q .shape) long (q .unit) (q .state))) (can-hear (seat .own) (messageIn bytes) m)
+      ∙ ap (λ (w : View). respond w k u (messageIn bytes)) (knowing-sees (viewFrom seat costs) ahead knows)
 
-  pub trusted-steps : trustedOut order u own n sizes costs bytes room ≡ stepOut order u own n sizes costs bytes room
+  pub trusted-steps : trustedOut seat u costs ahead bytes room ≡ stepOut (seat .order) u (seat .own) (seat .n) (seat .sizes) costs bytes room
   unfolding trustedOut stepOut
-  trusted-steps = rw (unpack-parsed n sizes own bytes k good, known .whole, le-ltb room sendingSize (q .fits), not-refused own n sizes costs room order u q) responds
+  trusted-steps =
+      rw (unpack-parsed (seat .n) (seat .sizes) (seat .own) bytes k good, known .whole, le-ltb room sendingSize (q .fits), not-refused (seat .own) (seat .n) (seat .sizes) costs room (seat .order) u q) responds

@@ -14,10 +14,10 @@ use Rattle.base.specs.Shape.{shapeGood}
 use Rattle.base.specs.Shape.Laws.{shape-n, shape-size, and-left, and-right}
 use Rattle.costs.specs.Cost.Laws.{AtMost}
 use Rattle.costs.specs.declared.ValueOrder.{ValueOrder}
-use Rattle.costs.specs.Instance.{Instance, View, viewBy, lentView}
+use Rattle.costs.specs.Instance.{Instance, View, viewBy, lookahead, lentView}
 use Rattle.costs.specs.Laws.{Sound}
 use Rattle.costs.specs.Lent.{lentRefusal}
-use Rattle.costs.specs.Lent.Bounds.{lent-unary-most, lent-pair-most}
+use Rattle.costs.specs.Lent.Bounds.{lent-unary-most, lent-pair-most, lent-looks}
 use Rattle.message.specs.Message.{isUnit}
 
 pub record GoodView (n : ℕ) (sizes : List ℕ) (w : View) : Type 0 where
@@ -28,6 +28,7 @@ pub record GoodView (n : ℕ) (sizes : List ℕ) (w : View) : Type 0 where
   pub dom : w .dom (w .place) ≡ getD sizes (w .place) 0
   pub unary-small : (v : ℕ) → w .unary v ≤ unaryLimit
   pub small : (j u v : ℕ) → AtMost pairLimit (w .pair j u v)
+  pub looks : (v : ℕ) → w .ahead v ≡ lookahead (w .place) (w .n) (w .dom) (w .pair) v
 
 module _ (n : ℕ) (sizes : List ℕ) (w : View) (g : GoodView n sizes w) where
   pub units-most : n ≤ 16
@@ -55,6 +56,7 @@ lent-good order own n sizes costs s l i r =
       dom = getD-take n sizes (pred own) 0 below;
       unary-small = lent-unary-most own n sizes costs r order;
       small = lent-pair-most own n sizes costs r order;
+      looks = lent-looks own n sizes costs r order;
     }
   where
     below : pred own < n
@@ -62,7 +64,7 @@ lent-good order own n sizes costs s l i r =
 
 -- what a unit sees of a sound instance of these sizes
 pub view-good : (order : ValueOrder) (I : Instance) (sizes : List ℕ) (k : ℕ) → Sound I → shapeGood (I .n) sizes ≡ true → I .n ≤ length sizes → k < I .n → I .dom k ≡ getD sizes k 0 → GoodView (I .n) sizes (viewBy order I k)
-view-good order I sizes k s g l b d = record { shape = g; long = l; units = refl; place = b; dom = d; unary-small = s .unary-small k; small = λ j u v. go (ltb j k) j u v }
+view-good order I sizes k s g l b d = record { shape = g; long = l; units = refl; place = b; dom = d; unary-small = s .unary-small k; small = λ j u v. go (ltb j k) j u v; looks = λ v. refl }
   where
     go : (t : Bool) (j u v : ℕ) → AtMost pairLimit (cond t (I .cost j u k v) (I .cost k v j u))
     go true j u v = s .small j u k v

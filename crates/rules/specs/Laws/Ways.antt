@@ -9,7 +9,7 @@ use lib.Dec.{ltb, leb}
 use borrow.Author.Tests.{ltb-true, lt-leb}
 use Rattle.base.specs.Shape.Laws.{and-left, and-right}
 use Rattle.costs.specs.declared.Seat.{Seat}
-use Rattle.costs.specs.Instance.{View, lentView, viewFrom}
+use Rattle.costs.specs.Instance.{View, lentView, knowing, viewKnowing}
 use Rattle.message.specs.declared.Kind.{Kind}
 use Rattle.message.specs.declared.Kind.the-variants.{Cpa, Request, Estimate, Solution, Stop}
 use Rattle.message.specs.declared.Message.{Message}
@@ -74,12 +74,12 @@ module _ (w : View) (u : State) (m : Message) where
     kind-by Solution = lower-by (ltb (m .bound) (u .bound))
     kind-by Stop = refl
 
-module _ (seat : Seat) (costs : List ℕ) (k : Kind) (u : State) (m : Message) where
+module _ (seat : Seat) (costs ahead : List ℕ) (k : Kind) (u : State) (m : Message) where
   abbrev seen : View
-  seen = viewFrom seat costs
+  seen = viewKnowing seat costs ahead
 
   pub way-decides : byKind seen k u m ≡ byWay (wayOf seat (Good k) u m) seen u m (byKind seen k u m)
-  unfolding wayOf lentView
+  unfolding wayOf knowing lentView
   way-decides = go (isUnit (seat .n) (seat .own) && leb (seat .n) 16 && isUnit 16 (m .sender)) refl
     where
       go : (t : Bool) → (isUnit (seat .n) (seat .own) && leb (seat .n) 16 && isUnit 16 (m .sender)) ≡ t
@@ -90,18 +90,18 @@ module _ (seat : Seat) (costs : List ℕ) (k : Kind) (u : State) (m : Message) w
       go false e = refl
 
   -- what is not refused is decided by the message's kind
-  pub unrefused-by-kind : (n j : ℕ) → outcomeOf n j u (respondTo seat costs k u m) .refusal ≡ 0 → respondTo seat costs k u m ≡ byKind seen k u m
+  pub unrefused-by-kind : (n j : ℕ) → outcomeOf n j u (respondTo seat costs ahead k u m) .refusal ≡ 0 → respondTo seat costs ahead k u m ≡ byKind seen k u m
   unfolding respond
   unrefused-by-kind n j z = go (canStep (seat .own) (seat .n) (seat .sizes) u) (canHear (seat .own) m) (u .stopped) refl refl refl
     where
-      refusal : (r : ℕ) → respondTo seat costs k u m ≡ refused r → r ≡ 0
+      refusal : (r : ℕ) → respondTo seat costs ahead k u m ≡ refused r → r ≡ 0
       refusal r e = sym (ap (λ (o : Decision). outcomeOf n j u o .refusal) e) ∙ z
 
-      go : (s h t : Bool) → canStep (seat .own) (seat .n) (seat .sizes) u ≡ s → canHear (seat .own) m ≡ h → u .stopped ≡ t → respondTo seat costs k u m ≡ byKind seen k u m
-      go false h t e f g = absurd (omega (arith, refusal 5 (respond-5 seat costs k u m e)))
-      go true false t e f g = absurd (omega (arith, refusal 9 (respond-9 seat costs k u m e f)))
-      go true true true e f g = absurd (omega (arith, refusal 12 (respond-on seat costs k u m e f ∙ ap (λ (b : Bool). unlessStopped b seen k u m) g)))
-      go true true false e f g = respond-on seat costs k u m e f ∙ ap (λ (b : Bool). unlessStopped b seen k u m) g
+      go : (s h t : Bool) → canStep (seat .own) (seat .n) (seat .sizes) u ≡ s → canHear (seat .own) m ≡ h → u .stopped ≡ t → respondTo seat costs ahead k u m ≡ byKind seen k u m
+      go false h t e f g = absurd (omega (arith, refusal 5 (respond-5 seat costs ahead k u m e)))
+      go true false t e f g = absurd (omega (arith, refusal 9 (respond-9 seat costs ahead k u m e f)))
+      go true true true e f g = absurd (omega (arith, refusal 12 (respond-on seat costs ahead k u m e f ∙ ap (λ (b : Bool). unlessStopped b seen k u m) g)))
+      go true true false e f g = respond-on seat costs ahead k u m e f ∙ ap (λ (b : Bool). unlessStopped b seen k u m) g
 
 -- no way is told of what was not read
 pub way-unread : (seat : Seat) (r : ℕ) (u : State) (m : Message) → wayOf seat (Refused r) u m ≡ Whole
@@ -130,6 +130,6 @@ store-sender seat read u m e = go (isUnit (seat .n) (seat .own) && leb (seat .n)
         code Whole = 0
 
 -- the estimate that it sends
-pub reply-is : (seat : Seat) (costs : List ℕ) (m : Message) → 1 ≤ seat .own → replyTo seat costs m ≡ reply (viewFrom seat costs) m .message
-unfolding lentView
-reply-is seat costs m first = let e : suc (pred (seat .own)) ≡ seat .own = omega (arith, pred-sub (seat .own)) in rw e
+pub reply-is : (seat : Seat) (costs ahead : List ℕ) (m : Message) → 1 ≤ seat .own → replyTo seat costs ahead m ≡ reply (viewKnowing seat costs ahead) m .message
+unfolding knowing lentView
+reply-is seat costs ahead m first = let e : suc (pred (seat .own)) ≡ seat .own = omega (arith, pred-sub (seat .own)) in rw e

@@ -32,22 +32,22 @@ long c =
     omega (arith, sixteen, shape-n (a .n) (a .sizes) (made c .shape) .1)
 
 -- what a new unit decides
-begins : (c : tie.After-start) → let a = c .before .before .before .before .before .args in c .start .result ≡ decidedOf noUnit (start (lentView (a .order) (a .own) (a .n) (a .sizes) (a .costs .now)) (pred (a .own)))
+begins : (c : tie.After-start) → let a = c .before .before .before .before .before .before .before .args in c .start .result ≡ decidedOf noUnit (start (lentView (a .order) (a .own) (a .n) (a .sizes) (a .costs .now)) (pred (a .own)))
 begins c =
-    let a = c .before .before .before .before .before .args in
-    start-decides (a .order) (a .own) (a .n) (a .sizes) (a .costs .now) (length (a .out .now)) (made (c .before)) (long (c .before)) noUnit _ (c .start .ensures)
+    let a = c .before .before .before .before .before .before .before .args in
+    start-decides (a .order) (a .own) (a .n) (a .sizes) (a .costs .now) (length (a .out .now)) (made (c .before .before .before)) (long (c .before .before .before)) noUnit _ (c .start .ensures)
 
 carry-out-requires : tie.Need-carry-out-requires
 carry-out-requires c κs =
-    let a = c .before .before .before .before .before .before .args in
-    let m = made (c .before .before) in
-    λ z. (make-room (a .order) (a .own) (a .n) (a .sizes) (a .costs .now) (a .out .now) m, make-few (a .order) (a .own) (a .n) (a .sizes) (a .costs .now) (a .out .now) m (long (c .before .before)) noUnit _ (begins (c .before)))
+    let a = c .before .before .before .before .before .before .before .before .args in
+    let m = made (c .before .before .before .before) in
+    λ z. (make-room (a .order) (a .own) (a .n) (a .sizes) (a .costs .now) (a .out .now) m, make-few (a .order) (a .own) (a .n) (a .sizes) (a .costs .now) (a .out .now) m (long (c .before .before .before .before)) noUnit _ (begins (c .before)))
 
 returns-2 : tie.Need-returns-2
 returns-2 c =
-    let a = c .before .before .before .before .before .before .before .before .before .args in
-    told-by (a .n) (pred (a .own)) noUnit (a .out .now) _ _ _ _ (make-starts (a .order) (a .own) (a .n) (a .sizes) (a .costs .now) (length (a .out .now)) _ (c .before .before .before .before .before .before .make-refusal .ensures) (c .before .before .before .before .before .if1 .left))
+    let a = c .before .before .before .before .before .before .before .before .before .before .before .args in
+    told-by (a .n) (pred (a .own)) noUnit (a .out .now) _ _ _ _ (make-starts (a .order) (a .own) (a .n) (a .sizes) (a .costs .now) (length (a .out .now)) _ (c .before .before .before .before .before .before .before .before .make-refusal .ensures) (c .before .before .before .before .before .before .before .if1 .left))
     (c .before .before .carry-out .ensures noUnit (start (lentView (a .order) (a .own) (a .n) (a .sizes) (a .costs .now)) (pred (a .own))) (begins (c .before .before .before .before)))
 
 pub make-by-spec : {M : Type 1} → statement M
-make-by-spec = tie.close (tie.spec (λ c κs. search needs) (λ c κs. search needs) (λ c κs. search needs) returns (λ c κs. search needs) carry-out-requires (λ c. search needs) returns-2)
+make-by-spec = tie.close (tie.spec (λ c κs. search needs) (λ c κs. search needs) (λ c κs. search needs) returns (λ c. search needs) (λ c. search needs) (λ c. search needs) (λ c κs. search needs) carry-out-requires (λ c. search needs) returns-2)

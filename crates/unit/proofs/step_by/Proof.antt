@@ -51,23 +51,23 @@ returns-2 c =
 
 carry-out-requires : tie.Need-carry-out-requires
 carry-out-requires c κs =
-    let a = c .before .before .before .before .before .before .before .before .before .before .before .before .args in
-    let t = through (c .before .before .before .before .before .before .before) in
-    let l = long (c .before .before .before .before .before .before .before) in
-    let r = c .before .before .before .before .before .before .parse-for in
-    let good = c .before .before .before .before .answer .given .1 in
+    let a = c .before .before .before .before .before .before .before .before .before .before .before .before .before .before .args in
+    let t = through (c .before .before .before .before .before .before .before .before .before) in
+    let l = long (c .before .before .before .before .before .before .before .before .before) in
+    let r = c .before .before .before .before .before .before .before .before .parse-for in
+    let good = c .before .before .before .before .before .before .answer .given .1 in
     λ z. (
       step-room (a .order) (a .u) (a .own) (a .n) (a .sizes) (a .costs .now) (a .out .now) t,
-      step-few (a .order) (a .u) (a .own) (a .n) (a .sizes) (a .costs .now) (a .out .now) t l (a .packet .now) (r .result) (r .ensures) _ good (arrays (c .before .before .before .before .before .before .before .before .before .before .before .before)) (sized (r .lifetimes) (r .result) (r .ok)) (a .u) _
+      step-few (a .order) (a .u) (a .own) (a .n) (a .sizes) (a .costs .now) (a .out .now) t l (a .packet .now) (r .result) (r .ensures) _ good (arrays (c .before .before .before .before .before .before .before .before .before .before .before .before .before .before)) (sized (r .lifetimes) (r .result) (r .ok)) (a .u) _
           (step-decides (a .order) (a .u) (a .own) (a .n) (a .sizes) (a .costs .now) (a .out .now) t l (a .packet .now) (r .result) (r .ensures) _ good _ (c .before .respond .ensures)),
     )
 
 returns-3 : tie.Need-returns-3
 returns-3 c =
-    let a = c .before .before .before .before .before .before .before .before .before .before .before .before .before .before .before .args in
-    let checks = c .before .before .before .before .before .before .before .before .before .before in
-    let r = c .before .before .before .before .before .before .before .before .before .parse-for in
-    let good = c .before .before .before .before .before .before .before .answer .given .1 in
+    let a = c .before .before .before .before .before .before .before .before .before .before .before .before .before .before .before .before .before .args in
+    let checks = c .before .before .before .before .before .before .before .before .before .before .before .before in
+    let r = c .before .before .before .before .before .before .before .before .before .before .before .parse-for in
+    let good = c .before .before .before .before .before .before .before .before .before .answer .given .1 in
     told-by (a .n) (pred (a .own)) (a .u) (a .out .now) _ _ _ _
     (step-reads (a .order) (a .u) (a .own) (a .n) (a .sizes) (a .costs .now) (length (a .out .now)) (a .packet .now) _ (checks .before .step-refusal .ensures) (checks .if1 .left) (r .result) (r .ensures) _ good)
     (c .before .before .carry-out .ensures (a .u) (respond (lentView (a .order) (a .own) (a .n) (a .sizes) (a .costs .now)) _ (a .u) (r .result .message))
@@ -86,6 +86,9 @@ step-by-spec =
     (λ c κs. search needs)
     (λ c κs. search needs)
     returns-2
+    (λ c. search needs)
+    (λ c. search needs)
+    (λ c. search needs)
     (λ c κs. search needs)
     carry-out-requires
     (λ c. search needs)

@@ -1,14 +1,16 @@
 -- `take_off` meets its contract: the parts set are those of `takeOff`, at the unit's place.
 -- Assumes nothing.
-use Rattle.decide.proofs.Lent.{taken-off}
+use Prim.Native.Nat.{_-_}
+use native.Mathlib.Omega.{arith}
+use mathlib.Core.Path.{_≡_}
 use borrow.Author.Needs.{needs}
 use Rattle.decide.proofs.backtrack.take_off.Statement.{statement}
 use Rattle.decide.proofs.backtrack.take_off.Tie as tie
 
 returns : tie.Need-returns
-returns c = let a = c .before .before .before .args in taken-off (a .seat) (a .costs .now) (a .u) _ (c .bare-cost .ensures)
+returns c = λ w e o q. let p : w .place ≡ c .before .args .own - 1 = omega arith in rw (c .bare-cost .ensures, q, p)
 
 pub take-off-spec : {M : Type 1} → statement M
 take-off-spec =
     tie.close
-    (tie.spec (λ c. search needs) (λ c. search needs) (λ c κs. search needs) (λ c. search needs) (λ c. search needs) returns)
+    (tie.spec (λ c. search needs) (λ c. search needs) (λ c. search needs) (λ c. search needs) (λ c κs. search needs) returns)

@@ -6,10 +6,10 @@ use Rattle.decide.proofs.bound.take_bound.Statement.{statement}
 use Rattle.decide.proofs.bound.take_bound.Tie as tie
 
 returns : tie.Need-returns
-returns c = simp (lt-ltb _ _ (c .before .before .if1 .taken)) (c .with-best .ensures)
+returns c = λ e. simp (lt-ltb _ _ (c .before .before .if1 .taken)) (c .with-best .ensures e)
 
 returns-2 : tie.Need-returns-2
-returns-2 c = simp (le-ltb _ _ (c .if1 .left))
+returns-2 c = λ e. simp (le-ltb _ _ (c .if1 .left))
 
 pub take-bound-spec : {M : Type 1} → statement M
 take-bound-spec = tie.close (tie.spec (λ c κs. search needs) returns returns-2)

@@ -6,7 +6,7 @@ use Rattle.decide.proofs.estimate.answer.Statement.{statement}
 use Rattle.decide.proofs.estimate.answer.Tie as tie
 
 returns : tie.Need-returns
-returns c = λ was. let a = c .before .before .args in rw (c .reply .ensures, reply-is (a .seat) (a .costs .now) (a .m) (c .before .before .pre .first))
+returns c = λ was. let a = c .before .before .before .args in rw (c .reply .ensures, reply-is (a .seat) (a .costs .now) (a .ahead .now) (a .m) (c .before .before .before .pre .first))
 
 pub answer-spec : {M : Type 1} → statement M
 answer-spec = tie.close (tie.spec (λ c κs. search needs) returns)

@@ -2,21 +2,23 @@
 -- Assumes nothing.
 use Prim.Native.Nat.{_-_}
 use native.Mathlib.Omega.{arith}
-use mathlib.Core.Path.{_∙_}
-use Rattle.decide.proofs.Rules.{is-out-not, is-out}
+use mathlib.Core.Path.{_≡_, _∙_}
+use lib.ListN.{getD}
+use borrow.Author.Tests.{lt-ltb, le-ltb}
 use borrow.Author.Needs.{needs}
 use Rattle.decide.proofs.receive.is_stamp_out.Statement.{statement}
 use Rattle.decide.proofs.receive.is_stamp_out.Tie as tie
 
 returns : tie.Need-returns
 returns c =
-    λ w o. let a = c .before .before .args in
-    rw (is-out-not w (a .t2) (a .own - 1) (omega arith) (c .if1 .taken))
+    λ w o. let a = c .before .args in
+    let p : w .place ≡ a .own - 1 = omega arith in
+    rw (p, le-ltb 0 (getD (a .t2) (a .own - 1) 0) (omega (arith, c .if1 .taken)))
 
 returns-2 : tie.Need-returns-2
 returns-2 c =
-    λ w o. let a = c .before .before .before .before .before .args in
-    c .same .ensures ∙ rw (is-out w (a .t2) (a .own - 1) (omega arith) (c .before .before .before .if1 .left), o)
+    λ w o. let p : w .place ≡ c .before .before .args .own - 1 = omega arith in
+    c .same .ensures ∙ rw (o, p, lt-ltb _ _ (c .before .if1 .left))
 
 pub is-stamp-out-spec : {M : Type 1} → statement M
 is-stamp-out-spec =

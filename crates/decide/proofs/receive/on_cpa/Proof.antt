@@ -1,7 +1,7 @@
 -- `on_cpa` meets its contract: the sender decides which way the cpa goes.
 -- Assumes nothing.
 use mathlib.Core.Path.{ap, _∙_}
-use Rattle.costs.specs.Instance.{viewFrom}
+use Rattle.costs.specs.Instance.{viewKnowing}
 use Rattle.rules.specs.Step.{Decision}
 use Rattle.rules.specs.Ready.{decidedOf}
 use Rattle.decide.proofs.Lent.{own-lent}
@@ -12,15 +12,15 @@ use Rattle.decide.proofs.receive.on_cpa.Tie as tie
 
 returns : tie.Need-returns
 returns c =
-    let a = c .before .before .before .before .before .before .before .before .before .args in
-    let w = viewFrom (a .seat) (a .costs .now) in
-    c .on-down .ensures (a .u) ∙ ap (λ (o : Decision). decidedOf (a .u) o) (cpa-down w (a .seat .own) (a .u) (a .m) (c .before .before .before .before .compare .result) (own-lent (a .seat) (a .costs .now) (c .before .before .before .before .before .before .before .before .before .pre .0 .number .first)) (c .before .before .before .before .compare .ensures) (c .before .if1 .taken))
+    let a = c .before .before .before .before .before .before .before .before .before .before .args in
+    let w = viewKnowing (a .seat) (a .costs .now) (a .ahead .now) in
+    c .on-down .ensures (a .u) ∙ ap (λ (o : Decision). decidedOf (a .u) o) (cpa-down w (a .seat .own) (a .u) (a .m) (c .before .before .before .before .compare .result) (own-lent (a .seat) (a .costs .now) (a .ahead .now) (c .before .before .before .before .before .before .before .before .before .before .pre .0 .number .first)) (c .before .before .before .before .compare .ensures) (c .before .if1 .taken))
 
 returns-2 : tie.Need-returns-2
 returns-2 c =
-    let a = c .before .before .before .before .before .before .before .before .before .args in
-    let w = viewFrom (a .seat) (a .costs .now) in
-    c .on-back .ensures ∙ ap (λ (o : Decision). decidedOf (a .u) o) (cpa-back w (a .seat .own) (a .u) (a .m) (c .before .before .before .before .compare .result) (own-lent (a .seat) (a .costs .now) (c .before .before .before .before .before .before .before .before .before .pre .0 .number .first)) (c .before .before .before .before .compare .ensures) (c .before .if1 .left))
+    let a = c .before .before .before .before .before .before .before .before .before .before .args in
+    let w = viewKnowing (a .seat) (a .costs .now) (a .ahead .now) in
+    c .on-back .ensures ∙ ap (λ (o : Decision). decidedOf (a .u) o) (cpa-back w (a .seat .own) (a .u) (a .m) (c .before .before .before .before .compare .result) (own-lent (a .seat) (a .costs .now) (a .ahead .now) (c .before .before .before .before .before .before .before .before .before .before .pre .0 .number .first)) (c .before .before .before .before .compare .ensures) (c .before .if1 .left))
 
 pub on-cpa-spec : {M : Type 1} → statement M
 on-cpa-spec =

@@ -12,8 +12,8 @@ use Rattle.network.proofs.settling.hand_oldest.Tie as tie
 arrays : (c : tie.Start) → SizedUnit (c .args .u)
 arrays c = record { threshold = search needs; best = search needs; estimates = search needs; stamp = search needs; values = search needs }
 
-part-step-trusted-by-end : tie.Need-part-step-trusted-by-end
-part-step-trusted-by-end c =
+part-step-trusted-end : tie.Need-part-step-trusted-end
+part-step-trusted-end c =
     let a = c .before .before .before .before .before .args in
     let t = c .before .before .before .before .before .pre .0 in
     let l = checks (a .seat .order) (t .net) (t .stream) (a .pool .now) 0 (t .accepted) .passed .room in
@@ -23,14 +23,14 @@ take-oldest-requires : tie.Need-take-oldest-requires
 take-oldest-requires c κs =
     let a = c .before .before .before .before .before .before .before .before .before .before .before .before .before .args in
     let t = c .before .before .before .before .before .before .before .before .before .before .before .before .before .pre .0 in
-    let r = c .before .before .before .before .before .step-trusted-by in
-    let p = oldest-open t (a .out .now) (r .last .1 .1 .1 .1 .1 .1 .1 .0) (c .before .before .before .before .before .before .before .before .before .before .before .before .before .pre .1) (r .result) (r .ensures .0) (r .ensures .1) (arrays (c .before .before .before .before .before .before .before .before .before .before .before .before .before)) in
+    let r = c .before .before .before .before .before .step-trusted in
+    let p = oldest-open t (a .out .now) (r .last .1 .1 .1 .1 .1 .0) (c .before .before .before .before .before .before .before .before .before .before .before .before .before .pre .1) (r .result) (r .ensures .0) (r .ensures .1) (arrays (c .before .before .before .before .before .before .before .before .before .before .before .before .before)) in
     let few : a .used ≤ 1024 = rw (t .count) (p .passed .few) in (
       rw (t .count) (p .here),
       few,
-      oldest-room t (a .out .now) (r .last .1 .1 .1 .1 .1 .1 .1 .0) (c .before .before .before .before .before .before .before .before .before .before .before .before .before .pre .1) (r .result) (r .ensures .0) (r .ensures .1) (arrays (c .before .before .before .before .before .before .before .before .before .before .before .before .before)),
+      oldest-room t (a .out .now) (r .last .1 .1 .1 .1 .1 .0) (c .before .before .before .before .before .before .before .before .before .before .before .before .before .pre .1) (r .result) (r .ensures .0) (r .ensures .1) (arrays (c .before .before .before .before .before .before .before .before .before .before .before .before .before)),
       p .passed .room,
-      oldest-sent t (a .out .now) (r .last .1 .1 .1 .1 .1 .1 .1 .0) (c .before .before .before .before .before .before .before .before .before .before .before .before .before .pre .1) (r .result) (r .ensures .0) (r .ensures .1) (arrays (c .before .before .before .before .before .before .before .before .before .before .before .before .before)),
+      oldest-sent t (a .out .now) (r .last .1 .1 .1 .1 .1 .0) (c .before .before .before .before .before .before .before .before .before .before .before .before .before .pre .1) (r .result) (r .ensures .0) (r .ensures .1) (arrays (c .before .before .before .before .before .before .before .before .before .before .before .before .before)),
       omega (arith, c .before .before .before .before .out .given, c .before .before .before .before .before .before .before .before .before .before .before .before .before .pre .1),
     )
 
@@ -38,10 +38,10 @@ returns : tie.Need-returns
 returns c =
     λ t.
     let a = c .before .before .before .before .before .before .before .before .before .before .before .before .before .before .before .before .args in
-    let r = c .before .before .before .before .before .before .before .before .step-trusted-by in
-    oldest-handed t (a .out .now) (r .last .1 .1 .1 .1 .1 .1 .1 .0) (c .before .before .before .before .before .before .before .before .before .before .before .before .before .before .before .before .pre .1) (r .result) (r .ensures .0) (r .ensures .1) (arrays (c .before .before .before .before .before .before .before .before .before .before .before .before .before .before .before .before)) (c .before .before .take-oldest .last .0) (c .before .before .take-oldest .ensures)
+    let r = c .before .before .before .before .before .before .before .before .step-trusted in
+    oldest-handed t (a .out .now) (r .last .1 .1 .1 .1 .1 .0) (c .before .before .before .before .before .before .before .before .before .before .before .before .before .before .before .before .pre .1) (r .result) (r .ensures .0) (r .ensures .1) (arrays (c .before .before .before .before .before .before .before .before .before .before .before .before .before .before .before .before)) (c .before .before .take-oldest .last .0) (c .before .before .take-oldest .ensures)
 
 pub hand-oldest-spec : {M : Type 1} → statement M
 hand-oldest-spec =
     tie.close
-    (tie.spec (λ c. search needs) (λ c. search needs) part-step-trusted-by-end (λ c κs. search needs) (λ c. search needs) take-oldest-requires (λ c. search needs) (λ c. search needs) returns)
+    (tie.spec (λ c. search needs) (λ c. search needs) part-step-trusted-end (λ c κs. search needs) (λ c. search needs) take-oldest-requires (λ c. search needs) (λ c. search needs) returns)

@@ -24,25 +24,26 @@ use Rattle.runs.specs.Calls.{deliverOf}
 use Rattle.runs.specs.Demand3.{most, over}
 use Rattle.runs.specs.Code.{Open}
 use Rattle.runs.specs.Trusted.{checks, Oldest}
+use Rattle.runs.specs.Lending.{noOutlook}
 use Rattle.runs.specs.Settle.Laws.{After, made-table, reached-start, reached-accepted, reached-next, measure-falls}
-use Rattle.runs.specs.Short.{Heard, Turned, wayCode, kept-turned, changed-turned, whole-handed, turn-first, turn-place, turn-order, turn-end, turn-oldest, turn-delivers}
+use Rattle.runs.specs.Short.{Heard, Turned, wayCode, kept-turned, changed-turned, whole-handed, turn-first, turn-place, turn-order, turn-end, turn-long, turn-oldest, turn-delivers}
 use Rattle.network.proofs.settling.run.Statement.{statement}
 use Rattle.network.proofs.settling.run.Tie as tie
 
 abbrev Inv-loop : tie.InvT-loop
-Inv-loop stream pool₀ lent starts first out₀ core₀ used₀ pool out core used =
+Inv-loop stream pool₀ lent starts looks first out₀ core₀ used₀ pool out core used =
     (length pool ≡ length pool₀) × (length out ≡ 1024) × Words (core .records)
     × After (first .order) stream (record { network = record { core = core₀; used = used₀ }; pool = pool₀ }) (record { network = record { core = core; used = used }; pool = pool })
 
 abbrev μ-loop : tie.MeasureT-loop
-μ-loop stream pool₀ lent starts first out₀ core₀ used₀ pool out core used = most (instanceOf stream) - valueOf (core .deliveries)
+μ-loop stream pool₀ lent starts looks first out₀ core₀ used₀ pool out core used = most (instanceOf stream) - valueOf (core .deliveries)
 
 -- the stream is an accepted one
 table : (c : tie.Start Inv-loop μ-loop) → Accepted (c .args .stream .now)
 table c = made-table (c .args .order) (c .args .stream .now) (c .pre .pool) (record { refusal = 0; network = c .args .net }) (c .args .pool .now) (c .pre .gave) refl
 
 -- the order in which values are tried
-ordered : (c : tie.After-first-seat Inv-loop μ-loop) → c .first-seat .result .order ≡ c .before .before .before .before .before .before .args .order
+ordered : (c : tie.After-first-seat Inv-loop μ-loop) → c .first-seat .result .order ≡ c .before .before .before .before .before .before .before .before .args .order
 ordered c = rw (c .first-seat .ensures)
 
 -- unit 1 has not stopped, so the next delivery is accepted
@@ -50,25 +51,25 @@ module _ (c : tie.Else1 Inv-loop μ-loop) where
   abbrev net : Network
   net = record { core = c .before .before .loop .core; used = c .before .before .loop .used }
 
-  reached : After (c .before .before .before .before .before .before .before .before .before .before .args .order) (c .before .before .before .before .before .before .before .before .before .before .args .stream .now) (record { network = c .before .before .before .before .before .before .before .before .before .before .args .net; pool = c .before .before .before .before .before .before .before .before .before .before .args .pool .now }) (record { network = net; pool = c .before .before .loop .pool })
+  reached : After (c .before .before .before .before .before .before .before .before .before .before .before .before .args .order) (c .before .before .before .before .before .before .before .before .before .before .before .before .args .stream .now) (record { network = c .before .before .before .before .before .before .before .before .before .before .before .before .args .net; pool = c .before .before .before .before .before .before .before .before .before .before .before .before .args .pool .now }) (record { network = net; pool = c .before .before .loop .pool })
   reached = rw (ordered (c .before .before .before .before)) at (c .before .before .loop .inv .3)
 
   goes-on : over (record { network = net; pool = c .before .before .loop .pool }) ≡ false
   goes-on = c .if1 .left
 
-  accepted : deliverOf (c .before .before .before .before .before .before .before .before .before .before .args .order) net (c .before .before .before .before .before .before .before .before .before .before .args .stream .now) (c .before .before .loop .pool) 0 .answer .refusal ≡ 0
-  accepted = reached-accepted (c .before .before .before .before .before .before .before .before .before .before .args .order) (c .before .before .before .before .before .before .before .before .before .before .args .stream .now) (c .before .before .before .before .before .before .before .before .before .before .pre .pool) (record { refusal = 0; network = c .before .before .before .before .before .before .before .before .before .before .args .net }) (c .before .before .before .before .before .before .before .before .before .before .args .pool .now) (c .before .before .before .before .before .before .before .before .before .before .pre .gave) refl net (c .before .before .loop .pool) reached goes-on
+  accepted : deliverOf (c .before .before .before .before .before .before .before .before .before .before .before .before .args .order) net (c .before .before .before .before .before .before .before .before .before .before .before .before .args .stream .now) (c .before .before .loop .pool) 0 .answer .refusal ≡ 0
+  accepted = reached-accepted (c .before .before .before .before .before .before .before .before .before .before .before .before .args .order) (c .before .before .before .before .before .before .before .before .before .before .before .before .args .stream .now) (c .before .before .before .before .before .before .before .before .before .before .before .before .pre .pool) (record { refusal = 0; network = c .before .before .before .before .before .before .before .before .before .before .before .before .args .net }) (c .before .before .before .before .before .before .before .before .before .before .before .before .args .pool .now) (c .before .before .before .before .before .before .before .before .before .before .before .before .pre .gave) refl net (c .before .before .loop .pool) reached goes-on
 
-  passed : Open (c .before .before .before .before .before .before .before .before .before .before .args .order) net (c .before .before .before .before .before .before .before .before .before .before .args .stream .now) (c .before .before .loop .pool) 0
-  passed = checks (c .before .before .before .before .before .before .before .before .before .before .args .order) net (c .before .before .before .before .before .before .before .before .before .before .args .stream .now) (c .before .before .loop .pool) 0 accepted
+  passed : Open (c .before .before .before .before .before .before .before .before .before .before .before .before .args .order) net (c .before .before .before .before .before .before .before .before .before .before .before .before .args .stream .now) (c .before .before .loop .pool) 0
+  passed = checks (c .before .before .before .before .before .before .before .before .before .before .before .before .args .order) net (c .before .before .before .before .before .before .before .before .before .before .before .before .args .stream .now) (c .before .before .loop .pool) 0 accepted
 
 lend-requires : tie.Need-lend-requires Inv-loop μ-loop
 lend-requires c κs = let l = length-replicate {A = ℕ} 123392 0 in (table (c .before .before .before), omega (arith, l))
 
 loop-holds : tie.Need-loop-holds Inv-loop μ-loop
 loop-holds c =
-    let w : Words (c .before .before .before .before .before .before .before .args .net .core .records) = search needs in
-    (refl, refl, w, rw (ordered (c .before)) (reached-start (c .before .before .before .before .before .before .before .args .order) (c .before .before .before .before .before .before .before .args .stream .now) (c .before .before .before .before .before .before .before .pre .pool) (record { refusal = 0; network = c .before .before .before .before .before .before .before .args .net }) (c .before .before .before .before .before .before .before .args .pool .now) (c .before .before .before .before .before .before .before .pre .gave) refl))
+    let w : Words (c .before .before .before .before .before .before .before .before .before .args .net .core .records) = search needs in
+    (refl, refl, w, rw (ordered (c .before)) (reached-start (c .before .before .before .before .before .before .before .before .before .args .order) (c .before .before .before .before .before .before .before .before .before .args .stream .now) (c .before .before .before .before .before .before .before .before .before .pre .pool) (record { refusal = 0; network = c .before .before .before .before .before .before .before .before .before .args .net }) (c .before .before .before .before .before .before .before .before .before .args .pool .now) (c .before .before .before .before .before .before .before .before .before .pre .gave) refl))
 
 returns : tie.Need-returns Inv-loop μ-loop
 returns c = record { stopped = c .if1 .taken; after = rw (ordered (c .before .before .before .before)) at (c .before .before .loop .inv .3) }
@@ -79,25 +80,31 @@ part-seat-of-end c = let l = passed (c .before) .passed .room in search needs
 -- the unit that the message is for, and the costs lent with it
 module _ (c : tie.After-seat-of Inv-loop μ-loop) where
   first : 1 ≤ c .seat-of .result .own
-  first = turn-first (c .before .before .before .before .before .before .before .before .before .before .before .before .before .args .order) (c .before .before .before .before .before .before .before .before .before .before .before .before .before .args .stream .now) (net (c .before .before .before)) (c .before .before .before .before .before .loop .pool) (accepted (c .before .before .before)) (c .before .before .before .before .before .before .before .first-seat .result) (c .seat-of .result) (c .before .before .before .before .before .before .before .first-seat .ensures) (c .seat-of .ensures .0) (c .seat-of .ensures .1) (c .before .before .before .before .before .before .before .before .before .lend .result) (c .before .before .before .before .before .before .before .before .before .lend .last .1 .0) (c .before .before .before .before .before .before .before .before .before .lend .ensures)
+  first = turn-first (c .before .before .before .before .before .before .before .before .before .before .before .before .before .before .before .args .order) (c .before .before .before .before .before .before .before .before .before .before .before .before .before .before .before .args .stream .now) (net (c .before .before .before)) (c .before .before .before .before .before .loop .pool) (accepted (c .before .before .before)) (c .before .before .before .before .before .before .before .first-seat .result) (c .seat-of .result) (c .before .before .before .before .before .before .before .first-seat .ensures) (c .seat-of .ensures .0) (c .seat-of .ensures .1) (c .before .before .before .before .before .before .before .before .before .before .before .lend .result .starts) (c .before .before .before .before .before .before .before .before .before .before .before .lend .last .1 .1 .0) (c .before .before .before .before .before .before .before .before .before .before .before .lend .ensures .0) (c .before .before .before .before .before .before .before .before .before .before .before .lend .result .looks) (c .before .before .before .before .before .before .before .before .before .before .before .lend .ensures .1)
 
   place : c .seat-of .result .own - 1 < 16
-  place = turn-place (c .before .before .before .before .before .before .before .before .before .before .before .before .before .args .order) (c .before .before .before .before .before .before .before .before .before .before .before .before .before .args .stream .now) (net (c .before .before .before)) (c .before .before .before .before .before .loop .pool) (accepted (c .before .before .before)) (c .before .before .before .before .before .before .before .first-seat .result) (c .seat-of .result) (c .before .before .before .before .before .before .before .first-seat .ensures) (c .seat-of .ensures .0) (c .seat-of .ensures .1) (c .before .before .before .before .before .before .before .before .before .lend .result) (c .before .before .before .before .before .before .before .before .before .lend .last .1 .0) (c .before .before .before .before .before .before .before .before .before .lend .ensures)
+  place = turn-place (c .before .before .before .before .before .before .before .before .before .before .before .before .before .before .before .args .order) (c .before .before .before .before .before .before .before .before .before .before .before .before .before .before .before .args .stream .now) (net (c .before .before .before)) (c .before .before .before .before .before .loop .pool) (accepted (c .before .before .before)) (c .before .before .before .before .before .before .before .first-seat .result) (c .seat-of .result) (c .before .before .before .before .before .before .before .first-seat .ensures) (c .seat-of .ensures .0) (c .seat-of .ensures .1) (c .before .before .before .before .before .before .before .before .before .before .before .lend .result .starts) (c .before .before .before .before .before .before .before .before .before .before .before .lend .last .1 .1 .0) (c .before .before .before .before .before .before .before .before .before .before .before .lend .ensures .0) (c .before .before .before .before .before .before .before .before .before .before .before .lend .result .looks) (c .before .before .before .before .before .before .before .before .before .before .before .lend .ensures .1)
 
-  following : getD (c .before .before .before .before .before .before .before .before .before .lend .result) (c .seat-of .result .own - 1) 0 ≤ getD (c .before .before .before .before .before .before .before .before .before .lend .result) (c .seat-of .result .own - 1 + 1) 0
-  following = turn-order (c .before .before .before .before .before .before .before .before .before .before .before .before .before .args .order) (c .before .before .before .before .before .before .before .before .before .before .before .before .before .args .stream .now) (net (c .before .before .before)) (c .before .before .before .before .before .loop .pool) (accepted (c .before .before .before)) (c .before .before .before .before .before .before .before .first-seat .result) (c .seat-of .result) (c .before .before .before .before .before .before .before .first-seat .ensures) (c .seat-of .ensures .0) (c .seat-of .ensures .1) (c .before .before .before .before .before .before .before .before .before .lend .result) (c .before .before .before .before .before .before .before .before .before .lend .last .1 .0) (c .before .before .before .before .before .before .before .before .before .lend .ensures)
+  following : getD (c .before .before .before .before .before .before .before .before .before .before .before .lend .result .starts) (c .seat-of .result .own - 1) 0 ≤ getD (c .before .before .before .before .before .before .before .before .before .before .before .lend .result .starts) (c .seat-of .result .own - 1 + 1) 0
+  following = turn-order (c .before .before .before .before .before .before .before .before .before .before .before .before .before .before .before .args .order) (c .before .before .before .before .before .before .before .before .before .before .before .before .before .before .before .args .stream .now) (net (c .before .before .before)) (c .before .before .before .before .before .loop .pool) (accepted (c .before .before .before)) (c .before .before .before .before .before .before .before .first-seat .result) (c .seat-of .result) (c .before .before .before .before .before .before .before .first-seat .ensures) (c .seat-of .ensures .0) (c .seat-of .ensures .1) (c .before .before .before .before .before .before .before .before .before .before .before .lend .result .starts) (c .before .before .before .before .before .before .before .before .before .before .before .lend .last .1 .1 .0) (c .before .before .before .before .before .before .before .before .before .before .before .lend .ensures .0) (c .before .before .before .before .before .before .before .before .before .before .before .lend .result .looks) (c .before .before .before .before .before .before .before .before .before .before .before .lend .ensures .1)
 
-  ends : getD (c .before .before .before .before .before .before .before .before .before .lend .result) (c .seat-of .result .own - 1 + 1) 0 ≤ length (c .before .before .before .before .before .before .before .before .before .lend .last .1 .0)
-  ends = turn-end (c .before .before .before .before .before .before .before .before .before .before .before .before .before .args .order) (c .before .before .before .before .before .before .before .before .before .before .before .before .before .args .stream .now) (net (c .before .before .before)) (c .before .before .before .before .before .loop .pool) (accepted (c .before .before .before)) (c .before .before .before .before .before .before .before .first-seat .result) (c .seat-of .result) (c .before .before .before .before .before .before .before .first-seat .ensures) (c .seat-of .ensures .0) (c .seat-of .ensures .1) (c .before .before .before .before .before .before .before .before .before .lend .result) (c .before .before .before .before .before .before .before .before .before .lend .last .1 .0) (c .before .before .before .before .before .before .before .before .before .lend .ensures)
+  ends : getD (c .before .before .before .before .before .before .before .before .before .before .before .lend .result .starts) (c .seat-of .result .own - 1 + 1) 0 ≤ length (c .before .before .before .before .before .before .before .before .before .before .before .lend .last .1 .1 .0)
+  ends = turn-end (c .before .before .before .before .before .before .before .before .before .before .before .before .before .before .before .args .order) (c .before .before .before .before .before .before .before .before .before .before .before .before .before .before .before .args .stream .now) (net (c .before .before .before)) (c .before .before .before .before .before .loop .pool) (accepted (c .before .before .before)) (c .before .before .before .before .before .before .before .first-seat .result) (c .seat-of .result) (c .before .before .before .before .before .before .before .first-seat .ensures) (c .seat-of .ensures .0) (c .seat-of .ensures .1) (c .before .before .before .before .before .before .before .before .before .before .before .lend .result .starts) (c .before .before .before .before .before .before .before .before .before .before .before .lend .last .1 .1 .0) (c .before .before .before .before .before .before .before .before .before .before .before .lend .ensures .0) (c .before .before .before .before .before .before .before .before .before .before .before .lend .result .looks) (c .before .before .before .before .before .before .before .before .before .before .before .lend .ensures .1)
+
+  long : length (getD (c .before .before .before .before .before .before .before .before .before .before .before .lend .result .looks) (c .seat-of .result .own - 1) noOutlook .ahead) ≡ 16
+  long = turn-long (c .before .before .before .before .before .before .before .before .before .before .before .before .before .before .before .args .order) (c .before .before .before .before .before .before .before .before .before .before .before .before .before .before .before .args .stream .now) (net (c .before .before .before)) (c .before .before .before .before .before .loop .pool) (accepted (c .before .before .before)) (c .before .before .before .before .before .before .before .first-seat .result) (c .seat-of .result) (c .before .before .before .before .before .before .before .first-seat .ensures) (c .seat-of .ensures .0) (c .seat-of .ensures .1) (c .before .before .before .before .before .before .before .before .before .before .before .lend .result .starts) (c .before .before .before .before .before .before .before .before .before .before .before .lend .last .1 .1 .0) (c .before .before .before .before .before .before .before .before .before .before .before .lend .ensures .0) (c .before .before .before .before .before .before .before .before .before .before .before .lend .result .looks) (c .before .before .before .before .before .before .before .before .before .before .before .lend .ensures .1)
 
   abbrev costs : List ℕ
-  costs = take (getD (c .before .before .before .before .before .before .before .before .before .lend .result) (c .seat-of .result .own - 1 + 1) 0 - getD (c .before .before .before .before .before .before .before .before .before .lend .result) (c .seat-of .result .own - 1) 0) (drop (getD (c .before .before .before .before .before .before .before .before .before .lend .result) (c .seat-of .result .own - 1) 0) (c .before .before .before .before .before .before .before .before .before .lend .last .1 .0))
+  costs = take (getD (c .before .before .before .before .before .before .before .before .before .before .before .lend .result .starts) (c .seat-of .result .own - 1 + 1) 0 - getD (c .before .before .before .before .before .before .before .before .before .before .before .lend .result .starts) (c .seat-of .result .own - 1) 0) (drop (getD (c .before .before .before .before .before .before .before .before .before .before .before .lend .result .starts) (c .seat-of .result .own - 1) 0) (c .before .before .before .before .before .before .before .before .before .before .before .lend .last .1 .1 .0))
+
+  abbrev ahead : List ℕ
+  ahead = getD (c .before .before .before .before .before .before .before .before .before .before .before .lend .result .looks) (c .seat-of .result .own - 1) noOutlook .ahead
 
   abbrev unit : UnitState
   unit = unitAt (c .before .before .before .before .before .loop .core .units) (c .seat-of .result .own - 1)
 
-  abbrev oldest : Oldest (c .seat-of .result .order) unit (c .seat-of .result .own) (c .seat-of .result .n) (c .seat-of .result .sizes) costs (c .before .before .before .before .before .loop .pool) (c .before .before .before .before .before .loop .used)
-  oldest = turn-oldest (c .before .before .before .before .before .before .before .before .before .before .before .before .before .args .order) (c .before .before .before .before .before .before .before .before .before .before .before .before .before .args .stream .now) (net (c .before .before .before)) (c .before .before .before .before .before .loop .pool) (accepted (c .before .before .before)) (c .before .before .before .before .before .before .before .first-seat .result) (c .seat-of .result) (c .before .before .before .before .before .before .before .first-seat .ensures) (c .seat-of .ensures .0) (c .seat-of .ensures .1) (c .before .before .before .before .before .before .before .before .before .lend .result) (c .before .before .before .before .before .before .before .before .before .lend .last .1 .0) (c .before .before .before .before .before .before .before .before .before .lend .ensures)
+  abbrev oldest : Oldest (c .seat-of .result .order) unit (c .seat-of .result .own) (c .seat-of .result .n) (c .seat-of .result .sizes) costs ahead (c .before .before .before .before .before .loop .pool) (c .before .before .before .before .before .loop .used)
+  oldest = turn-oldest (c .before .before .before .before .before .before .before .before .before .before .before .before .before .before .before .args .order) (c .before .before .before .before .before .before .before .before .before .before .before .before .before .before .before .args .stream .now) (net (c .before .before .before)) (c .before .before .before .before .before .loop .pool) (accepted (c .before .before .before)) (c .before .before .before .before .before .before .before .first-seat .result) (c .seat-of .result) (c .before .before .before .before .before .before .before .first-seat .ensures) (c .seat-of .ensures .0) (c .seat-of .ensures .1) (c .before .before .before .before .before .before .before .before .before .before .before .lend .result .starts) (c .before .before .before .before .before .before .before .before .before .before .before .lend .last .1 .1 .0) (c .before .before .before .before .before .before .before .before .before .before .before .lend .ensures .0) (c .before .before .before .before .before .before .before .before .before .before .before .lend .result .looks) (c .before .before .before .before .before .before .before .before .before .before .before .lend .ensures .1)
 
 sub-place : tie.Need-sub-place Inv-loop μ-loop
 sub-place c = first (c .before)
@@ -108,55 +115,67 @@ array-read-lo c = omega (arith, place (c .before))
 array-read-hi : tie.Need-array-read-hi Inv-loop μ-loop
 array-read-hi c = omega (arith, place (c .before))
 
+array-copy-out-known : tie.Need-array-copy-out-known Inv-loop μ-loop
+array-copy-out-known c = omega (arith, place (c .before))
+
 element-copy-out-u : tie.Need-element-copy-out-u Inv-loop μ-loop
-element-copy-out-u c = omega (arith, place (c .before))
+element-copy-out-u c = omega (arith, place (c .before .before .before))
 
 sub-hear : tie.Need-sub-hear Inv-loop μ-loop
-sub-hear c = following (c .before .before)
+sub-hear c = following (c .before .before .before .before)
 
 part-hear-start : tie.Need-part-hear-start Inv-loop μ-loop
-part-hear-start c = let l = following (c .before .before .before) in search needs
+part-hear-start c = let l = following (c .before .before .before .before .before) in search needs
 
 part-hear-end : tie.Need-part-hear-end Inv-loop μ-loop
-part-hear-end c = let l = ends (c .before .before .before) in search needs
+part-hear-end c = let l = ends (c .before .before .before .before .before) in search needs
 
 hear-requires : tie.Need-hear-requires Inv-loop μ-loop
-hear-requires c κs = oldest (c .before .before .before .before .before)
+hear-requires c κs = oldest (c .before .before .before .before .before .before .before .before)
+
+slice-aggregate-hear : tie.Need-slice-aggregate-hear Inv-loop μ-loop
+slice-aggregate-hear c = let l = long (c .before .before .before .before .before .before .before) in search needs
+
+slice-aggregate-hand-oldest : tie.Need-slice-aggregate-hand-oldest Inv-loop μ-loop
+slice-aggregate-hand-oldest c = let l = long (c .before .before .before .before .before .before .before .before .before .before .before .before .before .before .before .before .before) in search needs
+
+slice-aggregate-hand-oldest-2 : tie.Need-slice-aggregate-hand-oldest-2 Inv-loop μ-loop
+slice-aggregate-hand-oldest-2 c = let l = c .before .before .before .before .before .before .before .before .before .before .before .before .before .before .before .before .before .before .before .before .before .before .before .before .loop .inv .1 in search needs
 
 element-copy-out-w : tie.Need-element-copy-out-w Inv-loop μ-loop
-element-copy-out-w c = omega (arith, place (c .before .before .before .before .before .before .before .before .before))
+element-copy-out-w c = omega (arith, place (c .before .before .before .before .before .before .before .before .before .before .before .before))
 
 element-set-from-core : tie.Need-element-set-from-core Inv-loop μ-loop
-element-set-from-core c = omega (arith, place (c .before .before .before .before .before .before .before .before .before .before .before))
+element-set-from-core c = omega (arith, place (c .before .before .before .before .before .before .before .before .before .before .before .before .before .before))
 
 element-copy-out-w-2 : tie.Need-element-copy-out-w-2 Inv-loop μ-loop
-element-copy-out-w-2 c = omega (arith, place (c .before .before .before .before .before .before .before .before .before .before))
+element-copy-out-w-2 c = omega (arith, place (c .before .before .before .before .before .before .before .before .before .before .before .before .before))
 
 sub-hand-oldest : tie.Need-sub-hand-oldest Inv-loop μ-loop
-sub-hand-oldest c = following (c .before .before .before .before .before .before .before .before .before .before .before)
+sub-hand-oldest c = following (c .before .before .before .before .before .before .before .before .before .before .before .before .before .before)
 
 part-hand-oldest-start : tie.Need-part-hand-oldest-start Inv-loop μ-loop
-part-hand-oldest-start c = let l = following (c .before .before .before .before .before .before .before .before .before .before .before .before) in search needs
+part-hand-oldest-start c = let l = following (c .before .before .before .before .before .before .before .before .before .before .before .before .before .before .before) in search needs
 
 part-hand-oldest-end : tie.Need-part-hand-oldest-end Inv-loop μ-loop
-part-hand-oldest-end c = let l = ends (c .before .before .before .before .before .before .before .before .before .before .before .before) in search needs
+part-hand-oldest-end c = let l = ends (c .before .before .before .before .before .before .before .before .before .before .before .before .before .before .before) in search needs
 
 -- what is known of the message once it was heard
-told : (c : tie.After-hear Inv-loop μ-loop) → Heard (oldest (c .before .before .before .before .before .before)) (c .hear .result .way) (c .hear .result .message) (c .hear .result .sent) (c .hear .last .1 .1 .1 .0)
-told c = c .hear .ensures (oldest (c .before .before .before .before .before .before))
+told : (c : tie.After-hear Inv-loop μ-loop) → Heard (oldest (c .before .before .before .before .before .before .before .before .before)) (c .hear .result .way) (c .hear .result .message) (c .hear .result .sent) (c .hear .last .1 .1 .1 .1 .0)
+told c = c .hear .ensures (oldest (c .before .before .before .before .before .before .before .before .before))
 
 -- the whole way finds the pool as it was
-unmoved : (c : tie.After-enum-told Inv-loop μ-loop) → c .before .before .before .before .hear .last .1 .1 .1 .0 ≡ c .before .before .before .before .before .before .before .before .before .before .before .before .before .before .before .loop .pool
+unmoved : (c : tie.After-enum-told Inv-loop μ-loop) → c .before .before .before .before .hear .last .1 .1 .1 .1 .0 ≡ c .before .before .before .before .before .before .before .before .before .before .before .before .before .before .before .before .before .before .loop .pool
 unmoved c = rw (c .enum-told .given .1) at (told (c .before .before .before .before))
 
 hand-oldest-requires : tie.Need-hand-oldest-requires Inv-loop μ-loop
-hand-oldest-requires c κs = (rw (unmoved (c .before .before .before .before .before)) (oldest (c .before .before .before .before .before .before .before .before .before .before .before .before .before .before .before)), omega (arith, c .before .before .before .before .before .before .before .before .before .before .before .before .before .before .before .before .before .before .before .before .loop .inv .1))
+hand-oldest-requires c κs = (rw (unmoved (c .before .before .before .before .before .before)) (oldest (c .before .before .before .before .before .before .before .before .before .before .before .before .before .before .before .before .before .before .before)), omega (arith, c .before .before .before .before .before .before .before .before .before .before .before .before .before .before .before .before .before .before .before .before .before .before .before .before .loop .inv .1))
 
 mul-w-3 : tie.Need-mul-w-3 Inv-loop μ-loop
-mul-w-3 c = record { fits = omega (arith, place (c .before .before .before .before .before .before .before .before .before .before .before .before .before .before .before .before .before .before .before .before)) }
+mul-w-3 c = record { fits = omega (arith, place (c .before .before .before .before .before .before .before .before .before .before .before .before .before .before .before .before .before .before .before .before .before .before .before .before)) }
 
 element-set-from-w : tie.Need-element-set-from-w Inv-loop μ-loop
-element-set-from-w c = omega (arith, place (c .before .before .before .before .before .before .before .before .before .before .before .before .before .before .before .before .before .before .before .before))
+element-set-from-w c = omega (arith, place (c .before .before .before .before .before .before .before .before .before .before .before .before .before .before .before .before .before .before .before .before .before .before .before .before))
 
 -- the number of a way
 coded : (way : Way) → tagOf the-type way ≡ wayCode way
@@ -168,40 +187,40 @@ coded Lower = refl
 coded Whole = refl
 
 -- whichever way it goes, the message was handed over
-turned : (c : tie.At-match-came Inv-loop μ-loop) → Turned (oldest (c .before .before .before .before .before .before .before .before .before)) (c .before .before .before .before .before .before .before .before .before .before .before .before .before .before .loop .core) (c .before .before .before .before .before .before .before .before .before .seat-of .result .own - 1) (c .match .pool) (c .match .core) (c .match .sent)
+turned : (c : tie.At-match-came Inv-loop μ-loop) → Turned (oldest (c .before .before .before .before .before .before .before .before .before .before .before .before)) (c .before .before .before .before .before .before .before .before .before .before .before .before .before .before .before .before .before .loop .core) (c .before .before .before .before .before .before .before .before .before .before .before .before .seat-of .result .own - 1) (c .match .pool) (c .match .core) (c .match .sent)
 turned c =
     let h = c .before .before .before .hear in
-    let t = oldest (c .before .before .before .before .before .before .before .before .before) in
-    let k = c .before .before .before .before .before .before .before .before .before .seat-of .result .own - 1 in
-    let l = c .before .before .before .before .before .before .before .before .before .before .before .before .before .before .loop in
+    let t = oldest (c .before .before .before .before .before .before .before .before .before .before .before .before) in
+    let k = c .before .before .before .before .before .before .before .before .before .before .before .before .seat-of .result .own - 1 in
+    let l = c .before .before .before .before .before .before .before .before .before .before .before .before .before .before .before .before .before .loop in
     let q = told (c .before .before .before) in
     ⊎-elim
-    (λ w. rw (w .1, w .3, w .4) (kept-turned (l .core) k t (l .inv .2) (h .result .message) (h .result .sent) (h .last .1 .1 .1 .0) (h .result .way) (rw (coded (h .result .way)) at (w .0 .keys1)) q))
+    (λ w. rw (w .1, w .3, w .4) (kept-turned (l .core) k t (l .inv .2) (h .result .message) (h .result .sent) (h .last .1 .1 .1 .1 .0) (h .result .way) (rw (coded (h .result .way)) at (w .0 .keys1)) q))
     (λ w.
     ⊎-elim
-    (λ v. rw (v .3, v .5, v .6) (changed-turned (l .core) k t (l .inv .2) (h .result .message) (h .result .sent) (h .last .1 .1 .1 .0) (v .2 .result) (h .result .way) (rw (coded (h .result .way)) at (v .0 .keys2)) q (v .2 .ensures)))
+    (λ v. rw (v .3, v .5, v .6) (changed-turned (l .core) k t (l .inv .2) (h .result .message) (h .result .sent) (h .last .1 .1 .1 .1 .0) (v .2 .result) (h .result .way) (rw (coded (h .result .way)) at (v .0 .keys2)) q (v .2 .ensures)))
     (λ v.
-    rw (v .15, v .17, v .18)
+    rw (v .16, v .18, v .19)
     (record {
-      outcome = v .7 .result;
-      handed = whole-handed t (h .last .1 .1 .1 .0) (rw (v .1 .given .1) at q) (v .7 .result) (v .7 .last .1 .1 .1 .0) (v .7 .ensures);
-      state = rw (v .14 .ensures);
+      outcome = v .8 .result;
+      handed = whole-handed t (h .last .1 .1 .1 .1 .0) (rw (v .1 .given .1) at q) (v .8 .result) (v .8 .last .1 .1 .1 .1 .0) (v .8 .ensures);
+      state = rw (v .15 .ensures);
       count = refl;
     }))
     w)
     (c .match .came)
 
 -- pool and buffer are as long as they were
-lengths : (c : tie.At-match-came Inv-loop μ-loop) → (length (c .match .pool) ≡ length (c .before .before .before .before .before .before .before .before .before .before .before .before .before .before .before .before .before .before .before .before .before .before .args .pool .now)) × (length (c .match .out) ≡ 1024)
+lengths : (c : tie.At-match-came Inv-loop μ-loop) → (length (c .match .pool) ≡ length (c .before .before .before .before .before .before .before .before .before .before .before .before .before .before .before .before .before .before .before .before .before .before .before .before .before .before .before .args .pool .now)) × (length (c .match .out) ≡ 1024)
 lengths c =
-    let l = c .before .before .before .before .before .before .before .before .before .before .before .before .before .before .loop in
-    let h : length (c .before .before .before .hear .last .1 .1 .1 .0) ≡ length (c .before .before .before .before .before .before .before .before .before .before .before .before .before .before .before .before .before .before .before .before .before .before .args .pool .now) = omega (arith, c .before .before .pool2 .given, l .inv .0) in
+    let l = c .before .before .before .before .before .before .before .before .before .before .before .before .before .before .before .before .before .loop in
+    let h : length (c .before .before .before .hear .last .1 .1 .1 .1 .0) ≡ length (c .before .before .before .before .before .before .before .before .before .before .before .before .before .before .before .before .before .before .before .before .before .before .before .before .before .before .before .args .pool .now) = omega (arith, c .before .before .pool2 .given, l .inv .0) in
     ⊎-elim (λ w. (rw (w .1) h, rw (w .2) (l .inv .1)))
-    (λ w. ⊎-elim (λ v. (rw (v .3) h, rw (v .4) (l .inv .1))) (λ v. (rw (v .15) (omega (arith, v .8 .given, h)), rw (v .16) (v .10 .given))) w)
+    (λ w. ⊎-elim (λ v. (rw (v .3) h, rw (v .4) (l .inv .1))) (λ v. (rw (v .16) (omega (arith, v .9 .given, h)), rw (v .17) (v .11 .given))) w)
     (c .match .came)
 
 sub-used : tie.Need-sub-used Inv-loop μ-loop
-sub-used c = passed (c .before .before .before .before .before .before .before .before .before .before .before .before) .here
+sub-used c = passed (c .before .before .before .before .before .before .before .before .before .before .before .before .before .before .before) .here
 
 add-used : tie.Need-add-used Inv-loop μ-loop
 add-used c = let t = turned (c .before) in record { fits = omega (arith, t .handed .2, t .count) }
@@ -209,21 +228,21 @@ add-used c = let t = turned (c .before) in record { fits = omega (arith, t .hand
 -- a turn delivers cell 0
 module _ (c : tie.After-plus2 Inv-loop μ-loop) where
   abbrev next : Network
-  next = record { core = record { units = c .before .before .before .match .core .units; records = c .before .before .before .match .core .records; deliveries = c .plus2 .result }; used = c .before .before .before .before .before .before .before .before .before .before .before .before .before .before .before .before .before .loop .used - 1 + c .before .before .before .match .sent }
+  next = record { core = record { units = c .before .before .before .match .core .units; records = c .before .before .before .match .core .records; deliveries = c .plus2 .result }; used = c .before .before .before .before .before .before .before .before .before .before .before .before .before .before .before .before .before .before .before .before .loop .used - 1 + c .before .before .before .match .sent }
 
-  delivered : (record { refusal = 0; network = next } ≡ deliverOf (c .before .before .before .before .before .before .before .before .before .before .before .before .before .before .before .before .before .before .before .before .before .before .before .before .before .args .order) (net (c .before .before .before .before .before .before .before .before .before .before .before .before .before .before .before)) (c .before .before .before .before .before .before .before .before .before .before .before .before .before .before .before .before .before .before .before .before .before .before .before .before .before .args .stream .now) (c .before .before .before .before .before .before .before .before .before .before .before .before .before .before .before .before .before .loop .pool) 0 .answer) × (c .before .before .before .match .pool ≡ deliverOf (c .before .before .before .before .before .before .before .before .before .before .before .before .before .before .before .before .before .before .before .before .before .before .before .before .before .args .order) (net (c .before .before .before .before .before .before .before .before .before .before .before .before .before .before .before)) (c .before .before .before .before .before .before .before .before .before .before .before .before .before .before .before .before .before .before .before .before .before .before .before .before .before .args .stream .now) (c .before .before .before .before .before .before .before .before .before .before .before .before .before .before .before .before .before .loop .pool) 0 .pool)
-  delivered = turn-delivers (c .before .before .before .before .before .before .before .before .before .before .before .before .before .before .before .before .before .before .before .before .before .before .before .before .before .args .order) (c .before .before .before .before .before .before .before .before .before .before .before .before .before .before .before .before .before .before .before .before .before .before .before .before .before .args .stream .now) (net (c .before .before .before .before .before .before .before .before .before .before .before .before .before .before .before)) (c .before .before .before .before .before .before .before .before .before .before .before .before .before .before .before .before .before .loop .pool) (accepted (c .before .before .before .before .before .before .before .before .before .before .before .before .before .before .before)) (c .before .before .before .before .before .before .before .before .before .before .before .before .before .before .before .before .before .before .before .first-seat .result) (c .before .before .before .before .before .before .before .before .before .before .before .before .seat-of .result) (c .before .before .before .before .before .before .before .before .before .before .before .before .before .before .before .before .before .before .before .first-seat .ensures) (c .before .before .before .before .before .before .before .before .before .before .before .before .seat-of .ensures .0) (c .before .before .before .before .before .before .before .before .before .before .before .before .seat-of .ensures .1) (c .before .before .before .before .before .before .before .before .before .before .before .before .before .before .before .before .before .before .before .before .before .lend .result) (c .before .before .before .before .before .before .before .before .before .before .before .before .before .before .before .before .before .before .before .before .before .lend .last .1 .0) (c .before .before .before .before .before .before .before .before .before .before .before .before .before .before .before .before .before .before .before .before .before .lend .ensures) (c .before .before .before .match .core) (c .before .before .before .match .sent) (c .before .before .before .match .pool) (turned (c .before .before .before)) (c .plus2 .result) (c .plus2 .ensures)
+  delivered : (record { refusal = 0; network = next } ≡ deliverOf (c .before .before .before .before .before .before .before .before .before .before .before .before .before .before .before .before .before .before .before .before .before .before .before .before .before .before .before .before .before .before .args .order) (net (c .before .before .before .before .before .before .before .before .before .before .before .before .before .before .before .before .before .before)) (c .before .before .before .before .before .before .before .before .before .before .before .before .before .before .before .before .before .before .before .before .before .before .before .before .before .before .before .before .before .before .args .stream .now) (c .before .before .before .before .before .before .before .before .before .before .before .before .before .before .before .before .before .before .before .before .loop .pool) 0 .answer) × (c .before .before .before .match .pool ≡ deliverOf (c .before .before .before .before .before .before .before .before .before .before .before .before .before .before .before .before .before .before .before .before .before .before .before .before .before .before .before .before .before .before .args .order) (net (c .before .before .before .before .before .before .before .before .before .before .before .before .before .before .before .before .before .before)) (c .before .before .before .before .before .before .before .before .before .before .before .before .before .before .before .before .before .before .before .before .before .before .before .before .before .before .before .before .before .before .args .stream .now) (c .before .before .before .before .before .before .before .before .before .before .before .before .before .before .before .before .before .before .before .before .loop .pool) 0 .pool)
+  delivered = turn-delivers (c .before .before .before .before .before .before .before .before .before .before .before .before .before .before .before .before .before .before .before .before .before .before .before .before .before .before .before .before .before .before .args .order) (c .before .before .before .before .before .before .before .before .before .before .before .before .before .before .before .before .before .before .before .before .before .before .before .before .before .before .before .before .before .before .args .stream .now) (net (c .before .before .before .before .before .before .before .before .before .before .before .before .before .before .before .before .before .before)) (c .before .before .before .before .before .before .before .before .before .before .before .before .before .before .before .before .before .before .before .before .loop .pool) (accepted (c .before .before .before .before .before .before .before .before .before .before .before .before .before .before .before .before .before .before)) (c .before .before .before .before .before .before .before .before .before .before .before .before .before .before .before .before .before .before .before .before .before .before .first-seat .result) (c .before .before .before .before .before .before .before .before .before .before .before .before .before .before .before .seat-of .result) (c .before .before .before .before .before .before .before .before .before .before .before .before .before .before .before .before .before .before .before .before .before .before .first-seat .ensures) (c .before .before .before .before .before .before .before .before .before .before .before .before .before .before .before .seat-of .ensures .0) (c .before .before .before .before .before .before .before .before .before .before .before .before .before .before .before .seat-of .ensures .1) (c .before .before .before .before .before .before .before .before .before .before .before .before .before .before .before .before .before .before .before .before .before .before .before .before .before .before .lend .result .starts) (c .before .before .before .before .before .before .before .before .before .before .before .before .before .before .before .before .before .before .before .before .before .before .before .before .before .before .lend .last .1 .1 .0) (c .before .before .before .before .before .before .before .before .before .before .before .before .before .before .before .before .before .before .before .before .before .before .before .before .before .before .lend .ensures .0) (c .before .before .before .before .before .before .before .before .before .before .before .before .before .before .before .before .before .before .before .before .before .before .before .before .before .before .lend .result .looks) (c .before .before .before .before .before .before .before .before .before .before .before .before .before .before .before .before .before .before .before .before .before .before .before .before .before .before .lend .ensures .1) (c .before .before .before .match .core) (c .before .before .before .match .sent) (c .before .before .before .match .pool) (turned (c .before .before .before)) (c .plus2 .result) (c .plus2 .ensures)
 
 loop-less : tie.Need-loop-less Inv-loop μ-loop
-loop-less c = measure-falls (c .before .before .before .before .before .before .before .before .before .before .before .before .before .before .before .before .before .before .before .before .before .before .before .before .before .args .order) (c .before .before .before .before .before .before .before .before .before .before .before .before .before .before .before .before .before .before .before .before .before .before .before .before .before .args .stream .now) (c .before .before .before .before .before .before .before .before .before .before .before .before .before .before .before .before .before .before .before .before .before .before .before .before .before .pre .pool) (record { refusal = 0; network = c .before .before .before .before .before .before .before .before .before .before .before .before .before .before .before .before .before .before .before .before .before .before .before .before .before .args .net }) (c .before .before .before .before .before .before .before .before .before .before .before .before .before .before .before .before .before .before .before .before .before .before .before .before .before .args .pool .now) (c .before .before .before .before .before .before .before .before .before .before .before .before .before .before .before .before .before .before .before .before .before .before .before .before .before .pre .gave) refl (net (c .before .before .before .before .before .before .before .before .before .before .before .before .before .before .before)) (c .before .before .before .before .before .before .before .before .before .before .before .before .before .before .before .before .before .loop .pool) (reached (c .before .before .before .before .before .before .before .before .before .before .before .before .before .before .before)) (record { refusal = 0; network = next c }) (c .before .before .before .match .pool) (delivered c) (goes-on (c .before .before .before .before .before .before .before .before .before .before .before .before .before .before .before))
+loop-less c = measure-falls (c .before .before .before .before .before .before .before .before .before .before .before .before .before .before .before .before .before .before .before .before .before .before .before .before .before .before .before .before .before .before .args .order) (c .before .before .before .before .before .before .before .before .before .before .before .before .before .before .before .before .before .before .before .before .before .before .before .before .before .before .before .before .before .before .args .stream .now) (c .before .before .before .before .before .before .before .before .before .before .before .before .before .before .before .before .before .before .before .before .before .before .before .before .before .before .before .before .before .before .pre .pool) (record { refusal = 0; network = c .before .before .before .before .before .before .before .before .before .before .before .before .before .before .before .before .before .before .before .before .before .before .before .before .before .before .before .before .before .before .args .net }) (c .before .before .before .before .before .before .before .before .before .before .before .before .before .before .before .before .before .before .before .before .before .before .before .before .before .before .before .before .before .before .args .pool .now) (c .before .before .before .before .before .before .before .before .before .before .before .before .before .before .before .before .before .before .before .before .before .before .before .before .before .before .before .before .before .before .pre .gave) refl (net (c .before .before .before .before .before .before .before .before .before .before .before .before .before .before .before .before .before .before)) (c .before .before .before .before .before .before .before .before .before .before .before .before .before .before .before .before .before .before .before .before .loop .pool) (reached (c .before .before .before .before .before .before .before .before .before .before .before .before .before .before .before .before .before .before)) (record { refusal = 0; network = next c }) (c .before .before .before .match .pool) (delivered c) (goes-on (c .before .before .before .before .before .before .before .before .before .before .before .before .before .before .before .before .before .before))
 
 loop-again : tie.Need-loop-again Inv-loop μ-loop
 loop-again c =
     let t = turned (c .before .before .before) in (
       lengths (c .before .before .before) .0,
       lengths (c .before .before .before) .1,
-      rw (t .state) (plus-words (t .outcome .records) (c .before .before .before .before .before .before .before .before .before .before .before .before .before .before .before .before .before .loop .core .records)),
-      rw (ordered (c .before .before .before .before .before .before .before .before .before .before .before .before .before .before .before .before .before .before .before)) (reached-next (c .before .before .before .before .before .before .before .before .before .before .before .before .before .before .before .before .before .before .before .before .before .before .before .before .before .args .order) (c .before .before .before .before .before .before .before .before .before .before .before .before .before .before .before .before .before .before .before .before .before .before .before .before .before .args .stream .now) (c .before .before .before .before .before .before .before .before .before .before .before .before .before .before .before .before .before .before .before .before .before .before .before .before .before .pre .pool) (record { refusal = 0; network = c .before .before .before .before .before .before .before .before .before .before .before .before .before .before .before .before .before .before .before .before .before .before .before .before .before .args .net }) (c .before .before .before .before .before .before .before .before .before .before .before .before .before .before .before .before .before .before .before .before .before .before .before .before .before .args .pool .now) (c .before .before .before .before .before .before .before .before .before .before .before .before .before .before .before .before .before .before .before .before .before .before .before .before .before .pre .gave) refl (net (c .before .before .before .before .before .before .before .before .before .before .before .before .before .before .before)) (c .before .before .before .before .before .before .before .before .before .before .before .before .before .before .before .before .before .loop .pool) (reached (c .before .before .before .before .before .before .before .before .before .before .before .before .before .before .before)) (record { refusal = 0; network = next c }) (c .before .before .before .match .pool) (delivered c) (goes-on (c .before .before .before .before .before .before .before .before .before .before .before .before .before .before .before))),
+      rw (t .state) (plus-words (t .outcome .records) (c .before .before .before .before .before .before .before .before .before .before .before .before .before .before .before .before .before .before .before .before .loop .core .records)),
+      rw (ordered (c .before .before .before .before .before .before .before .before .before .before .before .before .before .before .before .before .before .before .before .before .before .before)) (reached-next (c .before .before .before .before .before .before .before .before .before .before .before .before .before .before .before .before .before .before .before .before .before .before .before .before .before .before .before .before .before .before .args .order) (c .before .before .before .before .before .before .before .before .before .before .before .before .before .before .before .before .before .before .before .before .before .before .before .before .before .before .before .before .before .before .args .stream .now) (c .before .before .before .before .before .before .before .before .before .before .before .before .before .before .before .before .before .before .before .before .before .before .before .before .before .before .before .before .before .before .pre .pool) (record { refusal = 0; network = c .before .before .before .before .before .before .before .before .before .before .before .before .before .before .before .before .before .before .before .before .before .before .before .before .before .before .before .before .before .before .args .net }) (c .before .before .before .before .before .before .before .before .before .before .before .before .before .before .before .before .before .before .before .before .before .before .before .before .before .before .before .before .before .before .args .pool .now) (c .before .before .before .before .before .before .before .before .before .before .before .before .before .before .before .before .before .before .before .before .before .before .before .before .before .before .before .before .before .before .pre .gave) refl (net (c .before .before .before .before .before .before .before .before .before .before .before .before .before .before .before .before .before .before)) (c .before .before .before .before .before .before .before .before .before .before .before .before .before .before .before .before .before .before .before .before .loop .pool) (reached (c .before .before .before .before .before .before .before .before .before .before .before .before .before .before .before .before .before .before)) (record { refusal = 0; network = next c }) (c .before .before .before .match .pool) (delivered c) (goes-on (c .before .before .before .before .before .before .before .before .before .before .before .before .before .before .before .before .before .before))),
     )
 
 pub run-spec : {M : Type 1} → statement M
@@ -251,10 +270,13 @@ run-spec =
     (λ c. search needs)
     array-read-hi
     (λ c. search needs)
+    array-copy-out-known
+    (λ c. search needs)
     element-copy-out-u
     sub-hear
     part-hear-start
     part-hear-end
+    slice-aggregate-hear
     hear-requires
     (λ c. search needs)
     element-copy-out-w
@@ -267,7 +289,8 @@ run-spec =
     sub-hand-oldest
     part-hand-oldest-start
     part-hand-oldest-end
-    (λ c. search needs)
+    slice-aggregate-hand-oldest
+    slice-aggregate-hand-oldest-2
     hand-oldest-requires
     mul-w-3
     element-set-from-w

@@ -8,12 +8,12 @@ use Rattle.network.proofs.short.hear.Statement.{statement}
 use Rattle.network.proofs.short.hear.Tie as tie
 
 part-unpack-end : tie.Need-part-unpack-end
-part-unpack-end c = let l = checks (c .before .before .before .args .seat .order) (c .before .before .before .pre .net) (c .before .before .before .pre .stream) (c .before .before .before .args .pool .now) 0 (c .before .before .before .pre .accepted) .passed .room in search needs
+part-unpack-end c = let l = checks (c .before .before .before .before .args .seat .order) (c .before .before .before .before .pre .net) (c .before .before .before .before .pre .stream) (c .before .before .before .before .args .pool .now) 0 (c .before .before .before .before .pre .accepted) .passed .room in search needs
 
 pass-requires : tie.Need-pass-requires
 pass-requires c κs =
-    let a = c .before .before .before .before .before .before .before .before .args in
-    let t = c .before .before .before .before .before .before .before .before .pre in
+    let a = c .before .before .before .before .before .before .before .before .before .args in
+    let t = c .before .before .before .before .before .before .before .before .before .pre in
     let o = checks (a .seat .order) (t .net) (t .stream) (a .pool .now) 0 (t .accepted) in
     (rw (t .count) (o .here), rw (t .count) (o .passed .few), o .passed .room)
 
@@ -27,7 +27,7 @@ returns c =
     let p = c .before .before .before .before .before .before .unpack in
     let w = c .before .before .before .before .way in
     let r = c .before .before .pass in
-    heard t (arrays (c .before .before .before .before .before .before .before .before .before .before .before)) (p .result) (p .ensures) (w .result) (w .ensures) (r .result) (r .last .1 .1 .1 .1 .0) (r .ensures)
+    heard t (arrays (c .before .before .before .before .before .before .before .before .before .before .before .before)) (p .result) (p .ensures) (w .result) (w .ensures) (r .result) (r .last .1 .1 .1 .1 .1 .0) (r .ensures)
 
 pub hear-spec : {M : Type 1} → statement M
 hear-spec =

@@ -1,0 +1,170 @@
+// The costs of all own values with the values of the units before, a row of own values at a time.
+
+use crate::Cost;
+use crate::FORBIDDEN_SUM;
+use crate::Seat;
+use crate::known_h;
+use crate::lesser;
+use crate::place_of;
+use crate::size_of;
+use crate::value_at;
+use base::is_value;
+ghost use mathlib.Core.Path.{_≡_};
+ghost use mathlib.Core.Bool.{_&&_};
+ghost use mathlib.Core.List.{List};
+ghost use Prim.Native.Nat.{ℕ, suc, _+_, _*_, _≤_, _<_, min, pred};
+ghost use lib.Dec.{leb};
+ghost use lib.ListN.{length, getD};
+ghost use Rattle.base.specs.Bytes.{u16At};
+ghost use Rattle.base.specs.Limits.{places};
+ghost use Rattle.costs.specs.Cost.{_⊕_, asNumber};
+ghost use Rattle.costs.specs.Instance.{viewFrom, viewKnowing};
+ghost use Rattle.costs.specs.Bounds.{h, estimate};
+ghost use Rattle.costs.specs.Lent.Parts.{domFrom};
+ghost use Rattle.costs.specs.Rows.{widened, sumCost, Added, Small, Sums, unitRow, paidNumber};
+
+// The cost of each own value, of the first 16, alone and with the values of the units before, as a number: value v's at place v - 1, NONE where it
+// is forbidden, 0 where there is no such value.
+pub fn paid(seat: Seat, costs: &[u8], values: [u8; 16]) -> [u32; 16]
+    ensures { λ r. ⌜ ((i : ℕ) → i < places → getD r i 0 ≡ paidNumber (viewFrom seat (now (costs .entry))) values (min (pred (seat .own)) places) (suc i)) ⌝ }
+{
+    let place = place_of(seat);
+    let most = at_most_16(size_of(seat, place));
+    let sums = prefix_sums(seat, costs, values, at_most_16(place));
+    let mut paid = [0u32; 16];
+    let mut i = 0;
+    while i < most {
+        paid[i] = number_told(sums[i]);
+        i += 1;
+    }
+    paid
+}
+
+// The number that a sum tells, NONE where it is forbidden.
+fn number_told(sum: u32) -> u32
+    ensures { λ r. ⌜ r ≡ asNumber (sumCost sum) ⌝ }
+{
+    if FORBIDDEN_SUM <= sum {
+        return base::NONE;
+    }
+    sum
+}
+
+// Whether the costs with the first k units, for d own values, stand in rows and in 16 places.
+pub(crate) fn in_rows(place: usize, k: usize, d: usize) -> bool
+    ensures { λ r. ⌜ r ≡ (leb k place && leb k places && leb d places) ⌝ }
+{
+    if place < k {
+        return false;
+    }
+    if 16 < k {
+        return false;
+    }
+    d <= 16
+}
+
+// The least of the d sums, each with its h; NONE where all are forbidden.
+pub(crate) fn least_sum(seat: Seat, costs: &[u8], ahead: &[u32], sums: [u32; 16], d: usize) -> u32
+    requires { ⌜ (d ≤ places) × (d ≡ domFrom seat (pred (seat .own))) ⌝ }
+    ensures { λ r. ⌜ ((values : List ℕ) (k : ℕ) → Sums (viewFrom seat (now (costs .entry))) values k sums → r ≡ asNumber (estimate (viewKnowing seat (now (costs .entry)) (now (ahead .entry))) values k)) ⌝ }
+{
+    let mut best = base::NONE;
+    let mut i = 0;
+    while i < d {
+        best = lesser(best, with_h(seat, costs, ahead, sums[i], i + 1));
+        i += 1;
+    }
+    best
+}
+
+// The sum of own value v and its h, NONE where either is forbidden.
+fn with_h(seat: Seat, costs: &[u8], ahead: &[u32], sum: u32, v: usize) -> u32
+    ensures { λ r. ⌜ r ≡ asNumber (sumCost sum ⊕ h (viewKnowing seat (now (costs .entry)) (now (ahead .entry))) v) ⌝ }
+{
+    if FORBIDDEN_SUM <= sum {
+        return base::NONE;
+    }
+    let Cost::Of(later) = known_h(seat, costs, ahead, v) else {
+        return base::NONE;
+    };
+    sum + later
+}
+
+// The costs of the own values, of the first 16, alone and with the values of the first k units, each as a sum in which what is forbidden counts
+// FORBIDDEN_SUM. The units after the own one cost rows of another shape: k is not past its place.
+pub(crate) fn prefix_sums(seat: Seat, costs: &[u8], values: [u8; 16], k: usize) -> [u32; 16]
+    requires { ⌜ (k ≤ pred (seat .own)) × (k ≤ places) ⌝ }
+    ensures { λ r. ⌜ Sums (viewFrom seat (now (costs .entry))) values k r ⌝ }
+{
+    let d = size_of(seat, place_of(seat));
+    let most = at_most_16(d);
+    let mut sums = unary_row(costs, most);
+    let mut at = 2 * d;
+    let mut j = 0;
+    while j < k {
+        let e = size_of(seat, j);
+        let u = value_at(values, j);
+        add_unit(&mut sums, costs, at, d, e, u, most);
+        at += 2 * (d * e);
+        j += 1;
+    }
+    sums
+}
+
+// A number, 16 at most.
+fn at_most_16(d: usize) -> usize
+    ensures { λ r. ⌜ r ≡ min d places ⌝ }
+{
+    if d <= 16 {
+        return d;
+    }
+    16
+}
+
+// The unary costs of the first `most` own values, 0 after.
+fn unary_row(costs: &[u8], most: usize) -> [u32; 16]
+    requires { ⌜ most ≤ places ⌝ }
+    ensures { λ r. ⌜ ((i : ℕ) → i < most → getD r i 0 ≡ u16At (now (costs .entry)) (2 * i)) ⌝ }
+{
+    let mut row = [0u32; 16];
+    let mut i = 0;
+    while i < most {
+        row[i] = base::u16_at(costs, 2 * i);
+        i += 1;
+    }
+    row
+}
+
+// The costs with value u of a unit of e values are added, none where it is no value. They begin at byte `at`, in rows of d own values.
+fn add_unit(sums: &mut [u32], costs: &[u8], at: usize, d: usize, e: usize, u: usize, most: usize)
+    requires { ⌜ (most ≤ length (now sums)) × Small most (now sums) × (most ≤ places) × (at ≤ 16777216) × (d ≤ 255) × (u ≤ 255) ⌝ }
+    ensures { λ r. ⌜ Added most (unitRow (now (costs .entry)) at d e u) (now (sums .entry)) (now (sums .exit)) ⌝ }
+{
+    if !is_value(e, u) {
+        return;
+    }
+    add_row(sums, costs, at + 2 * ((u - 1) * d), most);
+}
+
+// The row of costs that begins at byte `at` is added.
+fn add_row(sums: &mut [u32], costs: &[u8], at: usize, most: usize)
+    requires { ⌜ (most ≤ length (now sums)) × Small most (now sums) × (most ≤ places) × (at ≤ 33554432) ⌝ }
+    ensures { λ r. ⌜ Added most (λ (i : ℕ). widened (u16At (now (costs .entry)) (at + 2 * i))) (now (sums .entry)) (now (sums .exit)) ⌝ }
+{
+    let mut i = 0;
+    while i < most {
+        sums[i] = sums[i] + in_sum(base::u16_at(costs, at + 2 * i));
+        i += 1;
+    }
+}
+
+// A cost of 16 bits as it is added.
+fn in_sum(number: u32) -> u32
+    requires { ⌜ number < 65536 ⌝ }
+    ensures { λ r. ⌜ (r ≡ widened number) × (r ≤ 16777216) ⌝ }
+{
+    if number == base::FORBIDDEN_PAIR {
+        return FORBIDDEN_SUM;
+    }
+    number
+}
