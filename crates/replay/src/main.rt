@@ -8,7 +8,6 @@ use libc::STDERR_FILENO;
 use libc::STDOUT_FILENO;
 use slots::Core;
 ghost use Prim.Native.Nat.{_≤_};
-ghost use lib.ListN.{length};
 
 // The bytes of a part, whole pairs, and the most parts.
 const PART: usize = 4096;
