@@ -71,9 +71,9 @@ fn run(order: ValueOrder, stream: &[u8], net: Network, pool: &mut [u8]) -> Netwo
         let lo = starts[place];
         let hi = starts[place + 1];
         let known = looks[place];
-        let ahead = known.ahead;
+        let h = known.ahead;
         let u = core.units[place];
-        let turn = hear(seat, &lent[lo..hi], &ahead, u, pool, used as usize);
+        let turn = hear(seat, &lent[lo..hi], &h, u, pool, used as usize);
         let way = turn.way;
         let mut sent = turn.sent;
         match way {
@@ -84,15 +84,7 @@ fn run(order: ValueOrder, stream: &[u8], net: Network, pool: &mut [u8]) -> Netwo
             }
             Way::Whole => {
                 let w = core.units[place];
-                let r = hand_oldest(
-                    seat,
-                    &lent[lo..hi],
-                    &ahead,
-                    w,
-                    pool,
-                    used as usize,
-                    &mut out,
-                );
+                let r = hand_oldest(seat, &lent[lo..hi], &h, w, pool, used as usize, &mut out);
                 let w = r.unit;
                 core.units[place] = w;
                 let records = core.records;
