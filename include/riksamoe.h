@@ -15,8 +15,8 @@
  *      order; byte 2 of each says to which unit. If it is not 0, nothing has changed and there is nothing to send: drop the packet.
  *   4. Once `stopped` is 1 the box is done, and every later packet that reads well is refused by 12. `bound` is then the least total and
  *      `best` the value of each unit (unit k's at best[k - 1]), the same in every box: of the assignments with that total the first in the
- *      order in which the boxes try their values, unit 1's first; ascending, what riksamoe_search gives. Where every assignment has a
- *      forbidden pair, `bound` is RIKSAMOE_NONE and `best` all 0; box 1 may then have stopped when made.
+ *      order in which the boxes try their values, unit 1's first; ascending, what riksamoe_branch_and_bound gives. Where every assignment has
+ *      a forbidden pair, `bound` is RIKSAMOE_NONE and `best` all 0; box 1 may then have stopped when made.
  *
  * All boxes come to this, in whatever order the packets arrive, and a box that has not stopped refuses no packet that another sent to it.
  * This is proved of boxes that are made of one table with one order of values, where no packet is lost, changed or heard twice.
@@ -85,6 +85,7 @@
  *   riksamoe_newer                    1,024
  *   riksamoe_newer_refusal            1,024
  *   riksamoe_search                   7,424
+ *   riksamoe_branch_and_bound         7,424
  */
 #ifndef RIKSAMOE_H
 #define RIKSAMOE_H
@@ -96,7 +97,7 @@
 extern "C" {
 #endif
 
-#define RIKSAMOE_VERSION 9         /* raised where a call, a struct or a promise below changes */
+#define RIKSAMOE_VERSION 10        /* raised where a call, a struct or a promise below changes */
 
 #define RIKSAMOE_UNITS 16          /* places in every array: unit k's is k - 1 */
 #define RIKSAMOE_NONE 4294967295u  /* the bound *none*; the estimate of a unit that has no value left */
@@ -135,7 +136,7 @@ enum {
     RIKSAMOE_NO_ROOM = 13,        /* output too short */
     RIKSAMOE_POOL_FULL = 14,      /* what is sent doesn't fit the pool */
     RIKSAMOE_NO_MESSAGE = 15,     /* no message at that cell */
-    RIKSAMOE_TOO_MANY = 16,       /* more than 1,048,576 assignments (search only) */
+    RIKSAMOE_TOO_MANY = 16,       /* more than 1,048,576 assignments (riksamoe_search only) */
     RIKSAMOE_BAD_READING = 17,    /* a reading not 100 to 400 */
     RIKSAMOE_HAS_UNARY = 18,      /* a table with a unary cost above 0 has no form one */
     RIKSAMOE_ODD_LIST = 22        /* a list of cells to replay of odd length */
@@ -202,7 +203,7 @@ typedef struct {
     uint8_t records; /* 2 */
 } riksamoe_report_t;
 
-/* What the search gives: a refusal and zeros, or 0, the least total and its first assignment in ascending order, RIKSAMOE_NONE and zeros
+/* What a search gives: a refusal and zeros, or 0, the least total and its first assignment in ascending order, RIKSAMOE_NONE and zeros
  * where every assignment has a forbidden pair. Size 24. */
 typedef struct {
     uint8_t refusal;    /* 0 */
@@ -412,6 +413,11 @@ uint8_t riksamoe_newer_refusal(uint8_t n, riksamoe_sizes_t sizes, const uint8_t 
 /* ---- The bench: every assignment of a stream's table is tried, so lend it 1,048,576 of them at most, those with a forbidden pair counted
  * too: 5, 6, 7, 16. */
 riksamoe_found_t riksamoe_search(const uint8_t *stream, size_t length);
+
+/* The same of any number of assignments, by synchronous branch and bound: values ascending, one dropped as soon as the cost so far reaches the
+ * best total: 5, 6, 7. Proved: it ends, and where riksamoe_search takes the table both give the same. How long it takes is not bounded by
+ * anything short. */
+riksamoe_found_t riksamoe_branch_and_bound(const uint8_t *stream, size_t length);
 
 /* ---- The layouts above, held */
 

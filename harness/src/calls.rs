@@ -6,7 +6,7 @@ use crate::reference::order::ValueOrder::{self, Ascending, CheapestFirst};
 use crate::reference::slots::{self, Shed, Slot};
 use crate::reference::table::Form;
 use crate::reference::unit::{self, Unit};
-use crate::reference::{checksum, convert, costs, readings, search, table, Places};
+use crate::reference::{checksum, convert, costs, readings, search, table, Places, Refusal};
 
 /// Those that try values do so in one order.
 #[derive(Clone, Copy, PartialEq, Eq, Debug)]
@@ -35,6 +35,7 @@ pub enum Call {
     ReplaySlots(ValueOrder),
     SettleSlots(ValueOrder),
     Search,
+    BranchAndBound,
 }
 
 const MAKE: &[u8] = &[5, 10, 6, 7, 13];
@@ -52,7 +53,7 @@ const REPLAY_SLOTS: &[u8] = &[22, 13, 5, 6, 7, 12, 15, 8, 10, 9, 11];
 pub const NUMBERS: usize = 23;
 
 /// Each call, its name in the Rattle code with the order in which it tries values, and the refusals it can give.
-pub const CALLS: [(Call, &str, &[u8]); 35] = [
+pub const CALLS: [(Call, &str, &[u8]); 36] = [
     (Call::Sum, "checksum::sum", &[]),
     (Call::Block, "table::read_block", &[1, 4, 2, 3]),
     (Call::Read, "table::read", &[13, 1, 4, 2, 3, 5, 6, 7]),
@@ -88,6 +89,7 @@ pub const CALLS: [(Call, &str, &[u8]); 35] = [
     (Call::SettleSlots(Ascending), "slots::settle, ascending", MAKE_NETWORK),
     (Call::SettleSlots(CheapestFirst), "slots::settle, cheapest first", MAKE_NETWORK),
     (Call::Search, "search::exhaustive", &[5, 6, 7, 16]),
+    (Call::BranchAndBound, "search::branch_and_bound", &[5, 6, 7]),
 ];
 
 /// The order that a call names by its number, as C does; `None` is the call that names nothing.
@@ -147,6 +149,7 @@ pub enum Input {
     ReplaySlots { order: Named, shed: Box<Shed>, stream: Vec<u8>, list: Vec<u8>, pool: Vec<u8> },
     SettleSlots { order: Named, stream: Vec<u8>, pool: Vec<u8> },
     Search { stream: Vec<u8> },
+    BranchAndBound { stream: Vec<u8> },
 }
 
 impl Input {
@@ -328,9 +331,13 @@ pub fn reference(input: Input) -> Outcome {
         Input::SettleSlots { order, stream, mut pool } => {
             made_shed_outcome(slots::settle_by(order_of(order), &stream, &mut pool), pool)
         }
-        Input::Search { stream } => match search::exhaustive(&stream) {
-            Ok((total, values)) => Outcome { numbers: vec![total.into()], lent: values.to_vec(), ..Outcome::default() },
-            Err(refusal) => Outcome { refusal, numbers: vec![0], lent: vec![0; 16], ..Outcome::default() },
-        },
+        Input::Search { stream } => found_outcome(search::exhaustive(&stream)),
+        Input::BranchAndBound { stream } => found_outcome(search::branch_and_bound(&stream)),
     }
+}
+
+fn found_outcome(found: Result<(u32, Places), Refusal>) -> Outcome {
+    let refusal = found.err().unwrap_or(0);
+    let (total, values) = found.unwrap_or((0, [0; 16]));
+    Outcome { refusal, numbers: vec![total.into()], lent: values.to_vec(), ..Outcome::default() }
 }

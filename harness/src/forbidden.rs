@@ -53,6 +53,7 @@ pub fn cases(call: Call) -> &'static [Case] {
         Call::ReplaySlots(_) => &[Pair, OneBelow],
         Call::Settle(_) | Call::SettleSlots(_) => &[Pair, OneBelow, Stops, NoneLeft],
         Call::Search => &[Pair, OneBelow, NoneLeft, Counted],
+        Call::BranchAndBound => &[Pair, OneBelow, NoneLeft],
     }
 }
 

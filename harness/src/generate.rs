@@ -20,7 +20,7 @@ use crate::reference::unit::Unit;
 use crate::reference::{cost_limit, table, Places, MAX_ESTIMATE, MAX_TOTAL, NONE};
 use crate::sample;
 use runs::{ran, Ran};
-use tables::{damage_cost, damage_file, damage_stream, dearest, file, sizes, some_stream, stream};
+use tables::{damage_cost, damage_file, damage_stream, dearest, file, past_limit, sizes, some_stream, stream};
 pub use tables::{searched, searched_wide, stream_of};
 
 // Readings
@@ -637,6 +637,20 @@ fn exhaustive(random: &mut Random) -> Input {
     Input::Search { stream }
 }
 
+/// Of any number of assignments, though few that branch and bound has to go to.
+fn branch_and_bound(random: &mut Random) -> Input {
+    let mut stream = match random.below(40) {
+        0 => dearest(random),
+        1..=9 => searched_wide(random),
+        10..=19 => past_limit(random),
+        _ => searched(random),
+    };
+    if random.once_in(3) {
+        damage_stream(random, &mut stream);
+    }
+    Input::BranchAndBound { stream }
+}
+
 fn table_read(random: &mut Random) -> Input {
     Input::Read { file: file(random), stream: buffer(random, table::MAX_STREAM) }
 }
@@ -750,5 +764,6 @@ pub fn input(random: &mut Random, call: Call) -> Input {
         Call::ReplaySlots(order) => slots::replay(random, order),
         Call::SettleSlots(order) => slots::settle(random, order),
         Call::Search => exhaustive(random),
+        Call::BranchAndBound => branch_and_bound(random),
     }
 }

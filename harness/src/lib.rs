@@ -1,7 +1,8 @@
-//! An independent implementation of documents 01 and 02 (jobs 1, 2, 3, 4, 7, 9 and 14) and the tools that compare the Rattle code with it.
+//! An independent implementation of documents 01 and 02 (jobs 1, 2, 3, 4, 6, 7, 9 and 14) and the tools that compare the Rattle code with it.
 //!
 //! `reference` is written from the documents alone. Nothing here is proved: it is the other opinion.
 
+pub mod bound;
 pub mod boxes;
 pub mod calls;
 pub mod cases;

@@ -331,6 +331,7 @@ extern "C" {
     fn riksamoe_slots_settle_by(order: u8, stream: *const u8, length: usize, pool: *mut u8, room: usize)
         -> SlotsAnswer;
     fn riksamoe_search(stream: *const u8, length: usize) -> Found;
+    fn riksamoe_branch_and_bound(stream: *const u8, length: usize) -> Found;
 }
 
 // The calls made safe: every pointer comes with the length of the slice that it points into, and the library keeps none.
@@ -541,6 +542,10 @@ pub fn search(stream: &[u8]) -> Found {
     unsafe { riksamoe_search(stream.as_ptr(), stream.len()) }
 }
 
+pub fn branch_and_bound(stream: &[u8]) -> Found {
+    unsafe { riksamoe_branch_and_bound(stream.as_ptr(), stream.len()) }
+}
+
 // From one side's structs to the other's
 
 impl From<&reference::unit::Unit> for Unit {
@@ -726,12 +731,14 @@ pub fn linked(input: Input) -> Outcome {
             slots_outcome(&slots_replay(order, (&*shed).into(), &stream, &mut pool, &list), pool)
         }
         Input::SettleSlots { order, stream, mut pool } => slots_outcome(&slots_settle(order, &stream, &mut pool), pool),
-        Input::Search { stream } => {
-            let answer = search(&stream);
-            let numbers = vec![answer.total.into()];
-            Outcome { refusal: answer.refusal, numbers, lent: answer.values.to_vec(), ..Outcome::default() }
-        }
+        Input::Search { stream } => found_outcome(&search(&stream)),
+        Input::BranchAndBound { stream } => found_outcome(&branch_and_bound(&stream)),
     }
+}
+
+fn found_outcome(answer: &Found) -> Outcome {
+    let numbers = vec![answer.total.into()];
+    Outcome { refusal: answer.refusal, numbers, lent: answer.values.to_vec(), ..Outcome::default() }
 }
 
 /// The step by value, and in place: the two must agree.

@@ -2,7 +2,7 @@
 
 use crate::reference::order::ValueOrder;
 use crate::reference::unit::Unit;
-use crate::reference::{network, search, slots, table, NONE};
+use crate::reference::{network, search, slots, table, Places, NONE};
 use std::path::{Path, PathBuf};
 
 /// A stream in form one out of its sizes and its pair costs in the stream's order.
@@ -97,7 +97,16 @@ fn listing(file: &[u8], settle: impl Fn(&[u8]) -> Result<(Unit, u128, u128), u8>
 
 /// What the bench program prints on a table's file.
 pub fn bench(file: &[u8]) -> String {
-    let found = read(file).and_then(|stream| Ok((table::head(&stream).0 as usize, search::exhaustive(&stream)?)));
+    found(file, search::exhaustive)
+}
+
+/// The same with the word `bound`.
+pub fn bench_bound(file: &[u8]) -> String {
+    found(file, search::branch_and_bound)
+}
+
+fn found(file: &[u8], search: impl Fn(&[u8]) -> Result<(u32, Places), u8>) -> String {
+    let found = read(file).and_then(|stream| Ok((table::head(&stream).0 as usize, search(&stream)?)));
     match found {
         Ok((n, (total, values))) => report(total, &values[..n]),
         Err(refusal) => format!("refused {refusal}\n"),

@@ -111,7 +111,7 @@ pub fn cases(call: Call) -> Vec<Case> {
             [&table[..], &state, &[Decides, DearReply]].concat()
         }
         Call::ReplaySlots(_) => table,
-        Call::Settle(_) | Call::SettleSlots(_) | Call::Search => {
+        Call::Settle(_) | Call::SettleSlots(_) | Call::Search | Call::BranchAndBound => {
             [&table[..], &[Decides, LeastOfOne, LargestTotal]].concat()
         }
     }
@@ -420,7 +420,7 @@ impl Stepped {
 fn decides(input: &Input, outcome: &Outcome) -> bool {
     let (stream, best) = match input {
         Input::Settle { stream, .. } | Input::SettleSlots { stream, .. } => (stream, outcome.units[0].best.to_vec()),
-        Input::Search { stream } => (stream, outcome.lent.clone()),
+        Input::Search { stream } | Input::BranchAndBound { stream } => (stream, outcome.lent.clone()),
         _ => return Stepped::new(input, outcome).is_some_and(|step| step.unary_decides()),
     };
     let plain = in_form(stream, Form::One);

@@ -131,6 +131,8 @@ fn case_10_most_assignments() {
     assert_eq!(search::exhaustive(&zeros(&[15, 15, 15, 15, 7, 3])), Err(16));
     assert_eq!(search::exhaustive(&zeros(&[16; 6])), Err(16));
     assert_eq!(search::exhaustive(&zeros(&[16; 16])), Err(16));
+    // 02's job 6: "16 isn't given here"
+    assert_eq!(search::branch_and_bound(&zeros(&[16; 16])), Ok((0, [1; 16])));
 }
 
 #[test]

@@ -4,13 +4,13 @@ use harness::calls::{self, order_of, Call, Event, Input, Outcome, CALLS};
 use harness::cases;
 use harness::differential::{compare, describe, Difference};
 use harness::order::Change;
-use harness::reference::costs::View;
+use harness::reference::costs::{self, Cost, View};
 use harness::reference::network::Network;
 use harness::reference::order::ValueOrder::{self, Ascending, CheapestFirst};
 use harness::reference::slots::{self, Slot};
 use harness::reference::table::{self, Form};
 use harness::reference::unit::{self, Unit};
-use harness::reference::{convert, message, NONE};
+use harness::reference::{convert, message, search, Places, NONE};
 
 #[test]
 fn equal_implementations_agree() {
@@ -141,6 +141,35 @@ fn an_estimate_of_none_that_is_kept_is_found() {
     };
     let found = compare(Call::Step(Ascending), 20_000, 1, keeps).difference.expect("a difference");
     assert!(describe(&found).contains("unit 1"));
+}
+
+/// Branch and bound that counts assignments.
+#[test]
+fn a_limit_on_assignments_is_found() {
+    let limited = |input: Input| {
+        let Input::BranchAndBound { stream } = input else { unreachable!("a search") };
+        calls::reference(Input::Search { stream })
+    };
+    let found = compare(Call::BranchAndBound, 4_000, 1, limited).difference.expect("a difference");
+    assert!(describe(&found).contains("refusal 0 by the reference, 16 by the other"));
+}
+
+/// Branch and bound that lets a value through where the cost so far is the best total: the last of equal assignments takes the first one's place.
+#[test]
+fn the_last_of_equal_assignments_is_found() {
+    let last = |input: Input| {
+        let Input::BranchAndBound { stream } = input else { unreachable!("a search") };
+        let mut outcome = calls::reference(Input::BranchAndBound { stream: stream.clone() });
+        if outcome.refusal == 0 && search::assignments(&stream) <= 64 {
+            let n = table::head(&stream).0 as usize;
+            let least = |values: &Places| costs::total(&stream, &values[..n]) == Cost::Of(outcome.numbers[0] as u32);
+            if let Some(values) = search::ascending(&stream).filter(least).last() {
+                outcome.lent = values.to_vec();
+            }
+        }
+        outcome
+    };
+    assert!(compare(Call::BranchAndBound, 4_000, 1, last).difference.is_some());
 }
 
 /// A step or a search without unary costs in its sums, though checked.

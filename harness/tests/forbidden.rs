@@ -375,5 +375,6 @@ fn the_bench_counts_forbidden_assignments() {
     assert_eq!(search::exhaustive(&forbidden(&[16; 5])), Ok((NONE, [0; 16])));
     assert_eq!(search::exhaustive(&forbidden(&[13, 13, 11, 8, 6, 12])), Err(16));
     assert_eq!(search::exhaustive(&forbidden(&[16; 16])), Err(16));
+    assert_eq!(search::branch_and_bound(&forbidden(&[16; 16])), Ok((NONE, [0; 16])));
     assert_eq!(search::exhaustive(&forbidden(&[7])), Ok((0, places(&[1]))));
 }

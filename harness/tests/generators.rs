@@ -1,6 +1,6 @@
 //! The generators reach every refusal of every call in either order of values, and every case of forbidden pairs, of unary costs, of the
-//! order, of echoes, of the pool of slots and of replays, and a refused call of the reference leaves what it was lent, a replay's but for the
-//! deliveries before it.
+//! order, of echoes, of the pool of slots, of branch and bound and of replays, and a refused call of the reference leaves what it was lent, a
+//! replay's but for the deliveries before it.
 
 use harness::calls::{self, Call, Input, Outcome, CALLS, NUMBERS};
 use harness::cases;
@@ -9,7 +9,8 @@ use harness::random::Random;
 
 fn inputs(call: Call) -> u32 {
     match call {
-        Call::Deliver(_) | Call::Echo(_) | Call::Settle(_) | Call::Search => 4_000,
+        Call::Deliver(_) | Call::Echo(_) | Call::Settle(_) => 4_000,
+        Call::Search | Call::BranchAndBound => 4_000,
         Call::DeliverSlots(_) | Call::ReplaySlots(_) | Call::SettleSlots(_) => 4_000,
         _ => 20_000,
     }

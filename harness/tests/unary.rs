@@ -473,6 +473,7 @@ fn one_unit_takes_its_cheapest_value() {
 fn the_largest_total() {
     let stream = sample::stream_in_form_two(&[1; 16], &[60_000; 16], &[60_000; 120]);
     assert_eq!(search::exhaustive(&stream), Ok((MAX_TOTAL, [1; 16])));
+    assert_eq!(search::branch_and_bound(&stream), Ok((MAX_TOTAL, [1; 16])));
     assert_eq!(costs::total(&stream, &[1; 16]), Cost::Of(8_160_000));
     let settled = network::settle(&stream, &mut vec![0; network::POOL]).unwrap();
     assert_eq!((settled.units[0].bound, settled.units[0].best), (MAX_TOTAL, [1; 16]));

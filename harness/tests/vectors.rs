@@ -1,4 +1,5 @@
-//! Every sample table against the listings, one for each order of values and each pool, and the bench report that lie beside it.
+//! Every sample table against the listings, one for each order of values and each pool, and the bench report that lie beside it; branch and bound
+//! against the listing in ascending order.
 
 use harness::recorded::{self, Schedule};
 use harness::reference::order::ValueOrder;
@@ -86,6 +87,19 @@ fn totals_of_both_orders_and_pools() {
 #[test]
 fn bench_reports() {
     assert_eq!(compare_all("bench", sample::bench), 20);
+}
+
+/// Branch and bound (02's job 6) finds what the shed reports that tries values ascending, past the exhaustive search's limit too.
+#[test]
+fn bench_reports_by_branch_and_bound() {
+    let mut past_limit = 0;
+    for path in tables() {
+        let Ok(listing) = fs::read_to_string(path.with_extension("listing")) else { continue };
+        let file = fs::read(&path).unwrap();
+        assert_eq!(sample::bench_bound(&file), report(&listing), "{}", path.display());
+        past_limit += u32::from(sample::bench(&file) == "refused 16\n");
+    }
+    assert_eq!(past_limit, 1);
 }
 
 /// An accepted file written again is the same bytes.

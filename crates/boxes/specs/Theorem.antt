@@ -1,6 +1,6 @@
 -- WHAT THE BOXES PROMISE, proved (`promised`): the statement is Promise.antt's. Every list of events keeps the invariant, and each part is read off it and the
 -- machine's theorem. So every list goes on to one after which all boxes have stopped (`all-stop`); any two that have stopped, in one run or in two, hold one
--- total and one assignment (`one-lotting`), and in ascending order it is the bench's (`bench-lotting`).
+-- total and one assignment (`one-lotting`), and in ascending order it is the bench's (`bound-lotting`, `bench-lotting`).
 -- In order: members of the air; one point of a run; every list of events; its end; two boxes; the bench.
 -- Assumes nothing.
 use Prim.Native.Nat.{ℕ, zero, suc, _+_, _*_, _-_, _≤_, _<_}
@@ -24,8 +24,8 @@ use Rattle.costs.specs.Least.Laws.{least-unique, first-unique}
 use Rattle.costs.specs.Laws.Tried.{problemBy}
 use Rattle.costs.specs.Laws.Stream.{sound-of}
 use Rattle.costs.specs.Gather.{sizesIn}
-use Rattle.search.specs.Search.{searchRefusal, searchOf}
-use Rattle.search.specs.Laws.{searched, search-is-least-first}
+use Rattle.search.specs.Search.{searchRefusal, searchOf, branchAndBoundOf}
+use Rattle.search.specs.Laws.{searched, bounded-is-least-first, bounded-is-search}
 use Rattle.message.specs.Message.{Packet}
 use Rattle.rules.specs.Step as U
 use Rattle.rules.specs.Step.{Decision}
@@ -235,10 +235,15 @@ module _ (order : ValueOrder) (s : List ℕ) (ok : Accepted s) where
 
 -- ---- the bench
 
--- Where values are tried ascending, every box that has stopped holds what `search::exhaustive` gives of the table.
+-- Where values are tried ascending, every box that has stopped holds what `search::branch_and_bound` gives of the table,
+pub bound-lotting : (s : List ℕ) → Accepted s → (events : List ℕ) (k : ℕ) → k < unitsOf s → stoppedAt (boxes Ascending s events) k ≡ true
+    → branchAndBoundOf s ≡ record { refusal = 0; total = unitAt (boxes Ascending s events .units) k .bound; values = unitAt (boxes Ascending s events .units) k .best }
+unfolding instanceOf
+bound-lotting s ok events k lt st =
+    let p = promised Ascending s ok events .lotting k lt st in
+    bounded-is-least-first s ok _ _ (p .0) (p .1)
+
+-- and `search::exhaustive`, where it takes the table.
 pub bench-lotting : (s : List ℕ) → searchRefusal s ≡ 0 → (events : List ℕ) (k : ℕ) → k < unitsOf s → stoppedAt (boxes Ascending s events) k ≡ true
     → searchOf s ≡ record { refusal = 0; total = unitAt (boxes Ascending s events .units) k .bound; values = unitAt (boxes Ascending s events .units) k .best }
-unfolding instanceOf
-bench-lotting s h events k lt st =
-    let p = promised Ascending s (searched s h .0) events .lotting k lt st in
-    search-is-least-first s h _ _ (p .0) (p .1)
+bench-lotting s h events k lt st = sym (bounded-is-search s h) ∙ bound-lotting s (searched s h .0) events k lt st

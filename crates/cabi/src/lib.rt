@@ -36,7 +36,7 @@ ghost use Rattle.runs.specs.Settle.{settleOf};
 ghost use Rattle.slots.specs.Newer.{newerRefusal, whichNewer};
 ghost use Rattle.slots.specs.Calls.{makeOf as slotsMakeOf};
 ghost use Rattle.slots.specs.Settle.{settleOf as slotsSettleOf};
-ghost use Rattle.search.specs.Search.{searchOf};
+ghost use Rattle.search.specs.Search.{searchOf, branchAndBoundOf};
 ghost use Rattle.cabi.specs.Lent.{unitFrom};
 ghost use Rattle.cabi.specs.Calls.{codeOf, parsedOf, orderOf, slotAs, writeAs, writtenAs, unknownKind, stepOf, steppedBytes, reportBy, deliveredTo, deliveredPool, echoedTo, echoedPool, slotsDeliveredTo, slotsDeliveredPool, replayedTo, replayedPool};
 
@@ -592,6 +592,13 @@ pub extern "C" fn riksamoe_search(stream: &[u8]) -> Found
     ensures { λ r. ⌜ r ≡ searchOf (now (stream .entry)) ⌝ }
 {
     search::exhaustive(stream)
+}
+
+#[no_mangle]
+pub extern "C" fn riksamoe_branch_and_bound(stream: &[u8]) -> Found
+    ensures { λ r. ⌜ r ≡ branchAndBoundOf (now (stream .entry)) ⌝ }
+{
+    search::branch_and_bound(stream)
 }
 
 // ---- orders and kinds by their numbers

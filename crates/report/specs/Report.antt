@@ -3,13 +3,14 @@
 use Rattle.base.specs.Library.{ℕ, List, replicate}
 use Rattle.base.specs.{Limits.poolSize, Limits.streamSize, Refusal.orElse}
 use Rattle.table.specs.File.{streamOf, readRefusal}
+use Rattle.table.specs.Stream.{streamRefusal}
 use Rattle.costs.specs.declared.ValueOrder.{ValueOrder}
 use Rattle.search.specs.Search.{searchRefusal}
 use Rattle.runs.specs.Settle.{settleOf}
 use Rattle.slots.specs.Slot.{slotPoolSize}
 use Rattle.slots.specs.Settle as S
 use Rattle.report.specs.declared.Printed.{Printed}
-use Rattle.report.specs.declared.Printed.the-variants.{Search, Settled, Slots}
+use Rattle.report.specs.declared.Printed.the-variants.{Search, BranchAndBound, Settled, Slots}
 pub mod Laws
 
 -- done is the number that a stream gives
@@ -27,5 +28,6 @@ slotsRefusal order s = S.settleOf order s (replicate slotPoolSize 0) .answer .re
 -- the number of what is printed
 abbrev pub refusalBy : Printed → List ℕ → ℕ
 refusalBy Search s = searchRefusal s
+refusalBy BranchAndBound s = streamRefusal s
 refusalBy (Settled order) s = settleRefusal order s
 refusalBy (Slots order) s = slotsRefusal order s

@@ -4,14 +4,17 @@ use network::Core;
 use network::Count;
 use network::Network;
 use network::ValueOrder;
+use search::Found;
 ghost use mathlib.Core.Path.{_≡_};
+ghost use Rattle.table.specs.Stream.{streamRefusal};
 ghost use Rattle.search.specs.Search.{searchRefusal};
 ghost use Rattle.runs.specs.Run.{unitAt};
 ghost use Rattle.report.specs.Report.{fileRefusal, settleRefusal, slotsRefusal, refusalBy};
 
-// What is printed of a stream: the search, or a run, values tried in this order, over 01's pool or over 02's.
+// What is printed of a stream: one of the two searches, or a run, values tried in this order, over 01's pool or over 02's.
 enum Printed {
     Search,
+    BranchAndBound,
     Settled(ValueOrder),
     Slots(ValueOrder),
 }
@@ -22,6 +25,13 @@ pub fn print_search(file: &[u8]) -> u8
     ensures { λ r. ⌜ r ≡ fileRefusal searchRefusal (now (file .entry)) ⌝ }
 {
     print_file(file, Printed::Search)
+}
+
+// The same by branch and bound, however many assignments there are.
+pub fn print_branch_and_bound(file: &[u8]) -> u8
+    ensures { λ r. ⌜ r ≡ fileRefusal streamRefusal (now (file .entry)) ⌝ }
+{
+    print_file(file, Printed::BranchAndBound)
 }
 
 // Runs the network of a file's table, values tried in this order and cell 0 delivered each time, and prints what unit 1 reports, then
@@ -39,7 +49,7 @@ pub fn print_slots_by(order: ValueOrder, file: &[u8]) -> u8
     print_file(file, Printed::Slots(order))
 }
 
-// One of the three.
+// One of the four.
 fn print_file(file: &[u8], what: Printed) -> u8
     ensures { λ r. ⌜ r ≡ fileRefusal (refusalBy what) (now (file .entry)) ⌝ }
 {
@@ -59,17 +69,19 @@ fn print_stream(stream: &[u8], what: Printed) -> u8
     ensures { λ r. ⌜ r ≡ refusalBy what (now (stream .entry)) ⌝ }
 {
     match what {
-        Printed::Search => print_found(stream),
+        Printed::Search => print_found(table::units_of(stream), search::exhaustive(stream)),
+        Printed::BranchAndBound => {
+            print_found(table::units_of(stream), search::branch_and_bound(stream))
+        }
         Printed::Settled(order) => print_run(order, stream),
         Printed::Slots(order) => print_slots(order, stream),
     }
 }
 
-// What the search finds.
-fn print_found(stream: &[u8]) -> u8
-    ensures { λ r. ⌜ r ≡ searchRefusal (now (stream .entry)) ⌝ }
+// A refusal, or what a search finds of n units.
+fn print_found(n: u8, found: Found) -> u8
+    ensures { λ r. ⌜ r ≡ found .refusal ⌝ }
 {
-    let found = search::exhaustive(stream);
     let refusal = found.refusal;
     if refusal != 0 {
         refuse(refusal);
@@ -77,7 +89,7 @@ fn print_found(stream: &[u8]) -> u8
     }
     print_total(found.total);
     let values = found.values;
-    list(table::units_of(stream), values);
+    list(n, values);
     refusal
 }
 

@@ -1,6 +1,7 @@
 -- The exhaustive search. 01: "The bench search goes unit by unit, each choice handing on to the next unit's, and gives the least total
 -- with its first lotting in ascending order." Every choice of all values is totalled on its own here; the code carries the cost of what is chosen
--- and goes no further where that is forbidden.
+-- and goes no further where that is forbidden. Branch and bound (02, job 6) is the same search that goes no further where that cost reaches the best total,
+-- and so has the same answer (`best-reached` of specs/Steps).
 -- Nobody has to believe it: that the answer is the one that costs/specs/Least describes, and no other, is in specs/Laws. Assumes nothing.
 use Rattle.base.specs.Library.{ℕ, zero, suc, cond, List, ltb, set, replicate}
 use Rattle.base.specs.Limits.{NONE}

@@ -3,24 +3,25 @@
 -- Assumes nothing.
 use Prim.Native.Nat.{ℕ, zero, suc, _+_, _*_, _-_, _≤_, _<_}
 use mathlib.Core.Path.{_≡_, refl, sym, ap, _∙_}
-use mathlib.Core.Bool.{Bool, true, false, cond}
+use mathlib.Core.Bool.{Bool, true, false, cond, not, false≢true}
 use mathlib.Core.List.{List, _∷_}
 use native.Mathlib.Omega.{arith}
 use native.Mathlib.Nat.{mul-le-mul, le-refl, zero-add, add-zero, mul-add}
 use native.Mathlib.Numerals.{add-one}
-use lib.Dec.{eqb, ltb}
+use lib.Dec.{eqb, ltb, leb}
 use lib.ListN.{length, getD, set, replicate, length-set, length-replicate, getD-replicate}
 use lib.Seq.{getD-set-same, getD-set-other}
-use borrow.Author.Tests.{lt-ltb, le-ltb, ne-eqb, eqb-true, eqb-false}
+use borrow.Author.Tests.{lt-ltb, le-ltb, leb-true, ne-eqb, eqb-true, eqb-false, not-false}
 use Rattle.base.specs.Limits.{NONE, pairLimit, forbiddenPair, unaryLimit, totalLimit, searchLimit, streamSize}
 use Rattle.base.specs.Bytes.{u16At}
 use Rattle.base.specs.Bytes.Laws.{u16-past}
 use Rattle.base.specs.Sums.{sumFrom, sumTo}
 use Rattle.table.specs.Stream.{inFormTwo, opening, unitsOf, unariesIn, unariesAt, pairsAt, Accepted}
 use Rattle.table.specs.StreamLaws.{opening-most, opening-two, form-two, unaries-one, unaries-two, accepted-units, accepted-length, accepted-most}
+use Rattle.costs.specs.declared.Cost.{Cost}
 use Rattle.costs.specs.declared.Cost.the-variants.{Of, Forbidden}
-use Rattle.costs.specs.Cost.{_⊕_, pairCost}
-use Rattle.costs.specs.Cost.Laws.{most-is}
+use Rattle.costs.specs.Cost.{_⊕_, pairCost, asNumber}
+use Rattle.costs.specs.Cost.Laws.{_⊑_, le-trans, add-more, most-is}
 use Rattle.costs.specs.declared.ValueOrder.the-variants.{Ascending}
 use Rattle.costs.specs.Instance.{Instance, instanceOf, viewOf, pairStart, inPair, tableUnary, unaryOf, domOf}
 use Rattle.costs.specs.Bounds.{costWith, total, prefixCount}
@@ -33,7 +34,7 @@ use Rattle.costs.specs.Laws.Prefix.{pre, length-pre, pre-set, pre-set-next, pai
 use Rattle.costs.specs.Laws.Stream.{unariesFrom, instance-units, instance-unary, instance-dom, unary-number-at, cost-number-at, accepted-there, unaries-in-stream, sound-of, pair-costs}
 use Rattle.search.specs.declared.Best.{Best}
 use Rattle.search.specs.Search.{assignmentCount}
-use Rattle.search.specs.Best.{keep, inTurn, bestFrom}
+use Rattle.search.specs.Best.{nothing, keep, inTurn, bestFrom, bestOf}
 use Rattle.search.specs.Picked.{best-picks}
 
 -- ---- where the costs of a unit and of a pair begin
@@ -130,23 +131,41 @@ pub best-full : (I : Instance) (left k : ℕ) (l : List ℕ) (b : Best) (cost : 
 unfolding bestFrom
 best-full I left k l b cost e t = rw (e, ← t)
 
--- ---- values that are forbidden with those before them are passed over
+-- over all units
+pub best-of-all : (s : List ℕ) (n : ℕ) (r : Best) → n ≡ unitsOf s → r ≡ bestFrom (instanceOf s) n 0 (replicate 16 0) nothing → r ≡ bestOf (instanceOf s)
+best-of-all s n r e q = q ∙ ap (λ (m : ℕ). bestFrom (instanceOf s) m 0 (replicate 16 0) nothing) (e ∙ sym (instance-units s))
+
+-- ---- a prefix whose cost reaches the best total keeps nothing
 
 in-turn-same : {A : Type 0} (f : ℕ → A → A) (v d : ℕ) (a : A) → ((u : ℕ) → f u a ≡ a) → inTurn f v d a ≡ a
 unfolding inTurn
 in-turn-same f v zero a e = refl
 in-turn-same f v (suc d) a e = rw (e v) (in-turn-same f (suc v) d a e)
 
--- what begins with forbidden values counts as NONE, and so is never lower
-pub best-forbidden : (I : Instance) (left k : ℕ) (l : List ℕ) (b : Best) → k + left ≡ I .n → costOf I (pre k l) ≡ Forbidden → b .total ≤ NONE → bestFrom I left k l b ≡ b
+-- a forbidden cost counts as NONE, and no total is above it
+not-lower : (B : ℕ) (c : Cost) → B ≤ NONE → Of B ⊑ c → ltb (asNumber c) B ≡ false
+not-lower B (Of n) most h = le-ltb n B h
+not-lower B Forbidden most h = le-ltb NONE B most
+
+-- a value more never costs less
+cost-rises : (I : Instance) (k v : ℕ) (l : List ℕ) → costOf I (pre k l) ⊑ costOf I (pre (suc k) (set l k v))
+cost-rises I k v l = rw (pre-set k k l v (omega arith)) (add-more (costOf I (pre k l)) _)
+
+-- so all that begins with these values costs as much, and is never lower
+pub best-reached : (I : Instance) (left k : ℕ) (l : List ℕ) (b : Best) → k + left ≡ I .n → Of (b .total) ⊑ costOf I (pre k l) → b .total ≤ NONE → bestFrom I left k l b ≡ b
 unfolding bestFrom
-best-forbidden I zero k l b n e most =
+best-reached I zero k l b n h most =
     let q : k ≡ I .n = omega arith in
-    let t : total I l ≡ Forbidden = total-prefix I l ∙ rw (← q) e in
-    rw (t, le-ltb NONE (b .total) most)
-best-forbidden I (suc left) k l b n e most =
+    let t : total I l ≡ costOf I (pre k l) = total-prefix I l ∙ rw (← q) in
+    rw (t, not-lower (b .total) (costOf I (pre k l)) most h)
+best-reached I (suc left) k l b n h most =
     in-turn-same (λ (v : ℕ) (a : Best). bestFrom I left (suc k) (set l k v) a) 1 (I .dom k) b
-    (λ v. best-forbidden I left (suc k) (set l k v) b (omega arith) (rw (pre-set k k l v (omega arith), e)) most)
+    (λ v. best-reached I left (suc k) (set l k v) b (omega arith) (le-trans (Of (b .total)) (costOf I (pre k l)) (costOf I (pre (suc k) (set l k v))) h (cost-rises I k v l)) most)
+
+-- what is dropped has reached it
+pub dropped-reaches : (bounded r : Bool) {best cost : ℕ} → r ≡ cond bounded (leb best cost) false → not r ≡ false → best ≤ cost
+dropped-reaches true r {best} {cost} e h = leb-true best cost (sym e ∙ not-false r h)
+dropped-reaches false r e h = absurd (false≢true (sym e ∙ not-false r h))
 
 -- ---- the cost of a value with those before it
 
@@ -267,10 +286,11 @@ module _ {s starts : List ℕ} {first left level cost : ℕ} {chosen : List ℕ}
           let next : pre (level + 1) (set chosen level v) ≡ v ∷ pre level chosen = rw add-one (pre-set-next level chosen v (omega (arith, x .sized .most))) in
           rw (next, x .costs) (sym (cost-next Ascending (instanceOf s) level chosen v))
 
-      -- which is forbidden
-      pub forbidden-next : (b : Best) → b .total ≤ NONE → costWith (viewOf (instanceOf s) level) chosen level v ≡ Forbidden → withValue (instanceOf s) left level chosen v b ≡ b
-      forbidden-next b most e =
-          best-forbidden (instanceOf s) (left - 1) (level + 1) (set chosen level v) b (omega (arith, x .sized .units, instance-units s)) (next-cost ∙ rw e) most
+      -- which reaches the best total, as where it is forbidden
+      pub reached-next : (b : Best) (c : Cost) → b .total ≤ NONE → costWith (viewOf (instanceOf s) level) chosen level v ≡ c → Of (b .total) ⊑ Of cost ⊕ c
+          → withValue (instanceOf s) left level chosen v b ≡ b
+      reached-next b c most e h =
+          best-reached (instanceOf s) (left - 1) (level + 1) (set chosen level v) b (omega (arith, x .sized .units, instance-units s)) (rw (next-cost, e) h) most
 
       -- or a number
       pub extending-next : (more : ℕ) → 1 ≤ v → v ≤ d → costWith (viewOf (instanceOf s) level) chosen level v ≡ Of more

@@ -1,19 +1,20 @@
-// The bench's exhaustive search over the assignments of a stream's table.
+// The bench's two searches over the assignments of a stream's table: exhaustive, and synchronous branch and bound.
 
 use costs::Cost;
 ghost use mathlib.Core.Path.{_≡_};
 ghost use Prim.Native.Nat.{_+_, _*_, _-_, _≤_, _<_};
-ghost use lib.Dec.{ltb};
+ghost use mathlib.Core.Bool.{false, cond};
+ghost use lib.Dec.{ltb, leb};
 ghost use lib.ListN.{getD, length, replicate};
 ghost use Rattle.base.specs.Limits.{pairLimit, unaryLimit, searchLimit};
 ghost use Rattle.costs.specs.Cost.Laws.{AtMost};
 ghost use Rattle.costs.specs.Instance.{instanceOf, viewOf};
 ghost use Rattle.costs.specs.Bounds.{costWith};
-ghost use Rattle.search.specs.Search.{assignmentCount, searchOf};
-ghost use Rattle.search.specs.Best.{keep, bestFrom};
+ghost use Rattle.search.specs.Search.{assignmentCount, refusedBy, foundBest, searchOf, branchAndBoundOf};
+ghost use Rattle.search.specs.Best.{keep, bestFrom, bestOf};
 ghost use Rattle.search.specs.Steps.{Sized, Filled, Filling, Adding, Extending};
 
-// What the search gives: the refusal, or 0 with the least total and its first assignment, places past n zero; where there is none, NONE and zeros.
+// What a search gives: the refusal, or 0 with the least total and its first assignment, places past n zero; where there is none, NONE and zeros.
 #[repr(C)]
 pub struct Found {
     pub refusal: u8,
@@ -31,30 +32,57 @@ struct Best {
 pub fn exhaustive(stream: &[u8]) -> Found
     ensures { λ r. ⌜ r ≡ searchOf (now (stream .entry)) ⌝ }
 {
-    let none = [0u8; 16];
     let refusal = table::stream_refusal(stream);
     if refusal != 0 {
-        return Found {
-            refusal,
-            total: 0,
-            values: none,
-        };
+        return refused(refusal);
     }
     let first = table::opening(stream) + 1;
     let n = base::wide(table::units_of(stream));
     if too_many(stream, first, n) {
-        return Found {
-            refusal: 16,
-            total: 0,
-            values: none,
-        };
+        return refused(16);
     }
+    let bounded = false;
+    find(stream, first, n, bounded)
+}
+
+// The same of any number of assignments, by synchronous branch and bound: a value is dropped when the cost so far reaches the best total.
+pub fn branch_and_bound(stream: &[u8]) -> Found
+    ensures { λ r. ⌜ r ≡ branchAndBoundOf (now (stream .entry)) ⌝ }
+{
+    let refusal = table::stream_refusal(stream);
+    if refusal != 0 {
+        return refused(refusal);
+    }
+    let first = table::opening(stream) + 1;
+    let n = base::wide(table::units_of(stream));
+    let bounded = true;
+    find(stream, first, n, bounded)
+}
+
+// A refusal, and nothing beside it.
+fn refused(refusal: u8) -> Found
+    ensures { λ r. ⌜ r ≡ refusedBy refusal ⌝ }
+{
+    let none = [0u8; 16];
+    Found {
+        refusal,
+        total: 0,
+        values: none,
+    }
+}
+
+// What is found of n units, whose sizes begin at byte `first`.
+fn find(stream: &[u8], first: usize, n: usize, bounded: bool) -> Found
+    requires { ⌜ Sized (now stream) first n ⌝ }
+    ensures { λ r. ⌜ r ≡ foundBest (bestOf (instanceOf (now (stream .entry)))) ⌝ }
+{
+    let none = [0u8; 16];
     let starts = cost_starts(stream, first, n);
     let nothing = Best {
         values: none,
         total: base::NONE,
     };
-    let best = extend(stream, first, &starts, n, 0, 0, none, nothing);
+    let best = extend(stream, first, &starts, bounded, n, 0, 0, none, nothing);
     let values = best.values;
     Found {
         refusal: 0,
@@ -82,11 +110,12 @@ fn too_many(stream: &[u8], first: usize, n: usize) -> bool
 }
 
 // The best of b and of the assignments that begin with the first `level` places of `chosen`, which cost `cost`. `left` units come
-// after these: each value of the next that is not forbidden with those before hands on to the one after it.
+// after these: each value of the next that is neither forbidden with those before nor dropped hands on to the one after it.
 fn extend(
     stream: &[u8],
     first: usize,
     starts: &[u32],
+    bounded: bool,
     left: usize,
     level: usize,
     cost: u32,
@@ -108,11 +137,33 @@ fn extend(
         next[level] = v as u8;
         if let Cost::Of(more) = added_cost(stream, starts, level, d, chosen, v) {
             let sum = cost + more;
-            best = extend(stream, first, starts, left - 1, level + 1, sum, next, best);
+            if !dropped(bounded, sum, best.total) {
+                best = extend(
+                    stream,
+                    first,
+                    starts,
+                    bounded,
+                    left - 1,
+                    level + 1,
+                    sum,
+                    next,
+                    best,
+                );
+            }
         }
         v += 1;
     }
     best
+}
+
+// Whether a prefix of this cost is dropped: all that begin with it cost at least as much, and come after the best.
+fn dropped(bounded: bool, cost: u32, best: u32) -> bool
+    ensures { λ r. ⌜ r ≡ cond bounded (leb best cost) false ⌝ }
+{
+    if bounded {
+        return best <= cost;
+    }
+    false
 }
 
 // The assignment in place of b where its total is lower.

@@ -68,13 +68,16 @@ fn main() {
     let rounds = numbers.first().copied().unwrap_or(20_000);
     let seed = numbers.get(1).copied().unwrap_or(1);
     let word = std::env::args().nth(3).unwrap_or_default();
-    println!("seed {seed}, {rounds} inputs for each call, a fifth for deliver, echo, replay, settle and search");
+    println!(
+        "seed {seed}, {rounds} inputs for each call, a fifth for deliver, echo, replay, settle and the two searches"
+    );
     println!("a tenth as many tables for boxes, a fiftieth for packets heard twice and for the last packet");
     let mut compared = 0;
     let mut faults = 0;
     for (call, name, refusals) in CALLS.into_iter().filter(|(_, name, _)| name.contains(&word)) {
         let rounds = match call {
-            Call::Deliver(_) | Call::Echo(_) | Call::Settle(_) | Call::Search => rounds.div_ceil(5),
+            Call::Deliver(_) | Call::Echo(_) | Call::Settle(_) => rounds.div_ceil(5),
+            Call::Search | Call::BranchAndBound => rounds.div_ceil(5),
             Call::DeliverSlots(_) | Call::ReplaySlots(_) | Call::SettleSlots(_) => rounds.div_ceil(5),
             _ => rounds,
         };

@@ -1,7 +1,8 @@
 //! The two programs of document 01 by the reference implementation: `twin shed` and `twin bench` read a table's file on standard input.
 //! The shed tries values in ascending order, as 01's listing does; `twin shed cheapest` tries the cheapest first (02's job 9). `twin slots` and
 //! `twin slots cheapest` are the same over the pool of 02's job 4, the lowest cell in use delivered each time. `twin replay LIST` and `twin
-//! replay cheapest LIST` list the shed over that pool after a recorded run (02's job 14), the file LIST.
+//! replay cheapest LIST` list the shed over that pool after a recorded run (02's job 14), the file LIST. `twin bench bound` is the bench by branch
+//! and bound (02's job 6).
 
 use harness::reference::order::ValueOrder;
 use harness::sample;
@@ -30,8 +31,11 @@ fn main() {
         ["replay", path] => sample::replayed_by(ValueOrder::Ascending, &file(), &list(path)),
         ["replay", "cheapest", path] => sample::replayed_by(ValueOrder::CheapestFirst, &file(), &list(path)),
         ["bench"] => sample::bench(&file()),
+        ["bench", "bound"] => sample::bench_bound(&file()),
         _ => {
-            eprintln!("twin shed|shed cheapest|slots|slots cheapest|replay LIST|replay cheapest LIST|bench");
+            eprintln!(
+                "twin shed|shed cheapest|slots|slots cheapest|replay LIST|replay cheapest LIST|bench|bench bound"
+            );
             exit(2)
         }
     };

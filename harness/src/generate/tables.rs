@@ -152,6 +152,31 @@ pub fn searched_wide(random: &mut Random) -> Vec<u8> {
     }
 }
 
+/// A stream of more assignments than the exhaustive search takes; as only the first few units cost anything, branch and bound goes to few of
+/// them.
+pub fn past_limit(random: &mut Random) -> Vec<u8> {
+    let few = random.between(1, 5) as usize;
+    let n = random.between(few as u64 + 6, 16) as usize;
+    let size = |random: &mut Random, k: usize| if k < few { random.between(1, 4) } else { random.between(11, 16) };
+    let sizes: Vec<u8> = (0..n).map(|k| size(random, k) as u8).collect();
+    let front = sizes[..few].to_vec();
+    let style = random.below(5);
+    let mut costly = pair_costs(random, &front, |random| cost(random, style)).into_iter();
+    let mut pairs = Vec::new();
+    for i in 0..n {
+        for j in i + 1..n {
+            let count = sizes[i] as usize * sizes[j] as usize;
+            pairs.extend((0..count).map(|_| if j < few { costly.next().unwrap_or(0) } else { 0 }));
+        }
+    }
+    if random.once_in(2) {
+        return sample::stream(&sizes, &pairs);
+    }
+    let mut unary = unary_costs(random, &front);
+    unary.resize(sizes.iter().map(|d| *d as usize).sum(), 0);
+    sample::stream_in_form_two(&sizes, &unary, &pairs)
+}
+
 /// Costs are the same, or differ by 1 or 2; half of the streams are in form two.
 fn tied(random: &mut Random, sizes: &[u8]) -> Vec<u8> {
     let least = *random.pick(&[0, 0, 0, 1, 7]);

@@ -1,5 +1,5 @@
-//! Documents 01 and 02 (jobs 1, 2, 3, 4, 7, 9 and 14) in plain Rust, one module for each part of them. Refusals are their numbers, the first in their
-//! order. A call that tries values has a twin whose name ends in `by`, and whose first argument is the order in which it tries them.
+//! Documents 01 and 02 (jobs 1, 2, 3, 4, 6, 7, 9 and 14) in plain Rust, one module for each part of them. Refusals are their numbers, the first in
+//! their order. A call that tries values has a twin whose name ends in `by`, and whose first argument is the order in which it tries them.
 
 pub mod checksum;
 pub mod convert;

@@ -1,4 +1,4 @@
-//! The bench's exhaustive search.
+//! The bench's two searches: exhaustive, and 02's branch and bound.
 
 use super::costs::Cost;
 use super::{table, Places, Refusal, NONE};
@@ -9,15 +9,42 @@ pub const MAX_ASSIGNMENTS: u128 = 1_048_576;
 /// 02's job 3: "If no lotting remains, stop and bench give *none* with best all zero".
 pub fn exhaustive(stream: &[u8]) -> Result<(u32, Places), Refusal> {
     table::check_stream(stream)?;
-    let (n, sizes) = table::head(stream);
-    let assignments: u128 = sizes[..n as usize].iter().map(|d| u128::from(*d)).product();
-    if assignments > MAX_ASSIGNMENTS {
+    if assignments(stream) > MAX_ASSIGNMENTS {
         return Err(16);
     }
-    let (unary, pairs) = (unary_tables(stream), pair_tables(stream));
-    let mut search = Search { n: n as usize, sizes, unary, pairs, values: [0; 16], best: None };
+    let mut search = Search::new(stream);
     search.extend_at(0, 0);
-    Ok(search.best.unwrap_or((NONE, [0; 16])))
+    Ok(search.found())
+}
+
+/// How many there are, forbidden ones counted.
+pub fn assignments(stream: &[u8]) -> u128 {
+    let (n, sizes) = table::head(stream);
+    sizes[..n as usize].iter().map(|d| u128::from(*d)).product()
+}
+
+/// All of them in ascending order, forbidden ones too; places past n zero.
+pub fn ascending(stream: &[u8]) -> impl Iterator<Item = Places> {
+    let (n, sizes) = table::head(stream);
+    let n = n as usize;
+    let next = move |values: &Places| {
+        let mut values = *values;
+        let unit = (0..n).rev().find(|unit| values[*unit] < sizes[*unit])?;
+        values[unit] += 1;
+        values[unit + 1..n].fill(1);
+        Some(values)
+    };
+    let first = std::array::from_fn(|k| u8::from(k < n));
+    std::iter::successors(Some(first), next)
+}
+
+/// 02's job 6: "On every accepted table it gives the least total with its first lotting in ascending order .. It has no limit on lottings, so 16
+/// isn't given here". Refusals 5, 6, 7.
+pub fn branch_and_bound(stream: &[u8]) -> Result<(u32, Places), Refusal> {
+    table::check_stream(stream)?;
+    let mut search = Search::new(stream);
+    search.write_at(0, 0);
+    Ok(search.found())
 }
 
 /// The next so many costs.
@@ -60,6 +87,16 @@ struct Search {
 }
 
 impl Search {
+    fn new(stream: &[u8]) -> Search {
+        let (n, sizes) = table::head(stream);
+        let (unary, pairs) = (unary_tables(stream), pair_tables(stream));
+        Search { n: n as usize, sizes, unary, pairs, values: [0; 16], best: None }
+    }
+
+    fn found(&self) -> (u32, Places) {
+        self.best.unwrap_or((NONE, [0; 16]))
+    }
+
     /// 01: "The bench search goes unit by unit, each choice handing on to the next unit's".
     fn extend_at(&mut self, unit: usize, cost: u32) {
         if unit == self.n {
@@ -70,12 +107,33 @@ impl Search {
         }
         for value in 1..=self.sizes[unit] {
             self.values[unit] = value;
-            let unary = u32::from(self.unary[unit][value as usize - 1]);
             // 02's job 3: "A lotting with a barred pair isn't a lotting"
-            if let Cost::Of(pairs) = (0..unit).map(|before| self.pair(before, unit)).sum() {
-                self.extend_at(unit + 1, cost + unary + pairs);
+            if let Cost::Of(added) = self.added(unit) {
+                self.extend_at(unit + 1, cost + added);
             }
         }
+    }
+
+    /// 02's job 6: "one paper, values ascending, a value dropped when the cost so far reaches the best". A full paper is a new best.
+    fn write_at(&mut self, unit: usize, paid: u32) {
+        if unit == self.n {
+            self.best = Some((paid, self.values));
+            return;
+        }
+        for value in 1..=self.sizes[unit] {
+            self.values[unit] = value;
+            let Cost::Of(added) = self.added(unit) else { continue };
+            if self.best.is_some_and(|(best, _)| paid + added >= best) {
+                continue;
+            }
+            self.write_at(unit + 1, paid + added);
+        }
+    }
+
+    /// What a unit's value costs alone and with those of the units before it.
+    fn added(&self, unit: usize) -> Cost {
+        let pairs: Cost = (0..unit).map(|before| self.pair(before, unit)).sum();
+        Cost::Of(self.unary[unit][self.values[unit] as usize - 1].into()) + pairs
     }
 
     fn pair(&self, i: usize, j: usize) -> Cost {

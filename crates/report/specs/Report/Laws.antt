@@ -1,4 +1,4 @@
--- How the calls that print come by these numbers: a file that isn't read, one that is, and the numbers of the search and of a run.
+-- How the calls that print come by these numbers: a file that isn't read, one that is, and the numbers of a search and of a run.
 -- By the definitions. Assumes nothing.
 use Prim.Native.Nat.{ℕ, _≤_}
 use mathlib.Core.Path.{_≡_, refl, sym, ap, _∙_}
@@ -10,12 +10,13 @@ use borrow.Author.Tests.{eq-eqb}
 use Rattle.base.specs.declared.Length.{Length}
 use Rattle.base.specs.Limits.{poolSize, streamSize}
 use Rattle.base.specs.Refusal.Laws.{or-first}
+use Rattle.table.specs.Stream.{streamRefusal}
 use Rattle.table.specs.File.{streamOf, readRefusal, readOf, readInto}
 use Rattle.table.specs.FileLaws.{read-most}
 use Rattle.costs.specs.declared.ValueOrder.{ValueOrder}
 use Rattle.search.specs.declared.Found.{Found}
-use Rattle.search.specs.Search.{searchRefusal, searchOf}
-use Rattle.search.specs.Laws.{search-refusal}
+use Rattle.search.specs.Search.{searchRefusal, searchOf, branchAndBoundOf}
+use Rattle.search.specs.Laws.{search-refusal, bounded-refusal}
 use Rattle.runs.specs.declared.Answer.{Answer}
 use Rattle.runs.specs.Settle.{settleOf}
 use Rattle.slots.specs.declared.Answer.{Answer as SlotsAnswer}
@@ -54,9 +55,12 @@ module _ (f out : List ℕ) (r : Length) (e : r ≡ readOf f (length out)) (room
   unfolding fileRefusal
   read-report done k part p q = let z : readRefusal f streamSize ≡ 0 = rw (← room) read-of in q ∙ rw (p, z)
 
--- the search's own number
+-- the number of either search
 pub found-refusal : (s : List ℕ) (r : Found) → r ≡ searchOf s → r .refusal ≡ searchRefusal s
 found-refusal s r e = ap (λ (x : Found). x .refusal) e ∙ search-refusal s
+
+pub bounded-found-refusal : (s : List ℕ) (r : Found) → r ≡ branchAndBoundOf s → r .refusal ≡ streamRefusal s
+bounded-found-refusal s r e = ap (λ (x : Found). x .refusal) e ∙ bounded-refusal s
 
 -- the run's own number, over either pool
 pub settled-refusal : (order : ValueOrder) (s : List ℕ) (a : Answer) → a ≡ settleOf order s (replicate poolSize 0) .answer → a .refusal ≡ settleRefusal order s

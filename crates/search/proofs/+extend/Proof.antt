@@ -1,5 +1,5 @@
 -- `extend` meets its contract, and ends as the units left fall. The loop's invariant: the search is what is kept so far with the values from v on;
--- a value that is forbidden with those before it keeps nothing.
+-- a value that is forbidden with those before it, or dropped, keeps nothing.
 -- Assumes nothing.
 use Prim.Native.Nat.{ℕ, _+_, _-_, _≤_, _<_}
 use mathlib.Core.Path.{_≡_, sym, _∙_}
@@ -12,7 +12,7 @@ use Rattle.costs.specs.Cost.Laws.{most-is}
 use Rattle.costs.specs.Instance.{instanceOf, viewOf, domOf}
 use Rattle.costs.specs.Bounds.{costWith}
 use Rattle.search.specs.Best.{inTurn, bestFrom}
-use Rattle.search.specs.Steps.{withValue, in-turn-next, in-turn-done, best-of-values, best-full, cost-is-total, next-size, size-is-dom, next-most, forbidden-next, extending-next}
+use Rattle.search.specs.Steps.{withValue, in-turn-next, in-turn-done, best-of-values, best-full, cost-is-total, next-size, size-is-dom, next-most, dropped-reaches, reached-next, extending-next}
 use borrow.Fn.Kinds.{In}
 use borrow.Fn.PlainCycle.{Measures, is, falls, and}
 use Rattle.search.proofs.extend.Reads as extend
@@ -21,11 +21,12 @@ use Rattle.search.proofs.+extend.Lts-extend as extend-lts
 use Rattle.search.proofs.added_cost.Reads as added-cost-reads
 use Rattle.search.proofs.better.Reads as better-reads
 use Rattle.search.proofs.byte.Reads as byte-reads
+use Rattle.search.proofs.dropped.Reads as dropped-reads
 use Rattle.search.proofs.+extend.{statement}
 use Rattle.search.proofs.+extend.Tie.{close}
 
 abbrev μ-extend : Measures 2 extend-kinds.ps ℕ
-μ-extend κs a = a .1 .1 .1 .0
+μ-extend κs a = a .1 .1 .1 .1 .0
 
 abbrev extend-at : ℕ → In 2 extend-kinds.ps
 extend-at t = and 2 extend-kinds.ps (is 2 extend-kinds.ps μ-extend t) extend.Pre
@@ -34,10 +35,10 @@ abbrev extend-below : ℕ → In 2 extend-kinds.ps
 extend-below t = and 2 extend-kinds.ps (falls 2 extend-kinds.ps _<_ μ-extend t) extend.Pre
 
 abbrev extend-Inv-loop : extend-lts.InvT-loop
-extend-Inv-loop stream first starts left level cost chosen d best₀ v₀ best v = (1 ≤ v) × (v ≤ d + 1) × (d < 256) × (d ≡ domOf stream level) × (bestFrom (instanceOf stream) left level chosen best₀ ≡ inTurn (withValue (instanceOf stream) left level chosen) v (d + 1 - v) best) × (best .total ≤ NONE)
+extend-Inv-loop stream first starts bounded left level cost chosen d best₀ v₀ best v = (1 ≤ v) × (v ≤ d + 1) × (d < 256) × (d ≡ domOf stream level) × (bestFrom (instanceOf stream) left level chosen best₀ ≡ inTurn (withValue (instanceOf stream) left level chosen) v (d + 1 - v) best) × (best .total ≤ NONE)
 
 abbrev extend-μ-loop : extend-lts.MeasureT-loop
-extend-μ-loop stream first starts left level cost chosen d best₀ v₀ best v = d + 1 - v
+extend-μ-loop stream first starts bounded left level cost chosen d best₀ v₀ best v = d + 1 - v
 
 -- what each call asks and gives, the call of itself at a smaller measure
 abbrev said : ℕ → extend-lts.Claims
@@ -48,6 +49,8 @@ said t = (
   byte-reads.Learnt,
   added-cost-reads.Asked,
   added-cost-reads.Learnt,
+  dropped-reads.Asked,
+  dropped-reads.Learnt,
   extend-below t,
   extend.Post,
 )
@@ -104,6 +107,9 @@ extend-enum-known-more t c = search needs
 extend-add-sum : (t : ℕ) → extend-lts.Need-add-sum (said t) (extend-at t) extend.Post extend-Inv-loop extend-μ-loop
 extend-add-sum t c = omega (arith, most-is _ (c .before .more .given .0 .0) (c .before .before .before .added-cost .result) (c .before .more .given .1) (c .before .before .before .added-cost .ensures .1))
 
+extend-dropped-requires : (t : ℕ) → extend-lts.Need-dropped-requires (said t) (extend-at t) extend.Post extend-Inv-loop extend-μ-loop
+extend-dropped-requires t c κs = search needs
+
 extend-sub-extend : (t : ℕ) → extend-lts.Need-sub-extend (said t) (extend-at t) extend.Post extend-Inv-loop extend-μ-loop
 extend-sub-extend t c = search needs
 
@@ -112,7 +118,7 @@ extend-add-extend t c = search needs
 
 extend-extend-requires : (t : ℕ) → extend-lts.Need-extend-requires (said t) (extend-at t) extend.Post extend-Inv-loop extend-μ-loop
 extend-extend-requires t c κs =
-    let m = c .before in
+    let m = c .before .before .before in
     let q = m .before .before in
     let l = q .before .before .loop in
     let b = q .before .before .before in
@@ -128,7 +134,7 @@ extend-add-v t c = search needs
 extend-loop-less : (t : ℕ) → extend-lts.Need-loop-less (said t) (extend-at t) extend.Post extend-Inv-loop extend-μ-loop
 extend-loop-less t c = search needs
 
--- what is kept: what the value hands on, or the same where it is forbidden
+-- what is kept: what the value hands on, or the same where it is dropped or forbidden
 abbrev Kept : (t : ℕ) → extend-lts.At-match-came (said t) (extend-at t) extend.Post extend-Inv-loop extend-μ-loop → Type 0
 Kept t c =
     let l = c .before .before .before .loop in
@@ -141,8 +147,10 @@ kept t c =
     let l = q .before .before .loop in
     let b = q .before .before .before in
     let z = b .before .before .before .before in
-    ⊎-elim {C = Kept t c} (λ w. sym (w .4 ∙ w .3 .ensures))
-    (λ w. forbidden-next (z .pre .1) (b .byte .result) (b .before .if1 .left) (l .inv .3) (l .v) (places t z) (l .best) (l .inv .5) (added t q ∙ w .1 .given .1) ∙ sym (w .2)) (c .match .came)
+    let same = reached-next (z .pre .1) (b .byte .result) (b .before .if1 .left) (l .inv .3) (l .v) (places t z) (l .best) in
+    ⊎-elim {C = Kept t c} (λ w. sym (w .6 ∙ w .5 .ensures))
+    (⊎-elim {C = Kept t c} (λ w. same _ (l .inv .5) (added t q ∙ w .1 .given .1) (dropped-reaches (z .args .bounded) (w .3 .result) (w .3 .ensures) (w .4 .left)) ∙ sym (w .5))
+    (λ w. same _ (l .inv .5) (added t q ∙ w .1 .given .1) tt ∙ sym (w .2))) (c .match .came)
 
 extend-loop-again : (t : ℕ) → extend-lts.Need-loop-again (said t) (extend-at t) extend.Post extend-Inv-loop extend-μ-loop
 extend-loop-again t c =
@@ -177,6 +185,7 @@ pub +extend-spec : {M : Type 1} → statement M
     (extend-added-cost-requires t)
     (extend-enum-known-more t)
     (extend-add-sum t)
+    (extend-dropped-requires t)
     (extend-sub-extend t)
     (extend-add-extend t)
     (extend-extend-requires t)
