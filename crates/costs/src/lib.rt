@@ -116,8 +116,9 @@ pub fn estimate(seat: Seat, costs: &[u8], ahead: &[u32], values: [u8; 16], k: u8
     let place = place_of(seat);
     let d = size_of(seat, place);
     if rows::in_rows(place, wide(k), d) {
-        let sums = rows::prefix_sums(seat, costs, values, wide(k));
-        return rows::least_sum(seat, costs, ahead, sums, d);
+        let mut sums = [0u32; 16];
+        rows::prefix_sums(seat, costs, values, wide(k), &mut sums);
+        return rows::least_sum(seat, costs, ahead, &sums, d);
     }
     least_cost(seat, costs, ahead, values, wide(k), d)
 }

@@ -30,7 +30,8 @@ pub fn paid(seat: Seat, costs: &[u8], values: [u8; 16]) -> [u32; 16]
 {
     let place = place_of(seat);
     let most = at_most_16(size_of(seat, place));
-    let sums = prefix_sums(seat, costs, values, at_most_16(place));
+    let mut sums = [0u32; 16];
+    prefix_sums(seat, costs, values, at_most_16(place), &mut sums);
     let mut paid = [0u32; 16];
     let mut i = 0;
     while i < most {
@@ -64,9 +65,9 @@ pub(crate) fn in_rows(place: usize, k: usize, d: usize) -> bool
 }
 
 // The least of the d sums, each with its h; NONE where all are forbidden.
-pub(crate) fn least_sum(seat: Seat, costs: &[u8], ahead: &[u32], sums: [u32; 16], d: usize) -> u32
-    requires { ⌜ (d ≤ places) × (d ≡ domFrom seat (pred (seat .own))) ⌝ }
-    ensures { λ r. ⌜ ((values : List ℕ) (k : ℕ) → Sums (viewFrom seat (now (costs .entry))) values k sums → r ≡ asNumber (estimate (viewKnowing seat (now (costs .entry)) (now (ahead .entry))) values k)) ⌝ }
+pub(crate) fn least_sum(seat: Seat, costs: &[u8], ahead: &[u32], sums: &[u32], d: usize) -> u32
+    requires { ⌜ (d ≤ places) × (d ≡ domFrom seat (pred (seat .own))) × (d ≤ length (now sums)) ⌝ }
+    ensures { λ r. ⌜ ((values : List ℕ) (k : ℕ) → Sums (viewFrom seat (now (costs .entry))) values k (now (sums .entry)) → r ≡ asNumber (estimate (viewKnowing seat (now (costs .entry)) (now (ahead .entry))) values k)) ⌝ }
 {
     let mut best = base::NONE;
     let mut i = 0;
@@ -91,24 +92,24 @@ fn with_h(seat: Seat, costs: &[u8], ahead: &[u32], sum: u32, v: usize) -> u32
 }
 
 // The costs of the own values, of the first 16, alone and with the values of the first k units, each as a sum in which what is forbidden counts
-// FORBIDDEN_SUM. The units after the own one cost rows of another shape: k is not past its place.
-pub(crate) fn prefix_sums(seat: Seat, costs: &[u8], values: [u8; 16], k: usize) -> [u32; 16]
-    requires { ⌜ (k ≤ pred (seat .own)) × (k ≤ places) ⌝ }
-    ensures { λ r. ⌜ Sums (viewFrom seat (now (costs .entry))) values k r ⌝ }
+// FORBIDDEN_SUM. The units after the own one cost rows of another shape: k is not past its place. They are written where they are wanted: an
+// array that was just written costs time to copy.
+pub(crate) fn prefix_sums(seat: Seat, costs: &[u8], values: [u8; 16], k: usize, sums: &mut [u32])
+    requires { ⌜ (k ≤ pred (seat .own)) × (k ≤ places) × (places ≤ length (now sums)) ⌝ }
+    ensures { λ r. ⌜ Sums (viewFrom seat (now (costs .entry))) values k (now (sums .exit)) ⌝ }
 {
     let d = size_of(seat, place_of(seat));
     let most = at_most_16(d);
-    let mut sums = unary_row(costs, most);
+    put_unaries(sums, costs, most);
     let mut at = 2 * d;
     let mut j = 0;
     while j < k {
         let e = size_of(seat, j);
         let u = value_at(values, j);
-        add_unit(&mut sums, costs, at, d, e, u, most);
+        add_unit(sums, costs, at, d, e, u, most);
         at += 2 * (d * e);
         j += 1;
     }
-    sums
 }
 
 // A number, 16 at most.
@@ -121,18 +122,16 @@ fn at_most_16(d: usize) -> usize
     16
 }
 
-// The unary costs of the first `most` own values, 0 after.
-fn unary_row(costs: &[u8], most: usize) -> [u32; 16]
-    requires { ⌜ most ≤ places ⌝ }
-    ensures { λ r. ⌜ ((i : ℕ) → i < most → getD r i 0 ≡ u16At (now (costs .entry)) (2 * i)) ⌝ }
+// The unary costs of the first `most` own values are written.
+fn put_unaries(sums: &mut [u32], costs: &[u8], most: usize)
+    requires { ⌜ (most ≤ length (now sums)) × (most ≤ places) ⌝ }
+    ensures { λ r. ⌜ ((i : ℕ) → i < most → getD (now (sums .exit)) i 0 ≡ u16At (now (costs .entry)) (2 * i)) ⌝ }
 {
-    let mut row = [0u32; 16];
     let mut i = 0;
     while i < most {
-        row[i] = base::u16_at(costs, 2 * i);
+        sums[i] = base::u16_at(costs, 2 * i);
         i += 1;
     }
-    row
 }
 
 // The costs with value u of a unit of e values are added, none where it is no value. They begin at byte `at`, in rows of d own values.

@@ -1,10 +1,11 @@
 -- `estimate` meets its contract: the least of the sums where these stand in rows, else the least over the values one by one.
 -- Assumes nothing.
-use Prim.Native.Nat.{_≤_, pred}
+use Prim.Native.Nat.{ℕ, _≤_, pred}
 use mathlib.Core.Path.{_≡_, sym, ap, _∙_}
 use mathlib.Core.Bool.{true, _&&_}
 use native.Mathlib.Omega.{arith}
 use lib.Dec.{leb}
+use lib.ListN.{length-replicate}
 use borrow.Author.Needs.{needs}
 use borrow.Author.Tests.{leb-true}
 use Rattle.base.specs.Shape.Laws.{and-left, and-right}
@@ -32,16 +33,20 @@ module _ (c : tie.Then1) where
 
 prefix-sums-requires : tie.Need-prefix-sums-requires
 prefix-sums-requires c κs =
-    let t = c .before in
-    (omega (arith, c .wide2 .ensures .0, t .before .before .wide .ensures .0, not-past t, t .before .before .before .before .place-of .ensures .0), omega (arith, c .wide2 .ensures .0, t .before .before .wide .ensures .0, few t))
+    let k = c .before .wide2 in
+    let t = c .before .before in
+    (omega (arith, k .ensures .0, t .before .before .wide .ensures .0, not-past t, t .before .before .before .before .place-of .ensures .0), omega (arith, k .ensures .0, t .before .before .wide .ensures .0, few t), omega (arith, length-replicate {A = ℕ} 16 0))
 
 least-sum-requires : tie.Need-least-sum-requires
-least-sum-requires c κs = (values-few (c .before .before), own-size (c .before .before .before .before .before))
+least-sum-requires c κs =
+    let t = c .before .before .before .before .before in
+    let l = c .before .sums2 .given in
+    (values-few t, own-size (t .before .before .before), omega (arith, l, values-few t, length-replicate {A = ℕ} 16 0))
 
 returns : tie.Need-returns
 returns c =
-    let a = c .before .before .before .before .before .before .before .before .before .before .args in
-    rw (← c .before .before .wide2 .ensures .0) (c .least-sum .ensures (a .values) _ (c .before .prefix-sums .ensures))
+    let a = c .before .before .before .before .before .before .before .before .before .before .before .before .before .args in
+    rw (← c .before .before .before .before .before .wide2 .ensures .0) (c .least-sum .ensures (a .values) _ (c .before .before .before .prefix-sums .ensures))
 
 least-cost-requires : tie.Need-least-cost-requires
 least-cost-requires c κs = (omega (arith, c .wide3 .ensures .1), own-size (c .before .before .before .before))
@@ -58,7 +63,9 @@ estimate-spec =
     (λ c κs. search needs)
     (λ c κs. search needs)
     (λ c κs. search needs)
+    (λ c. search needs)
     prefix-sums-requires
+    (λ c. search needs)
     least-sum-requires
     returns
     (λ c κs. search needs)

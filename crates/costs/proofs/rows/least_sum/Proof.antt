@@ -18,28 +18,28 @@ use Rattle.costs.proofs.rows.least_sum.Statement.{statement}
 use Rattle.costs.proofs.rows.least_sum.Tie as tie
 
 abbrev Inv-loop : tie.InvT-loop
-Inv-loop seat costs ahead d sums best₀ i₀ best i =
+Inv-loop seat costs ahead sums d best₀ i₀ best i =
     (i ≤ d) × (best ≤ 4294967295) × ((values : List ℕ) (k : ℕ) → Sums (viewFrom seat costs) values k sums → best ≡ asNumber (leastCost (viewKnowing seat costs ahead) values k i))
 
 abbrev μ-loop : tie.MeasureT-loop
-μ-loop seat costs ahead d sums best₀ i₀ best i = d - i
+μ-loop seat costs ahead sums d best₀ i₀ best i = d - i
 
 loop-holds : tie.Need-loop-holds Inv-loop μ-loop
-loop-holds c = let a = c .before .before .args in (omega arith, omega arith, λ values k s. ap asNumber (sym (leastCost-none (viewKnowing (a .seat) (a .costs .now) (a .ahead .now)) values k)))
+loop-holds c = let a = c .before .before .before .args in (omega arith, omega arith, λ values k s. ap asNumber (sym (leastCost-none (viewKnowing (a .seat) (a .costs .now) (a .ahead .now)) values k)))
 
 loop-again : tie.Need-loop-again Inv-loop μ-loop
 loop-again c =
-    let s = c .before .before .before .before .before .before in
+    let s = c .before .before .before .before .before .before .before .before in
     let a = s .args in
-    let l = c .before .before .before .loop in
+    let l = c .before .before .before .before .loop in
     let n = c .before .with-h in
     let small : n .result ≤ 4294967295 = search needs in (
       omega arith,
       omega (arith, c .lesser .ensures, l .inv .1),
       λ values k told.
           let w = viewKnowing (a .seat) (a .costs .now) (a .ahead .now) in
-          let below : l .i < domFrom (a .seat) (pred (a .seat .own)) = omega (arith, s .pre .1, c .before .before .loop-test .taken) in
-          let i16 : l .i < 16 = omega (arith, s .pre .0, c .before .before .loop-test .taken) in
+          let below : l .i < domFrom (a .seat) (pred (a .seat .own)) = omega (arith, s .pre .1, c .before .before .before .loop-test .taken) in
+          let i16 : l .i < 16 = omega (arith, s .pre .0, c .before .before .before .loop-test .taken) in
           let number : n .result ≡ asNumber (costWith w values k (l .i + 1) ⊕ h w (l .i + 1)) =
           n .ensures ∙ rw (told (l .i) i16 (omega (arith, below, dom-is (a .seat) (a .costs .now) values)) .told, cost-knowing (viewFrom (a .seat) (a .costs .now)) (a .ahead .now) values k (l .i + 1), add-one) in
           let both = lesser-number (leastCost w values k (l .i)) (costWith w values k (l .i + 1) ⊕ h w (l .i + 1)) (omega (arith, l .inv .2 values k told, l .inv .1)) (omega (arith, number, small)) in
@@ -48,7 +48,7 @@ loop-again c =
 
 returns : tie.Need-returns Inv-loop μ-loop
 returns c =
-    let s = c .before .before .before .before in
+    let s = c .before .before .before .before .before in
     let a = s .args in
     let l = c .before .loop in
     let e : l .i ≡ a .d = omega arith in

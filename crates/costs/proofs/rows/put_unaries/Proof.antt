@@ -1,4 +1,4 @@
--- `unary_row` meets its contract. The loop's invariant: the first i numbers are written.
+-- `put_unaries` meets its contract. The loop's invariant: the first i numbers are written.
 -- Assumes nothing.
 use Prim.Native.Nat.{ℕ, _*_, _-_, _≤_, _<_}
 use mathlib.Core.Path.{_≡_, refl}
@@ -7,29 +7,30 @@ use lib.ListN.{length, getD, length-set}
 use borrow.Author.Needs.{needs}
 use Rattle.base.specs.Bytes.{u16At}
 use Rattle.costs.specs.Rows.{filled-more}
-use Rattle.costs.proofs.rows.unary_row.Statement.{statement}
-use Rattle.costs.proofs.rows.unary_row.Tie as tie
+use Rattle.costs.proofs.rows.put_unaries.Statement.{statement}
+use Rattle.costs.proofs.rows.put_unaries.Tie as tie
 
 abbrev Inv-loop : tie.InvT-loop
-Inv-loop costs most row₀ i₀ row i = (i ≤ most) × (length row ≡ 16) × ((k : ℕ) → k < i → getD row k 0 ≡ u16At costs (2 * k))
+Inv-loop sums₀ costs most i₀ sums i = (i ≤ most) × (length sums ≡ length sums₀) × ((k : ℕ) → k < i → getD sums k 0 ≡ u16At costs (2 * k))
 
 abbrev μ-loop : tie.MeasureT-loop
-μ-loop costs most row₀ i₀ row i = most - i
+μ-loop sums₀ costs most i₀ sums i = most - i
 
 loop-holds : tie.Need-loop-holds Inv-loop μ-loop
 loop-holds c = (omega arith, refl, λ k l. absurd (omega arith))
 
 loop-again : tie.Need-loop-again Inv-loop μ-loop
 loop-again c =
-    let a = c .before .before .before .before .args in
+    let st = c .before .before .before .before .before in
+    let a = st .args in
     let l = c .before .before .loop in
-    (omega arith, simp length-set (l .inv .1), filled-more (λ k. u16At (a .costs .now) (2 * k)) (l .i) (l .row) (c .«u16-at» .result) (omega (arith, l .inv .1, c .before .before .before .before .pre)) (l .inv .2) (c .«u16-at» .ensures .0))
+    (omega arith, simp length-set (l .inv .1), filled-more (λ k. u16At (a .costs .now) (2 * k)) (l .i) (l .sums) (c .«u16-at» .result) (omega (arith, l .inv .1, st .pre .0, c .before .loop-test .taken)) (l .inv .2) (c .«u16-at» .ensures .0))
 
 returns : tie.Need-returns Inv-loop μ-loop
 returns c = λ i l. c .before .loop .inv .2 i (omega arith)
 
-pub unary-row-spec : {M : Type 1} → statement M
-unary-row-spec =
+pub put-unaries-spec : {M : Type 1} → statement M
+put-unaries-spec =
     tie.close
     (tie.spec
     Inv-loop
@@ -42,4 +43,5 @@ unary-row-spec =
     (λ c. search needs)
     (λ c. search needs)
     loop-again
+    (λ c. c .before .loop .inv .1)
     returns)
