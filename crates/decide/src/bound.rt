@@ -60,7 +60,7 @@ pub(crate) fn quiet(u: Unit) -> Decided
 }
 
 // A refusal, with the state as lent.
-pub(crate) fn refuse(refusal: u8, u: Unit) -> Decided
+pub fn refuse(refusal: u8, u: Unit) -> Decided
     ensures { λ r. ⌜ r ≡ decidedOf u (refused refusal) ⌝ }
 {
     let sending = nothing();

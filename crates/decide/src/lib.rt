@@ -12,7 +12,7 @@ mod short; // the way of a message that changes little
 use bound::on_solution;
 use bound::on_stop;
 use bound::quiet;
-use bound::refuse;
+pub use bound::refuse;
 use costs::Seat;
 use estimate::on_estimate;
 use estimate::on_request;

@@ -2,10 +2,10 @@
 
 use base::MESSAGE_SIZE;
 ghost use mathlib.Core.Path.{_≡_};
-ghost use Prim.Native.Nat.{_+_, _*_, _-_, _≤_};
+ghost use Prim.Native.Nat.{_+_, _≤_};
 ghost use lib.ListN.{length};
 ghost use lib.Seq.{paste};
-ghost use Rattle.base.specs.Limits.{messageSize, poolCells, poolSize, sendingSize};
+ghost use Rattle.base.specs.Limits.{messageSize};
 ghost use Rattle.runs.specs.Pool.Laws.{closeGap};
 
 // The bytes from `at` + 64 to `end` move down by 64; those from `end` - 64 on stay as they were.
@@ -27,13 +27,4 @@ pub(crate) fn copy_in(pool: &mut [u8], at: usize, source: &[u8], n: usize)
     ensures { λ r. ⌜ now (pool .exit) ≡ paste (now (pool .entry)) at (now (source .entry)) n ⌝ }
 {
     base::put(pool, at, &source[0..n]);
-}
-
-// The message at cell 0 of `used` is taken out, and the first `sent` messages of `out` are put behind the others.
-pub(crate) fn take_oldest(pool: &mut [u8], used: usize, out: &[u8], sent: usize)
-    requires { ⌜ (1 ≤ used) × (used ≤ poolCells) × (used - 1 + sent ≤ poolCells) × (poolSize ≤ length (now pool)) × (sent ≤ 16) × (sendingSize ≤ length (now out)) ⌝ }
-    ensures { λ r. ⌜ now (pool .exit) ≡ paste (closeGap (now (pool .entry)) 0 (messageSize * used)) (messageSize * (used - 1)) (now (out .entry)) (messageSize * sent) ⌝ }
-{
-    close(pool, 0, MESSAGE_SIZE * used);
-    copy_in(pool, MESSAGE_SIZE * (used - 1), out, MESSAGE_SIZE * sent);
 }

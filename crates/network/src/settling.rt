@@ -3,26 +3,20 @@
 use crate::lending::LENT_SIZE;
 use crate::lending::lend;
 use crate::make_by;
-use crate::pool::take_oldest;
 use crate::short::changed;
+use crate::short::decided;
 use crate::short::first_seat;
 use crate::short::hear;
 use crate::short::seat_of;
-use costs::Seat;
+use crate::short::send_on;
 use costs::ValueOrder;
 use runs::Answer;
 use runs::Network;
-use unit::Outcome;
-use unit::Unit;
 use unit::Way;
 ghost use mathlib.Core.Path.{_≡_};
-ghost use Prim.Native.Nat.{_≤_};
-ghost use lib.ListN.{length};
-ghost use Rattle.base.specs.Limits.{sendingSize};
 ghost use Rattle.costs.specs.Order.{defaultOrder};
 ghost use Rattle.runs.specs.Settle.{settleOf};
 ghost use Rattle.runs.specs.Settle.Laws.{Begun, Ended};
-ghost use Rattle.runs.specs.Trusted.{Oldest, Handed};
 
 // Makes a network of a stream and delivers cell 0 until unit 1 stops; none of these deliveries is refused. Refusals: making's.
 pub fn settle(stream: &[u8], pool: &mut [u8]) -> Answer
@@ -58,7 +52,6 @@ fn run(order: ValueOrder, stream: &[u8], net: Network, pool: &mut [u8]) -> Netwo
     let starts = loans.starts;
     let looks = loans.looks;
     let first = first_seat(order, stream);
-    let mut out = [0u8; base::SENDING_SIZE];
     let mut core = net.core;
     let mut used = net.used;
     loop {
@@ -84,34 +77,16 @@ fn run(order: ValueOrder, stream: &[u8], net: Network, pool: &mut [u8]) -> Netwo
             }
             Way::Whole => {
                 let w = core.units[place];
-                let r = hand_oldest(seat, &lent[lo..hi], &h, w, pool, used as usize, &mut out);
-                let w = r.unit;
+                let d = decided(seat, &lent[lo..hi], &h, turn, w);
+                let w = d.unit;
                 core.units[place] = w;
                 let records = core.records;
-                core.records = core::plus(records, r.records as u64);
-                sent = r.sent;
+                core.records = core::plus(records, d.records as u64);
+                sent = send_on(seat, d, pool, used as usize);
             }
         }
         used = used - 1 + sent as u64;
         let deliveries = core.deliveries;
         core.deliveries = core::plus(deliveries, 1);
     }
-}
-
-// The message at cell 0 goes to its unit, which is lent its costs; the gap is closed, and what the unit sends is added at the end.
-fn hand_oldest(
-    seat: Seat,
-    costs: &[u8],
-    ahead: &[u32],
-    u: Unit,
-    pool: &mut [u8],
-    used: usize,
-    out: &mut [u8],
-) -> Outcome
-    requires { ⌜ Oldest (seat .order) u (seat .own) (seat .n) (seat .sizes) (now costs) (now ahead) (now pool) used × (sendingSize ≤ length (now out)) ⌝ }
-    ensures { λ r. ⌜ ((t : Oldest (seat .order) u (seat .own) (seat .n) (seat .sizes) (now (costs .entry)) (now (ahead .entry)) (now (pool .entry)) used) → Handed t r (now (pool .exit))) ⌝ }
-{
-    let r = unit::step_trusted(seat, u, costs, ahead, &pool[0..base::MESSAGE_SIZE], out);
-    take_oldest(pool, used, out, r.sent as usize);
-    r
 }

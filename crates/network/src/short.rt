@@ -1,4 +1,4 @@
-// A message of a run that goes a short way: it is heard and taken out of the pool, and what answers it is put behind the others.
+// A message of a run: it is heard and taken out of the pool, and what is sent on it is put behind the others.
 
 use crate::pool::close;
 use base::MESSAGE_SIZE;
@@ -6,11 +6,13 @@ use costs::Seat;
 use costs::ValueOrder;
 use message::Kind;
 use message::Message;
+use message::Read;
+use unit::Decided;
 use unit::Unit;
 use unit::Way;
 ghost use mathlib.Core.Path.{_≡_};
 ghost use Prim.Native.Nat.{_*_, _-_, _≤_};
-ghost use lib.ListN.{length};
+ghost use lib.ListN.{length, take, drop};
 ghost use Rattle.base.specs.Limits.{messageSize, poolCells, poolSize};
 ghost use Rattle.base.specs.Bytes.Laws.{AllBytes};
 ghost use Rattle.table.specs.Stream.{unitsOf};
@@ -18,16 +20,21 @@ ghost use Rattle.costs.specs.Gather.{sizesIn};
 ghost use Rattle.message.specs.declared.Kind.the-variants.{Estimate};
 ghost use Rattle.message.specs.Sized.{Sized};
 ghost use Rattle.message.specs.Decode.{putInto};
+ghost use Rattle.message.specs.Unpack.{unpackOf};
 ghost use Rattle.rules.specs.Way.{changedBy, replyTo};
+ghost use Rattle.rules.specs.Laws.Range.{SizedUnit};
 ghost use Rattle.rules.specs.Laws.Trusted.{seatAt};
 ghost use Rattle.runs.specs.Calls.{receiverOf};
 ghost use Rattle.runs.specs.Pool.Laws.{closeGap};
 ghost use Rattle.runs.specs.Trusted.{Oldest};
-ghost use Rattle.runs.specs.Short.{Passed, Heard};
+ghost use Rattle.rules.specs.Trusted.{onKnown};
+ghost use Rattle.rules.specs.Ready.{decidedOf};
+ghost use Rattle.runs.specs.Short.{Passed, SentOn, Heard};
 
-// What was heard: the message, the way that it goes, and how many messages were sent on it.
+// What was heard: the message as it was read, the way that it goes, and how many messages were sent on it.
 pub(crate) struct Turn {
     pub message: Message,
+    pub read: Read,
     pub way: Way,
     pub sent: u8,
 }
@@ -64,14 +71,19 @@ pub(crate) fn hear(
     used: usize,
 ) -> Turn
     requires { ⌜ Oldest (seat .order) u (seat .own) (seat .n) (seat .sizes) (now costs) (now ahead) (now pool) used ⌝ }
-    ensures { λ r. ⌜ ((t : Oldest (seat .order) u (seat .own) (seat .n) (seat .sizes) (now (costs .entry)) (now (ahead .entry)) (now (pool .entry)) used) → Heard t (r .way) (r .message) (r .sent) (now (pool .exit))) ⌝ }
+    ensures { λ r. ⌜ ((t : Oldest (seat .order) u (seat .own) (seat .n) (seat .sizes) (now (costs .entry)) (now (ahead .entry)) (now (pool .entry)) used) → Heard t (r .way) (r .message) (r .sent) (now (pool .exit))) × (record { message = r .message; answer = r .read } ≡ unpackOf (take messageSize (drop 0 (now (pool .entry))))) × SizedUnit u ⌝ }
 {
     let known = message::unpack(&pool[0..MESSAGE_SIZE]);
     let read = known.answer;
     let message = known.message;
     let way = unit::way(seat, read, u, message);
     let sent = pass(way, seat, costs, ahead, message, pool, used);
-    Turn { message, way, sent }
+    Turn {
+        message,
+        read,
+        way,
+        sent,
+    }
 }
 
 // The unit with what the message changes.
@@ -81,6 +93,26 @@ pub(crate) fn changed(turn: Turn, u: Unit) -> Unit
     let way = turn.way;
     let m = turn.message;
     unit::changed(way, m, u)
+}
+
+// What the message makes the unit do that goes the whole way.
+pub(crate) fn decided(seat: Seat, costs: &[u8], ahead: &[u32], turn: Turn, u: Unit) -> Decided
+    ensures { λ r. ⌜ r ≡ decidedOf u (onKnown seat (now (costs .entry)) (now (ahead .entry)) u (turn .read) (turn .message)) ⌝ }
+{
+    let read = turn.read;
+    let m = turn.message;
+    unit::respond(seat, costs, ahead, read, u, m)
+}
+
+// What the unit decided is sent: the message at cell 0 is taken out, and what is sent is put behind the others, straight into the pool.
+pub(crate) fn send_on(seat: Seat, d: Decided, pool: &mut [u8], used: usize) -> u8
+    requires { ⌜ (1 ≤ used) × (used ≤ poolCells) × (poolSize ≤ length (now pool)) ⌝ }
+    ensures { λ r. ⌜ SentOn seat (d .sending) (now (pool .entry)) used r (now (pool .exit)) ⌝ }
+{
+    let sending = d.sending;
+    close(pool, 0, MESSAGE_SIZE * used);
+    let at = MESSAGE_SIZE * (used - 1);
+    unit::send(seat, sending, &mut pool[at..])
 }
 
 // What the way of the message at cell 0 does to the pool; how many messages are sent. The whole way does nothing yet.

@@ -1,5 +1,5 @@
 -- Messages laid one after the other: what the sending code asks and ensures, and the laws of `laid` that it goes by.
---     Room, Wide                           the buffer holds 16 messages; each message of a list is 64 bytes
+--     Placed, Room, Wide                   a unit's number; the buffer holds 16 messages; each message of a list is 64 bytes
 -- Assumes nothing.
 use Prim.Native.Nat.{ℕ, zero, suc, _+_, _*_, _-_, _≤_}
 use mathlib.Core.Path.{_≡_, refl, sym, ap, _∙_}
@@ -8,8 +8,10 @@ use mathlib.Core.List.{List, [], _∷_, _++_, append-assoc, append-nil}
 use native.Mathlib.Omega.{arith}
 use native.Mathlib.Numerals.{add-one}
 use native.Mathlib.Nat.{zero-add}
+use lib.Dec.{eqb}
 use lib.ListN.{length, take, drop, length-append}
 use lib.Seq.{take-at, drop-at, drop-drop, length-take-le, paste-zero}
+use borrow.Author.Tests.{eqb-true, eqb-false}
 use Rattle.base.specs.Limits.{messageSize, sendingSize}
 use Rattle.costs.specs.declared.Seat.{Seat}
 use Rattle.message.specs.declared.Message.{Message}
@@ -23,11 +25,17 @@ use Rattle.message.specs.Written.{encode}
 use Rattle.message.specs.EncodeLaws.{length-encode, put-fits}
 use Rattle.rules.specs.declared.Sending.{Sending}
 use Rattle.rules.specs.declared.Plan.{Plan}
-use Rattle.rules.specs.declared.Plan.the-variants.{Forward, Back}
+use Rattle.rules.specs.declared.Plan.the-variants.{Nothing, Forward, Back, Reply}
 use Rattle.rules.specs.Laws.Packets.{each-length}
-use Rattle.rules.specs.Send.{packet, withReceiver, sentTo, withoutBound, boundOnly, each, handBack, byPlan, packets, encodeAll, laid}
+use Rattle.rules.specs.Send.{packet, withReceiver, sentTo, withoutBound, boundOnly, each, handBack, solutions, byPlan, packets, encodeAll, laid}
 
--- a unit's number, and a buffer for 16 messages
+-- the number of one of at most 16 units
+pub record Placed (seat : Seat) : Type 0 where
+  pub first : 1 ≤ seat .own
+  pub last : seat .own ≤ seat .n
+  pub units : seat .n ≤ 16
+
+-- the same, and a buffer for 16 messages
 pub record Room (seat : Seat) (out : List ℕ) : Type 0 where
   pub first : 1 ≤ seat .own
   pub last : seat .own ≤ seat .n
@@ -164,6 +172,13 @@ module _ (n own : ℕ) (m : Message) (l : List ℕ) (first : 1 ≤ own) (z : Siz
   pub back-one-count : (own ≡ 1 → ⊥) → 0 + 1 ≡ length (handBack n (own - 1) m)
   back-one-count e = rw (later e)
 
+  pub handed-most : own ≤ n → n ≤ 16 → length (handBack n (own - 1) m) ≤ 16
+  handed-most l k = go (eqb own 1) refl
+    where
+      go : (t : Bool) → eqb own 1 ≡ t → length (handBack n (own - 1) m) ≤ 16
+      go true e = omega (arith, stops-count (eqb-true own 1 e))
+      go false e = omega (arith, back-one-count (eqb-false own 1 e))
+
   module _ (b : Bool) (sent lower : ℕ) (improved : b ≡ true) (e : sent ≡ length (handBack n (own - 1) m)) (f : lower ≡ sent + (own - 1)) where
     abbrev ps : List Packet
     ps = handBack n (own - 1) m
@@ -199,12 +214,37 @@ pub reply-laid : (m : Message) (l : List ℕ) → Sized m → messageSize ≤ le
 unfolding encodeAll
 reply-laid m l z h = put-fits Estimate m l 0 h .1 ∙ rw (← append-nil (encode Estimate m)) (laid-first (packet Estimate m ∷ []) l (wide-one Estimate m z))
 
+-- whatever the plan, each message is 64 bytes
+solutions-wide : (n k : ℕ) (b : Bool) (m : Message) → Sized m → Wide (solutions n k b m)
+unfolding encodeAll
+solutions-wide n k true m z =
+    let y = bound-sized m z in
+    wide-append (each (sentTo Solution (boundOnly m)) 0 k) (each (sentTo Solution (boundOnly m)) (suc k) (n - suc k)) (wide-each Solution (boundOnly m) y 0 k) (wide-each Solution (boundOnly m) y (suc k) (n - suc k))
+solutions-wide n k false m z = refl
+
+plan-wide : (n k : ℕ) (p : Plan) (b : Bool) (m : Message) → Sized m → Wide (byPlan n k p b m)
+unfolding encodeAll each
+plan-wide n k Nothing b m z = refl
+plan-wide n k Forward b m z =
+    wide-append (each (sentTo Cpa m) (suc k) 1) (each (sentTo Request (withoutBound m)) (suc k) (n - suc k)) (wide-each Cpa m z (suc k) 1) (wide-each Request (withoutBound m) (bare-sized m z) (suc k) (n - suc k))
+plan-wide n k Back b m z = wide-append (handBack n k m) (solutions n k b m) (handed-wide n m z k) (solutions-wide n k b m z)
+plan-wide n k Reply b m z = wide-one Estimate m z
+
+pub packets-wide : (n k : ℕ) (s : Sending) → Sized (s .message) → Wide (packets n k s)
+unfolding packets
+packets-wide n k s z = plan-wide n k (s .plan) (s .improved) (s .message) z
+
+-- how many there are by the plan
+pub count-by : (n k : ℕ) (s : Sending) (p : Plan) (r : ℕ) → s .plan ≡ p → r ≡ length (byPlan n k p (s .improved) (s .message)) → r ≡ length (packets n k s)
+unfolding packets
+count-by n k s p r e h = rw e h
+
 -- what is sent goes by the plan
 pub sent-by : (n k : ℕ) (s : Sending) (p : Plan) (r : ℕ) (l t : List ℕ) → s .plan ≡ p → (r ≡ length (byPlan n k p (s .improved) (s .message))) × (t ≡ laid (byPlan n k p (s .improved) (s .message)) l)
     → (r ≡ length (packets n k s)) × (t ≡ laid (packets n k s) l)
 unfolding packets
 sent-by n k s p r l t e h = rw e h
 
-pub few-by : (n k : ℕ) (s : Sending) (p : Plan) → s .plan ≡ p → length (packets n k s) ≤ 16 → length (byPlan n k p (s .improved) (s .message)) ≤ 16
+pub fits-by : (n k : ℕ) (s : Sending) (p : Plan) (room : ℕ) → s .plan ≡ p → messageSize * length (packets n k s) ≤ room → messageSize * length (byPlan n k p (s .improved) (s .message)) ≤ room
 unfolding packets
-few-by n k s p e h = rw (← e) h
+fits-by n k s p room e h = rw (← e) h

@@ -1,11 +1,11 @@
 -- What a unit does on what is known to be good: a run checks its table once and knows h of its values, and its units send what can be read. Nobody
 -- has to believe it: on what a step accepts it is the step, `trusted-steps` of Laws/Trusted, and a run hands it nothing else (runs/specs/Trusted).
 -- Assumes nothing.
-use Rattle.base.specs.Library.{ℕ, pred, _-_, Bool, cond, _&&_, _||_, List, ltb, leb, eqb, getD}
-use Rattle.base.specs.Limits.{sendingSize}
+use Rattle.base.specs.Library.{ℕ, pred, _*_, _-_, Bool, cond, _&&_, _||_, List, [], ltb, leb, eqb, getD, length}
+use Rattle.base.specs.Limits.{sendingSize, messageSize}
 use Rattle.costs.specs.{declared.Seat.Seat, Instance.viewKnowing}
-use Rattle.message.specs.{declared.Message.Message, declared.Kind.Kind, declared.Read.Read, declared.Read.the-variants.Good, declared.Read.the-variants.Refused, Message.isUnit, Unpack.unpackOf}
-use Rattle.rules.specs.{declared.Unit.Unit, State.fresh, State.inRange, Calls.start}
+use Rattle.message.specs.{declared.Message.Message, declared.Kind.Kind, declared.Read.Read, declared.Read.the-variants.Good, declared.Read.the-variants.Refused, Message.isUnit, Message.Packet, Unpack.unpackOf}
+use Rattle.rules.specs.{declared.Unit.Unit, declared.Sending.Sending, Send.packets, State.fresh, State.inRange, Calls.start}
 use Rattle.rules.specs.Step.{Decision, refused, respond}
 
 -- Asked is only what a step can't do without. Of unit and state: one of at most 16 units with at most 16 values, whose own value is one of these or none,
@@ -38,3 +38,10 @@ onKnown seat costs ahead u (Refused r) m = refused r
 -- 13; then 8 and 9 of the packet; then 5 and 9, and what a step gives
 unfoldable pub trustedOut : Seat → Unit → List ℕ → List ℕ → List ℕ → ℕ → Decision
 trustedOut seat u costs ahead bytes room = let p = unpackOf bytes in cond (ltb room sendingSize) (refused 13) (onKnown seat costs ahead u (p .answer) (p .message))
+
+-- What was decided is sent: by one of at most 16 units, and where all of it fits into the bytes that there are; else nothing.
+abbrev pub canSend : Seat → Sending → ℕ → Bool
+canSend seat s room = isUnit (seat .n) (seat .own) && leb (seat .n) 16 && leb (messageSize * length (packets (seat .n) (seat .own - 1) s)) room
+
+unfoldable pub sendTo : Seat → Sending → ℕ → List Packet
+sendTo seat s room = cond (canSend seat s room) (packets (seat .n) (seat .own - 1) s) []

@@ -3,10 +3,11 @@
 use Prim.Native.Nat.{ℕ, suc, pred, _+_, _*_, _-_, _≤_, _<_}
 use mathlib.Core.Path.{_≡_, refl, sym, ap, _∙_, subst}
 use mathlib.Core.Logic.{_⊎_, ⊎-elim}
-use mathlib.Core.List.{List, [], _∷_, append-nil}
+use mathlib.Core.Bool.{Bool, true, false, cond}
+use mathlib.Core.List.{List, [], _∷_, _++_, append-nil, append-assoc}
 use native.Mathlib.Omega.{arith}
-use lib.ListN.{length, getD, set, take, drop, replicate, length-replicate}
-use lib.Seq.{paste, paste-zero, set-getD}
+use lib.ListN.{length, getD, set, take, drop, replicate, length-replicate, length-drop, take-append-drop}
+use lib.Seq.{paste, paste-zero, set-getD, drop-drop}
 use Rattle.base.specs.Limits.{sendingSize, messageSize, poolCells}
 use Rattle.base.specs.Bytes.Laws.{AllBytes}
 use Rattle.table.specs.Stream.{unitsOf}
@@ -23,6 +24,7 @@ use Rattle.message.specs.declared.Message.{Message}
 use Rattle.message.specs.declared.Parsed.{Parsed}
 use Rattle.message.specs.declared.Read.{Read}
 use Rattle.message.specs.declared.Read.the-variants.{Good, Refused}
+use Rattle.message.specs.Message.{Packet}
 use Rattle.message.specs.Sized.{Sized}
 use Rattle.message.specs.Decode.{putInto}
 use Rattle.message.specs.Written.{encode}
@@ -30,19 +32,22 @@ use Rattle.message.specs.EncodeLaws.{length-encode, put-fits}
 use Rattle.message.specs.Unpack.{unpackOf}
 use Rattle.rules.specs.declared.Unit.{Unit as UnitState}
 use Rattle.rules.specs.declared.Outcome.{Outcome}
+use Rattle.rules.specs.declared.Decided.{Decided}
+use Rattle.rules.specs.declared.Sending.{Sending}
 use Rattle.rules.specs.declared.Way.{Way}
 use Rattle.rules.specs.declared.Way.the-variants.{Quiet, Reply, Follow, Store, Lower, Whole}
 use Rattle.rules.specs.State.{emptyUnit, withThreshold, withBest}
-use Rattle.rules.specs.Step.{Decision, accepted, quiet, reply, byKind}
-use Rattle.rules.specs.Tests.{stored}
+use Rattle.rules.specs.Step.{Decision, refused, accepted, quiet, reply, byKind}
+use Rattle.rules.specs.Tests.{stored, silent}
 use Rattle.rules.specs.Send.{packet, packets, encodeAll, laid}
-use Rattle.rules.specs.Laying.{wide-one}
+use Rattle.rules.specs.Laying.{Placed, wide-one, packets-wide, laid-none}
+use Rattle.rules.specs.Ready.{decidedOf}
 use Rattle.rules.specs.Units.{unitAt}
 use Rattle.rules.specs.Calls.{outcomeOf, bytesOf}
-use Rattle.rules.specs.Trusted.{trustedOut}
+use Rattle.rules.specs.Trusted.{onKnown, trustedOut, canSend, sendTo}
 use Rattle.rules.specs.Way.{wayOf, byWay, replyTo, changedBy}
 use Rattle.rules.specs.Laws.Range.{SizedUnit}
-use Rattle.rules.specs.Laws.Trusted.{seatAt, trusted-on}
+use Rattle.rules.specs.Laws.Trusted.{seatAt, trusted-known, trusted-on, send-all, can-send}
 use Rattle.rules.specs.Laws.Ways.{way-decides, reply-is, store-sender, unrefused-by-kind, way-unread}
 use Rattle.runs.specs.declared.Count.{Count}
 use Rattle.runs.specs.declared.Core.{Core}
@@ -54,7 +59,7 @@ use Rattle.runs.specs.Calls.{networkAfter, receiverOf, deliverOf}
 use Rattle.runs.specs.Lending.{Lent, Looked, noOutlook, looked-long, looked-at, part-order, part-end, part-costs}
 use Rattle.runs.specs.Pool.Laws.{closeGap, length-closed, sent-front}
 use Rattle.runs.specs.Code.{Open, own-first, own-last, pred-sub}
-use Rattle.runs.specs.Trusted.{checks, Oldest, Handed, oldest-unrefused, oldest-handed}
+use Rattle.runs.specs.Trusted.{checks, Oldest, Handed, oldest-unrefused, oldest-room, oldest-handed}
 
 -- what a unit gives that writes no record
 abbrev pub shortOutcome : UnitState → ℕ → Outcome
@@ -71,6 +76,13 @@ Passed Store seat costs ahead m pool used sent after = (sent ≡ 0) × (after �
 Passed Lower seat costs ahead m pool used sent after = (sent ≡ 0) × (after ≡ closeGap pool 0 (messageSize * used))
 Passed Whole seat costs ahead m pool used sent after = (sent ≡ 0) × (after ≡ pool)
 
+-- what a unit decided goes the whole way: the gap is closed, and all that is sent is put behind the others
+abbrev pub SentOn : Seat → Sending → List ℕ → ℕ → ℕ → List ℕ → Type 0
+SentOn seat s pool used sent after =
+    let closed : List ℕ = closeGap pool 0 (messageSize * used) in
+    let ps : List Packet = sendTo seat s (length (drop (messageSize * (used - 1)) closed)) in
+    Sized (s .message) × (sent ≡ length ps) × (after ≡ take (messageSize * (used - 1)) closed ++ laid ps (drop (messageSize * (used - 1)) closed))
+
 -- the oldest message was heard: handed over where it goes a short way, else all is as it was
 abbrev pub Heard : {order : ValueOrder} {u : UnitState} {own n : ℕ} {sizes costs ahead pool : List ℕ} {used : ℕ} → Oldest order u own n sizes costs ahead pool used → Way → Message → ℕ → List ℕ → Type 0
 Heard {u = u} t Quiet m sent after = Handed t (shortOutcome (changedBy Quiet m u) sent) after
@@ -79,6 +91,15 @@ Heard {u = u} t Follow m sent after = Handed t (shortOutcome (changedBy Follow m
 Heard {u = u} t Store m sent after = Handed t (shortOutcome (changedBy Store m u) sent) after
 Heard {u = u} t Lower m sent after = Handed t (shortOutcome (changedBy Lower m u) sent) after
 Heard {pool = pool} t Whole m sent after = after ≡ pool
+
+-- nothing decided, nothing sent
+silent-none : (seat : Seat) (room : ℕ) → sendTo seat silent room ≡ []
+unfolding sendTo packets
+silent-none seat room = go (canSend seat silent room)
+  where
+    go : (b : Bool) → cond {A = List Packet} b [] [] ≡ []
+    go true = refl
+    go false = refl
 
 -- the pool with one packet behind the others
 pub one-sent : (pool : List ℕ) (at : ℕ) (m : Message) (out : List ℕ) → Sized m → at + messageSize ≤ length pool → paste pool at (laid (packet Estimate m ∷ []) out) messageSize ≡ putInto Estimate m pool at
@@ -150,6 +171,67 @@ module _ {order : ValueOrder} {u : UnitState} {own n : ℕ} {sizes costs ahead p
       handed (accepted v (reply view (p .message)) []) e after
       (g ∙ sym (one-sent (closeGap pool 0 (messageSize * used)) (messageSize * (used - 1)) m blank z behind)
       ∙ ap (λ (x : Message). paste (closeGap pool 0 (messageSize * used)) (messageSize * (used - 1)) (laid (packet Estimate x ∷ []) blank) messageSize) f)
+
+  -- ---- the whole way: what the unit decided is sent on
+
+  laid-is : (ps : List Packet) (l : List ℕ) → laid ps l ≡ encodeAll ps ++ drop (messageSize * length ps) l
+  unfolding laid
+  laid-is ps l = refl
+
+  -- messages laid behind the others are pasted there
+  laid-behind : (ps : List Packet) (closed out : List ℕ) (at : ℕ) → length (encodeAll ps) ≡ messageSize * length ps → take at closed ++ laid ps (drop at closed) ≡ paste closed at (laid ps out) (messageSize * length ps)
+  laid-behind ps closed out at w = rw (sent-front ps out w, laid-is ps (drop at closed), drop-drop (messageSize * length ps) at closed, append-assoc (take at closed) (encodeAll ps) (drop (at + messageSize * length ps) closed))
+
+  module _ (d : Decided) (is : d ≡ decidedOf u (onKnown seat costs ahead u (p .answer) (p .message))) (sent : ℕ) (after : List ℕ) (on : SentOn seat (d .sending) pool used sent after) where
+    abbrev closed : List ℕ
+    closed = closeGap pool 0 (messageSize * used)
+
+    told : decision ≡ onKnown seat costs ahead u (p .answer) (p .message)
+    told = trusted-known seat u costs ahead (take messageSize (drop 0 pool)) (length blank) fits p read
+
+    placed : Placed seat
+    placed =
+        let o = short-open .passed .core in
+        let first = own-first order (t .net .core) (t .stream) o n own (take messageSize (drop 0 pool)) (t .units) (t .named) in
+        let last = own-last order (t .net .core) (t .stream) o n own (take messageSize (drop 0 pool)) (t .units) (t .named) in
+        record { first = first; last = omega (arith, last, t .units); units = omega (arith, t .units, accepted-units (t .stream) (o .table) .1) }
+
+    abbrev wholeOutcome : Outcome
+    wholeOutcome = record { refusal = 0; unit = d .unit; sent = sent; records = d .records }
+
+    -- all that is sent fits behind the others
+    room : (s : Sending) → used - 1 + length (packets n (pred own) s) ≤ poolCells → messageSize * length (packets n (own - 1) s) ≤ length (drop (messageSize * (used - 1)) closed)
+    room s l =
+        let few : used ≤ poolCells = rw (t .count) (short-open .passed .few) in
+        let here : 1 ≤ used = rw (t .count) (short-open .here) in
+        let long = short-open .passed .room in
+        rw (← pred-sub own) (omega (arith, l, length-drop (messageSize * (used - 1)) closed, length-closed pool used 0 here (omega (arith, few, long))))
+
+    pub whole-handed : Handed t wholeOutcome after
+    whole-handed = go (onKnown seat costs ahead u (p .answer) (p .message)) told is
+      where
+        go : (o : Decision) → decision ≡ o → d ≡ decidedOf u o → Handed t wholeOutcome after
+        go (refused x) e f =
+            let q : SentOn seat silent pool used sent after = rw f at on in
+            let none = silent-none seat (length (drop (messageSize * (used - 1)) closed)) in
+            let zero : sent ≡ 0 = q .1 ∙ ap (λ (ps : List Packet). length ps) none in
+            let x0 : x ≡ 0 = ap (λ (y : Decision). outcomeOf n (pred own) u y .refusal) (sym e) ∙ unrefused in
+            let same : after ≡ closed =
+            q .2 ∙ ap (λ (ps : List Packet). take (messageSize * (used - 1)) closed ++ laid ps (drop (messageSize * (used - 1)) closed)) none
+            ∙ ap (λ (l : List ℕ). take (messageSize * (used - 1)) closed ++ l) (laid-none (drop (messageSize * (used - 1)) closed)) ∙ take-append-drop (messageSize * (used - 1)) closed in
+            let h = handed (refused x) e after (same ∙ paste-zero closed (messageSize * (used - 1)) blank) in
+            rw (zero, f) (subst (λ (y : ℕ). Handed t (record { refusal = y; unit = u; sent = 0; records = 0 }) after) x0 h)
+        go (accepted v s ws) e f =
+            let q : SentOn seat s pool used sent after = rw f at on in
+            let fit = oldest-room t blank (bytesOf n (pred own) blank decision) fits (outcomeOf n (pred own) u decision) refl refl arrays in
+            let l : used - 1 + length (packets n (pred own) s) ≤ poolCells = rw e at fit in
+            let all : sendTo seat s (length (drop (messageSize * (used - 1)) closed)) ≡ packets n (pred own) s =
+            send-all seat s _ (can-send seat s _ placed (room s l)) ∙ ap (λ (k : ℕ). packets n k s) (sym (pred-sub own)) in
+            let count : sent ≡ length (packets n (pred own) s) = q .1 ∙ ap (λ (ps : List Packet). length ps) all in
+            let put : after ≡ paste closed (messageSize * (used - 1)) (laid (packets n (pred own) s) blank) (messageSize * length (packets n (pred own) s)) =
+            q .2 ∙ ap (λ (ps : List Packet). take (messageSize * (used - 1)) closed ++ laid ps (drop (messageSize * (used - 1)) closed)) all
+            ∙ laid-behind (packets n (pred own) s) closed blank (messageSize * (used - 1)) (packets-wide n (pred own) s (q .0)) in
+            rw (count, f) (handed (accepted v s ws) e after put)
 
   -- ---- the way of the message
 
@@ -316,8 +398,3 @@ module _ (core : Core) (place : ℕ) {order : ValueOrder} {own n : ℕ} {sizes c
         go Store e h f = went _ h f
         go Lower e h f = went _ h f
         go Whole e h f = absurd (⊎-elim (λ (q : _≡_ {A = ℕ} 5 2). omega arith) (λ q. ⊎-elim (λ (q : _≡_ {A = ℕ} 5 3). omega arith) (λ (q : _≡_ {A = ℕ} 5 4). omega arith) q) e)
-
--- the whole way is gone with the pool as it was
-pub whole-handed : {order : ValueOrder} {u : UnitState} {own n : ℕ} {sizes costs ahead pool : List ℕ} {used : ℕ} (t : Oldest order u own n sizes costs ahead pool used) (was : List ℕ) → was ≡ pool → (r : Outcome) (after : List ℕ)
-    → ((o : Oldest order u own n sizes costs ahead was used) → Handed o r after) → Handed t r after
-whole-handed {order} {u} {own} {n} {sizes} {costs} {ahead} {pool} {used} t was e r after f = subst (λ (q : List ℕ). (o : Oldest order u own n sizes costs ahead q used) → Handed o r after) e f t

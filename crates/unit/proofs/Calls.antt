@@ -205,33 +205,3 @@ module _ (order : ValueOrder) (u : Unit) (own n : ℕ) (sizes costs out : List �
         let to : p .message .receiver ≡ suc (pred own) = omega (arith, to-own, unit-range n own (q .unit) .0) in
         rw (← pred-sub own) (few-decided n sizes w was (respond w k u (p .message)) d e
         (respond-kept n sizes w (lent-good order own n sizes costs (q .shape) long (q .unit) (q .lent)) k u (p .message) (q .state) arrays record { address = rw fields (known .address); form = rw fields (known .formed); arrays = z } to))
-
--- ---- a step on what is known to be good
-
-module _ (seat : Seat) (costs ahead : List ℕ) (k : Kind) (u : Unit) (m : Message) (d : Decided) (e : d ≡ decidedOf u (respondTo seat costs ahead k u m)) (z : d .refusal ≡ 0) where
-  steps : canStep (seat .own) (seat .n) (seat .sizes) u ≡ true
-  steps = responded seat costs ahead k u m (sym (ap (λ (q : Decided). q .refusal) e) ∙ z)
-
-  shaped : Shaped seat
-  shaped = known-shaped seat u steps
-
-  pub trusted-room : (out : List ℕ) → 1024 ≤ length out → Room seat out
-  trusted-room out fits = record { first = shaped .number .first; last = shaped .within; units = shaped .units; bytes = fits }
-
-  pub trusted-few : length (packets (seat .n) (seat .own - 1) (d .sending)) ≤ 16
-  unfolding knowing lentView packets
-  trusted-few = rw (← pred-sub (seat .own)) (by (respondTo seat costs ahead k u m) e (go (canHear (seat .own) m) refl))
-    where
-      w : View
-      w = viewKnowing seat costs ahead
-
-      below : w .place < seat .n
-      below = omega (arith, pred-sub (seat .own), shaped .number .first, shaped .within)
-
-      by : (o : Decision) → d ≡ decidedOf u o → Whenever (Few (seat .n) w refl below) o → length (packets (seat .n) (pred (seat .own)) (d .sending)) ≤ 16
-      by (refused x) f h = rw f (omega arith)
-      by (accepted t s ws) f h = rw f (omega (arith, h, shaped .units))
-
-      go : (t : Bool) → canHear (seat .own) m ≡ t → Whenever (Few (seat .n) w refl below) (respondTo seat costs ahead k u m)
-      go true h = rw (respond-on seat costs ahead k u m steps h) (respond-few (seat .n) w refl below k u m)
-      go false h = rw (respond-9 seat costs ahead k u m steps h) tt

@@ -1,6 +1,6 @@
 // One unit as it is called: made, and handed a packet.
 
-mod send; // what is sent, laid into the lent buffer
+mod sending; // what is sent, laid into the lent buffer
 
 use costs::Seat;
 pub use costs::ValueOrder;
@@ -11,12 +11,14 @@ pub use decide::in_range_paid;
 pub use decide::no_unit;
 pub use decide::reply;
 pub use decide::way;
+use message::Message;
 use message::Read;
 pub use rules::Decided;
 pub use rules::Outcome;
 pub use rules::Report;
 pub use rules::Unit;
 pub use rules::Way;
+pub use sending::send;
 ghost use mathlib.Core.Path.{_≡_};
 ghost use Prim.Native.Nat.{ℕ, pred, _-_, _≤_};
 ghost use lib.ListN.{length};
@@ -26,7 +28,7 @@ ghost use Rattle.rules.specs.Step.{Decision, refused};
 ghost use Rattle.rules.specs.Send.{packets};
 ghost use Rattle.rules.specs.Laying.{Room};
 ghost use Rattle.rules.specs.Calls.{outcomeOf, numbersOf, bytesOf, seatRefusal, makeRefusal, rangeRefusal, makeOut, stepRefusal, stepOut};
-ghost use Rattle.rules.specs.Trusted.{trustedOut};
+ghost use Rattle.rules.specs.Trusted.{onKnown};
 ghost use Rattle.rules.specs.Ready.{decidedOf};
 
 // A unit is made: unit 1 assigns, the others wait. Refusals 5, 10, 6, 7, 13 in order.
@@ -121,29 +123,16 @@ pub fn step_by(
     carry_out(seat, d, out)
 }
 
-// The step on what is known to be good, as in a run that checked its table once and knows h: it asks only what it can't do without. Refusals 13,
-// 8, 9, 5, then 12, 11. On what `step_by` accepts it is the step, where what is known is right.
-pub fn step_trusted(
-    seat: Seat,
-    u: Unit,
-    costs: &[u8],
-    ahead: &[u32],
-    packet: &[u8],
-    out: &mut [u8],
-) -> Outcome
-    ensures { λ r. ⌜ (r ≡ outcomeOf (seat .n) (pred (seat .own)) u (trustedOut seat u (now (costs .entry)) (now (ahead .entry)) (now (packet .entry)) (length (now (out .entry))))) × (now (out .exit) ≡ bytesOf (seat .n) (pred (seat .own)) (now (out .entry)) (trustedOut seat u (now (costs .entry)) (now (ahead .entry)) (now (packet .entry)) (length (now (out .entry))))) ⌝ }
+// What a message makes a unit do that is known to be good, as in a run that checked its table once and knows h; as it was read. It asks only what
+// it can't do without: refusals 9 (no kind), 5, 9, then 12, 11. On what `step_by` accepts it is the step's, where what is known is right; it is
+// sent by `send`.
+pub fn respond(seat: Seat, costs: &[u8], ahead: &[u32], read: Read, u: Unit, m: Message) -> Decided
+    ensures { λ r. ⌜ r ≡ decidedOf u (onKnown seat (now (costs .entry)) (now (ahead .entry)) u read m) ⌝ }
 {
-    if out.len() < base::SENDING_SIZE {
-        return refused(13, u);
-    }
-    let known = message::unpack(packet);
-    let answer = known.answer;
-    let Read::Good(kind) = answer else {
-        return refused(message::refusal_of(answer), u);
+    let Read::Good(kind) = read else {
+        return decide::refuse(message::refusal_of(read), u);
     };
-    let m = known.message;
-    let d = decide::respond(seat, costs, ahead, kind, u, m);
-    carry_out(seat, d, out)
+    decide::respond(seat, costs, ahead, kind, u, m)
 }
 
 // The step on a lent state: 01, "The box lends its state to each step, and the step writes it there".
@@ -276,7 +265,7 @@ fn carry_out(seat: Seat, d: Decided, out: &mut [u8]) -> Outcome
         return refused(d.refusal, unit);
     }
     let sending = d.sending;
-    let sent = send::send(seat, sending, out);
+    let sent = sending::lay(seat, sending, out);
     Outcome {
         refusal: 0,
         unit,

@@ -1,14 +1,14 @@
 -- A unit on what is known to be good: what is asked is what the deciding functions ask, it sends at most 16 packets,
 -- and on what making and a step accept it is these. By the tests, and the walk through what a unit decides. Assumes nothing.
-use Prim.Native.Nat.{ℕ, suc, pred, _-_, _≤_, _<_}
+use Prim.Native.Nat.{ℕ, suc, pred, _*_, _-_, _≤_, _<_}
 use mathlib.Core.Path.{_≡_, refl, ap, _∙_}
 use mathlib.Core.Bool.{Bool, true, false, _&&_, _||_}
-use mathlib.Core.List.{List}
+use mathlib.Core.List.{List, []}
 use native.Mathlib.Omega.{arith}
 use lib.Dec.{leb, eqb}
 use lib.ListN.{length, getD}
-use borrow.Author.Tests.{le-leb, lt-leb, leb-true, leb-false, lt-ltb, le-ltb, eq-eqb, ne-eqb, eqb-true, eqb-false}
-use Rattle.base.specs.Limits.{sendingSize}
+use borrow.Author.Tests.{le-leb, lt-leb, leb-true, leb-false, le-ltb, eq-eqb, ne-eqb, eqb-true, eqb-false}
+use Rattle.base.specs.Limits.{messageSize, sendingSize}
 use Rattle.base.specs.Shape.Laws.{and-left, and-right}
 use Rattle.costs.specs.declared.Seat.{Seat}
 use Rattle.costs.specs.declared.ValueOrder.{ValueOrder}
@@ -17,8 +17,8 @@ use Rattle.costs.specs.Knowing.{Knows, knowing-sees}
 use Rattle.message.specs.declared.Kind.{Kind}
 use Rattle.message.specs.declared.Message.{Message}
 use Rattle.message.specs.declared.Parsed.{Parsed}
-use Rattle.message.specs.declared.Read.the-variants.{Good, Refused}
-use Rattle.message.specs.Message.{isUnit, refusalOf}
+use Rattle.message.specs.declared.Read.the-variants.{Good}
+use Rattle.message.specs.Message.{isUnit}
 use Rattle.message.specs.Decode.{messageIn, parseFor}
 use Rattle.message.specs.Unpack.{unpackOf}
 use Rattle.message.specs.RoundTrip.{ParsedGood, parsed-good, unpack-parsed}
@@ -28,7 +28,8 @@ use Rattle.rules.specs.Step.{Decision, refused, accepted, Written, recor
 use Rattle.rules.specs.Send.{packets}
 use Rattle.rules.specs.State.{fresh, inRange}
 use Rattle.rules.specs.Calls.{start, stepOut}
-use Rattle.rules.specs.Trusted.{canStep, canHear, respondTo, startTo, inRangeAt, trustedOut}
+use Rattle.rules.specs.Trusted.{canStep, canHear, respondTo, startTo, inRangeAt, onKnown, trustedOut, canSend, sendTo}
+use Rattle.rules.specs.Laying.{Placed}
 use Rattle.rules.specs.Ready.{Own, Shaped, Ready, Heard, decidedOf}
 use Rattle.rules.specs.Laws.Views.{unit-range}
 use Rattle.rules.specs.Laws.Packets.{forward-few, back-few}
@@ -117,19 +118,33 @@ module _ (seat : Seat) (costs ahead : List ℕ) where
   unfolding startTo
   start-on e = rw e
 
-module _ (seat : Seat) (u : State) (costs ahead bytes : List ℕ) (room : ℕ) where
-  pub trusted-13 : room < sendingSize → trustedOut seat u costs ahead bytes room ≡ refused 13
+module _ (seat : Seat) (u : State) (costs ahead bytes : List ℕ) (room : ℕ) (fits : sendingSize ≤ room) (p : Parsed) (read : p ≡ unpackOf bytes) where
+  pub trusted-known : trustedOut seat u costs ahead bytes room ≡ onKnown seat costs ahead u (p .answer) (p .message)
   unfolding trustedOut
-  trusted-13 l = rw (lt-ltb room sendingSize l)
+  trusted-known = rw (le-ltb room sendingSize fits, ← read)
 
-  module _ (fits : sendingSize ≤ room) (p : Parsed) (read : p ≡ unpackOf bytes) where
-    pub trusted-unread : (x : ℕ) → p .answer ≡ Refused x → (y : ℕ) → y ≡ refusalOf (p .answer) → trustedOut seat u costs ahead bytes room ≡ refused y
-    unfolding trustedOut
-    trusted-unread x a y g = rw (g, le-ltb room sendingSize fits, ← read, a)
+  pub trusted-on : (k : Kind) → p .answer ≡ Good k → trustedOut seat u costs ahead bytes room ≡ respondTo seat costs ahead k u (p .message)
+  trusted-on k a = trusted-known ∙ rw a
 
-    pub trusted-on : (k : Kind) → p .answer ≡ Good k → trustedOut seat u costs ahead bytes room ≡ respondTo seat costs ahead k u (p .message)
-    unfolding trustedOut
-    trusted-on k a = rw (le-ltb room sendingSize fits, ← read, a)
+-- ---- what was decided is sent
+
+module _ (seat : Seat) (s : Sending) (room : ℕ) where
+  pub send-none : canSend seat s room ≡ false → sendTo seat s room ≡ []
+  unfolding sendTo
+  send-none e = rw e
+
+  pub send-all : canSend seat s room ≡ true → sendTo seat s room ≡ packets (seat .n) (seat .own - 1) s
+  unfolding sendTo
+  send-all e = rw e
+
+  pub sender-placed : canSend seat s room ≡ true → Placed seat × (messageSize * length (packets (seat .n) (seat .own - 1) s) ≤ room)
+  sender-placed e =
+      let a = and-left (isUnit (seat .n) (seat .own) && leb (seat .n) 16) _ e in
+      let u = unit-range (seat .n) (seat .own) (and-left _ _ a) in
+      (record { first = u .0; last = u .1; units = leb-true (seat .n) 16 (and-right (isUnit (seat .n) (seat .own)) _ a) }, leb-true _ room (and-right (isUnit (seat .n) (seat .own) && leb (seat .n) 16) _ e))
+
+  pub can-send : Placed seat → messageSize * length (packets (seat .n) (seat .own - 1) s) ≤ room → canSend seat s room ≡ true
+  can-send p f = rw (le-leb 1 (seat .own) (p .first), le-leb (seat .own) (seat .n) (p .last), le-leb (seat .n) 16 (p .units), le-leb _ room f)
 
 -- ---- at most 16 packets
 

@@ -31,12 +31,12 @@ use Rattle.network.proofs.settling.run.Statement.{statement}
 use Rattle.network.proofs.settling.run.Tie as tie
 
 abbrev Inv-loop : tie.InvT-loop
-Inv-loop stream pool₀ lent starts looks first out₀ core₀ used₀ pool out core used =
-    (length pool ≡ length pool₀) × (length out ≡ 1024) × Words (core .records)
+Inv-loop stream pool₀ lent starts looks first core₀ used₀ pool core used =
+    (length pool ≡ length pool₀) × Words (core .records)
     × After (first .order) stream (record { network = record { core = core₀; used = used₀ }; pool = pool₀ }) (record { network = record { core = core; used = used }; pool = pool })
 
 abbrev μ-loop : tie.MeasureT-loop
-μ-loop stream pool₀ lent starts looks first out₀ core₀ used₀ pool out core used = most (instanceOf stream) - valueOf (core .deliveries)
+μ-loop stream pool₀ lent starts looks first core₀ used₀ pool core used = most (instanceOf stream) - valueOf (core .deliveries)
 
 -- the stream is an accepted one
 table : (c : tie.Start Inv-loop μ-loop) → Accepted (c .args .stream .now)
@@ -52,7 +52,7 @@ module _ (c : tie.Else1 Inv-loop μ-loop) where
   net = record { core = c .before .before .loop .core; used = c .before .before .loop .used }
 
   reached : After (c .before .before .before .before .before .before .before .before .before .before .before .before .args .order) (c .before .before .before .before .before .before .before .before .before .before .before .before .args .stream .now) (record { network = c .before .before .before .before .before .before .before .before .before .before .before .before .args .net; pool = c .before .before .before .before .before .before .before .before .before .before .before .before .args .pool .now }) (record { network = net; pool = c .before .before .loop .pool })
-  reached = rw (ordered (c .before .before .before .before)) at (c .before .before .loop .inv .3)
+  reached = rw (ordered (c .before .before .before .before)) at (c .before .before .loop .inv .2)
 
   goes-on : over (record { network = net; pool = c .before .before .loop .pool }) ≡ false
   goes-on = c .if1 .left
@@ -69,10 +69,10 @@ lend-requires c κs = let l = length-replicate {A = ℕ} 123392 0 in (table (c .
 loop-holds : tie.Need-loop-holds Inv-loop μ-loop
 loop-holds c =
     let w : Words (c .before .before .before .before .before .before .before .before .before .args .net .core .records) = search needs in
-    (refl, refl, w, rw (ordered (c .before)) (reached-start (c .before .before .before .before .before .before .before .before .before .args .order) (c .before .before .before .before .before .before .before .before .before .args .stream .now) (c .before .before .before .before .before .before .before .before .before .pre .pool) (record { refusal = 0; network = c .before .before .before .before .before .before .before .before .before .args .net }) (c .before .before .before .before .before .before .before .before .before .args .pool .now) (c .before .before .before .before .before .before .before .before .before .pre .gave) refl))
+    (refl, w, rw (ordered (c .before)) (reached-start (c .before .before .before .before .before .before .before .before .before .args .order) (c .before .before .before .before .before .before .before .before .before .args .stream .now) (c .before .before .before .before .before .before .before .before .before .pre .pool) (record { refusal = 0; network = c .before .before .before .before .before .before .before .before .before .args .net }) (c .before .before .before .before .before .before .before .before .before .args .pool .now) (c .before .before .before .before .before .before .before .before .before .pre .gave) refl))
 
 returns : tie.Need-returns Inv-loop μ-loop
-returns c = record { stopped = c .if1 .taken; after = rw (ordered (c .before .before .before .before)) at (c .before .before .loop .inv .3) }
+returns c = record { stopped = c .if1 .taken; after = rw (ordered (c .before .before .before .before)) at (c .before .before .loop .inv .2) }
 
 part-seat-of-end : tie.Need-part-seat-of-end Inv-loop μ-loop
 part-seat-of-end c = let l = passed (c .before) .passed .room in search needs
@@ -136,11 +136,8 @@ hear-requires c κs = oldest (c .before .before .before .before .before .before 
 slice-aggregate-hear : tie.Need-slice-aggregate-hear Inv-loop μ-loop
 slice-aggregate-hear c = let l = long (c .before .before .before .before .before .before .before) in search needs
 
-slice-aggregate-hand-oldest : tie.Need-slice-aggregate-hand-oldest Inv-loop μ-loop
-slice-aggregate-hand-oldest c = let l = long (c .before .before .before .before .before .before .before .before .before .before .before .before .before .before .before .before .before) in search needs
-
-slice-aggregate-hand-oldest-2 : tie.Need-slice-aggregate-hand-oldest-2 Inv-loop μ-loop
-slice-aggregate-hand-oldest-2 c = let l = c .before .before .before .before .before .before .before .before .before .before .before .before .before .before .before .before .before .before .before .before .before .before .before .before .loop .inv .1 in search needs
+slice-aggregate-decided : tie.Need-slice-aggregate-decided Inv-loop μ-loop
+slice-aggregate-decided c = let l = long (c .before .before .before .before .before .before .before .before .before .before .before .before .before .before .before .before .before) in search needs
 
 element-copy-out-w : tie.Need-element-copy-out-w Inv-loop μ-loop
 element-copy-out-w c = omega (arith, place (c .before .before .before .before .before .before .before .before .before .before .before .before))
@@ -151,31 +148,33 @@ element-set-from-core c = omega (arith, place (c .before .before .before .before
 element-copy-out-w-2 : tie.Need-element-copy-out-w-2 Inv-loop μ-loop
 element-copy-out-w-2 c = omega (arith, place (c .before .before .before .before .before .before .before .before .before .before .before .before .before))
 
-sub-hand-oldest : tie.Need-sub-hand-oldest Inv-loop μ-loop
-sub-hand-oldest c = following (c .before .before .before .before .before .before .before .before .before .before .before .before .before .before)
+sub-decided : tie.Need-sub-decided Inv-loop μ-loop
+sub-decided c = following (c .before .before .before .before .before .before .before .before .before .before .before .before .before .before)
 
-part-hand-oldest-start : tie.Need-part-hand-oldest-start Inv-loop μ-loop
-part-hand-oldest-start c = let l = following (c .before .before .before .before .before .before .before .before .before .before .before .before .before .before .before) in search needs
+part-decided-start : tie.Need-part-decided-start Inv-loop μ-loop
+part-decided-start c = let l = following (c .before .before .before .before .before .before .before .before .before .before .before .before .before .before .before) in search needs
 
-part-hand-oldest-end : tie.Need-part-hand-oldest-end Inv-loop μ-loop
-part-hand-oldest-end c = let l = ends (c .before .before .before .before .before .before .before .before .before .before .before .before .before .before .before) in search needs
+part-decided-end : tie.Need-part-decided-end Inv-loop μ-loop
+part-decided-end c = let l = ends (c .before .before .before .before .before .before .before .before .before .before .before .before .before .before .before) in search needs
 
 -- what is known of the message once it was heard
 told : (c : tie.After-hear Inv-loop μ-loop) → Heard (oldest (c .before .before .before .before .before .before .before .before .before)) (c .hear .result .way) (c .hear .result .message) (c .hear .result .sent) (c .hear .last .1 .1 .1 .1 .0)
-told c = c .hear .ensures (oldest (c .before .before .before .before .before .before .before .before .before))
+told c = c .hear .ensures .0 (oldest (c .before .before .before .before .before .before .before .before .before))
 
 -- the whole way finds the pool as it was
 unmoved : (c : tie.After-enum-told Inv-loop μ-loop) → c .before .before .before .before .hear .last .1 .1 .1 .1 .0 ≡ c .before .before .before .before .before .before .before .before .before .before .before .before .before .before .before .before .before .before .loop .pool
 unmoved c = rw (c .enum-told .given .1) at (told (c .before .before .before .before))
 
-hand-oldest-requires : tie.Need-hand-oldest-requires Inv-loop μ-loop
-hand-oldest-requires c κs = (rw (unmoved (c .before .before .before .before .before .before)) (oldest (c .before .before .before .before .before .before .before .before .before .before .before .before .before .before .before .before .before .before .before)), omega (arith, c .before .before .before .before .before .before .before .before .before .before .before .before .before .before .before .before .before .before .before .before .before .before .before .before .loop .inv .1))
+send-on-requires : tie.Need-send-on-requires Inv-loop μ-loop
+send-on-requires c κs =
+    let p = passed (c .before .before .before .before .before .before .before .before .before .before .before .before .before .before .before .before .before .before .before .before .before .before .before .before .before .before) in
+    (p .here, p .passed .few, rw (unmoved (c .before .before .before .before .before .before .before .before .before .before)) (p .passed .room))
 
 mul-w-3 : tie.Need-mul-w-3 Inv-loop μ-loop
-mul-w-3 c = record { fits = omega (arith, place (c .before .before .before .before .before .before .before .before .before .before .before .before .before .before .before .before .before .before .before .before .before .before .before .before)) }
+mul-w-3 c = record { fits = omega (arith, place (c .before .before .before .before .before .before .before .before .before .before .before .before .before .before .before .before .before .before .before)) }
 
 element-set-from-w : tie.Need-element-set-from-w Inv-loop μ-loop
-element-set-from-w c = omega (arith, place (c .before .before .before .before .before .before .before .before .before .before .before .before .before .before .before .before .before .before .before .before .before .before .before .before))
+element-set-from-w c = omega (arith, place (c .before .before .before .before .before .before .before .before .before .before .before .before .before .before .before .before .before .before .before))
 
 -- the number of a way
 coded : (way : Way) → tagOf the-type way ≡ wayCode way
@@ -195,29 +194,28 @@ turned c =
     let l = c .before .before .before .before .before .before .before .before .before .before .before .before .before .before .before .before .before .loop in
     let q = told (c .before .before .before) in
     ⊎-elim
-    (λ w. rw (w .1, w .3, w .4) (kept-turned (l .core) k t (l .inv .2) (h .result .message) (h .result .sent) (h .last .1 .1 .1 .1 .0) (h .result .way) (rw (coded (h .result .way)) at (w .0 .keys1)) q))
+    (λ w. rw (w .1, w .2, w .3) (kept-turned (l .core) k t (l .inv .1) (h .result .message) (h .result .sent) (h .last .1 .1 .1 .1 .0) (h .result .way) (rw (coded (h .result .way)) at (w .0 .keys1)) q))
     (λ w.
     ⊎-elim
-    (λ v. rw (v .3, v .5, v .6) (changed-turned (l .core) k t (l .inv .2) (h .result .message) (h .result .sent) (h .last .1 .1 .1 .1 .0) (v .2 .result) (h .result .way) (rw (coded (h .result .way)) at (v .0 .keys2)) q (v .2 .ensures)))
+    (λ v. rw (v .3, v .4, v .5) (changed-turned (l .core) k t (l .inv .1) (h .result .message) (h .result .sent) (h .last .1 .1 .1 .1 .0) (v .2 .result) (h .result .way) (rw (coded (h .result .way)) at (v .0 .keys2)) q (v .2 .ensures)))
     (λ v.
-    rw (v .16, v .18, v .19)
+    let stays : h .last .1 .1 .1 .1 .0 ≡ l .pool = rw (v .1 .given .1) at q in
+    rw (v .15, v .16, v .17)
     (record {
-      outcome = v .8 .result;
-      handed = whole-handed t (h .last .1 .1 .1 .1 .0) (rw (v .1 .given .1) at q) (v .8 .result) (v .8 .last .1 .1 .1 .1 .0) (v .8 .ensures);
-      state = rw (v .15 .ensures);
+      outcome = record { refusal = 0; unit = v .6 .result .unit; sent = v .12 .result; records = v .6 .result .records };
+      handed = whole-handed t (h .ensures .2) (record { message = h .result .message; answer = h .result .read }) (h .ensures .1) (v .6 .result) (v .6 .ensures) (v .12 .result) (v .12 .last .1 .1 .0) (rw stays at (v .12 .ensures));
+      state = rw (v .10 .ensures);
       count = refl;
     }))
     w)
     (c .match .came)
 
--- pool and buffer are as long as they were
-lengths : (c : tie.At-match-came Inv-loop μ-loop) → (length (c .match .pool) ≡ length (c .before .before .before .before .before .before .before .before .before .before .before .before .before .before .before .before .before .before .before .before .before .before .before .before .before .before .before .args .pool .now)) × (length (c .match .out) ≡ 1024)
-lengths c =
+-- the pool is as long as it was
+long-pool : (c : tie.At-match-came Inv-loop μ-loop) → length (c .match .pool) ≡ length (c .before .before .before .before .before .before .before .before .before .before .before .before .before .before .before .before .before .before .before .before .before .before .before .before .before .before .before .args .pool .now)
+long-pool c =
     let l = c .before .before .before .before .before .before .before .before .before .before .before .before .before .before .before .before .before .loop in
     let h : length (c .before .before .before .hear .last .1 .1 .1 .1 .0) ≡ length (c .before .before .before .before .before .before .before .before .before .before .before .before .before .before .before .before .before .before .before .before .before .before .before .before .before .before .before .args .pool .now) = omega (arith, c .before .before .pool2 .given, l .inv .0) in
-    ⊎-elim (λ w. (rw (w .1) h, rw (w .2) (l .inv .1)))
-    (λ w. ⊎-elim (λ v. (rw (v .3) h, rw (v .4) (l .inv .1))) (λ v. (rw (v .16) (omega (arith, v .9 .given, h)), rw (v .17) (v .11 .given))) w)
-    (c .match .came)
+    ⊎-elim (λ w. rw (w .1) h) (λ w. ⊎-elim (λ v. rw (v .3) h) (λ v. rw (v .15) (omega (arith, v .13 .given, h))) w) (c .match .came)
 
 sub-used : tie.Need-sub-used Inv-loop μ-loop
 sub-used c = passed (c .before .before .before .before .before .before .before .before .before .before .before .before .before .before .before) .here
@@ -239,8 +237,7 @@ loop-less c = measure-falls (c .before .before .before .before .before .before .
 loop-again : tie.Need-loop-again Inv-loop μ-loop
 loop-again c =
     let t = turned (c .before .before .before) in (
-      lengths (c .before .before .before) .0,
-      lengths (c .before .before .before) .1,
+      long-pool (c .before .before .before),
       rw (t .state) (plus-words (t .outcome .records) (c .before .before .before .before .before .before .before .before .before .before .before .before .before .before .before .before .before .before .before .before .loop .core .records)),
       rw (ordered (c .before .before .before .before .before .before .before .before .before .before .before .before .before .before .before .before .before .before .before .before .before .before)) (reached-next (c .before .before .before .before .before .before .before .before .before .before .before .before .before .before .before .before .before .before .before .before .before .before .before .before .before .before .before .before .before .before .args .order) (c .before .before .before .before .before .before .before .before .before .before .before .before .before .before .before .before .before .before .before .before .before .before .before .before .before .before .before .before .before .before .args .stream .now) (c .before .before .before .before .before .before .before .before .before .before .before .before .before .before .before .before .before .before .before .before .before .before .before .before .before .before .before .before .before .before .pre .pool) (record { refusal = 0; network = c .before .before .before .before .before .before .before .before .before .before .before .before .before .before .before .before .before .before .before .before .before .before .before .before .before .before .before .before .before .before .args .net }) (c .before .before .before .before .before .before .before .before .before .before .before .before .before .before .before .before .before .before .before .before .before .before .before .before .before .before .before .before .before .before .args .pool .now) (c .before .before .before .before .before .before .before .before .before .before .before .before .before .before .before .before .before .before .before .before .before .before .before .before .before .before .before .before .before .before .pre .gave) refl (net (c .before .before .before .before .before .before .before .before .before .before .before .before .before .before .before .before .before .before)) (c .before .before .before .before .before .before .before .before .before .before .before .before .before .before .before .before .before .before .before .before .loop .pool) (reached (c .before .before .before .before .before .before .before .before .before .before .before .before .before .before .before .before .before .before)) (record { refusal = 0; network = next c }) (c .before .before .before .match .pool) (delivered c) (goes-on (c .before .before .before .before .before .before .before .before .before .before .before .before .before .before .before .before .before .before))),
     )
@@ -281,21 +278,21 @@ run-spec =
     (λ c. search needs)
     element-copy-out-w
     (λ c κs. search needs)
-    (λ c. search needs)
+    (λ c. record { fits = omega (arith, place (c .before .before .before .before .before .before .before .before .before .before .before .before .before .before)) })
     element-set-from-core
     (λ c. search needs)
     (λ c. search needs)
     element-copy-out-w-2
-    sub-hand-oldest
-    part-hand-oldest-start
-    part-hand-oldest-end
-    slice-aggregate-hand-oldest
-    slice-aggregate-hand-oldest-2
-    hand-oldest-requires
+    sub-decided
+    part-decided-start
+    part-decided-end
+    slice-aggregate-decided
+    (λ c κs. search needs)
     mul-w-3
     element-set-from-w
     (λ c. search needs)
     (λ c κs. search needs)
+    send-on-requires
     sub-used
     add-used
     (λ c κs. search needs)

@@ -23,11 +23,11 @@ arrays c = record { threshold = search needs; best = search needs; estimates = s
 
 returns : tie.Need-returns
 returns c =
-    λ t.
     let p = c .before .before .before .before .before .before .unpack in
     let w = c .before .before .before .before .way in
     let r = c .before .before .pass in
-    heard t (arrays (c .before .before .before .before .before .before .before .before .before .before .before .before)) (p .result) (p .ensures) (w .result) (w .ensures) (r .result) (r .last .1 .1 .1 .1 .1 .0) (r .ensures)
+    let sized = arrays (c .before .before .before .before .before .before .before .before .before .before .before .before) in
+    (λ t. heard t sized (p .result) (p .ensures) (w .result) (w .ensures) (r .result) (r .last .1 .1 .1 .1 .1 .0) (r .ensures), p .ensures, sized)
 
 pub hear-spec : {M : Type 1} → statement M
 hear-spec =

@@ -5,12 +5,24 @@ use native.Mathlib.Omega.{arith}
 use Rattle.message.specs.Sized.{Sized}
 use Rattle.rules.specs.Laying.{stops-laid, stops-count, back-one-laid, back-one-count}
 use borrow.Author.Needs.{needs}
-use Rattle.unit.proofs.send.hand_back.Statement.{statement}
-use Rattle.unit.proofs.send.hand_back.Tie as tie
+use Rattle.unit.proofs.sending.hand_back.Statement.{statement}
+use Rattle.unit.proofs.sending.hand_back.Tie as tie
 
 -- what the types say of the message
 sized : (c : tie.Start) → Sized (c .args .m)
 sized c = record { stamp = search needs; values = search needs; best = search needs; cost = search needs; bound = search needs }
+
+spread-requires : tie.Need-spread-requires
+spread-requires c κs =
+    let s = c .before .before .before .before .before .before in
+    let a = s .args in
+    (omega arith, omega arith, omega (arith, s .pre .1, stops-count (a .seat .n) (a .seat .own) (a .m) (a .out .now) (s .pre .0 .first) (sized s) (c .before .before .before .if1 .taken)))
+
+spread-requires-2 : tie.Need-spread-requires-2
+spread-requires-2 c κs =
+    let s = c .before .before .before .before .before in
+    let a = s .args in
+    (omega arith, omega arith, omega (arith, s .pre .1, back-one-count (a .seat .n) (a .seat .own) (a .m) (a .out .now) (s .pre .0 .first) (sized s) (c .before .before .if1 .left)))
 
 returns : tie.Need-returns
 returns c =
@@ -34,10 +46,10 @@ hand-back-spec =
     (tie.spec
     (λ c κs. search needs)
     (λ c. search needs)
-    (λ c κs. search needs)
+    spread-requires
     (λ c. search needs)
     returns
     (λ c. search needs)
-    (λ c κs. search needs)
+    spread-requires-2
     (λ c. search needs)
     returns-2)

@@ -9,8 +9,8 @@ use Rattle.message.specs.Sized.{Sized}
 use Rattle.base.specs.Put.{putAt}
 use Rattle.rules.specs.Send.{sentTo, each, encodeAll}
 use Rattle.rules.specs.Laying.{spread-none, spread-more}
-use Rattle.unit.proofs.send.spread.Statement.{statement}
-use Rattle.unit.proofs.send.spread.Tie as tie
+use Rattle.unit.proofs.sending.spread.Statement.{statement}
+use Rattle.unit.proofs.sending.spread.Tie as tie
 
 abbrev Inv-loop : tie.InvT-loop
 Inv-loop kind m lo count out₀ sent i₀ out i = (i ≤ count) × (length out ≡ length out₀) × (out ≡ putAt out₀ (64 * sent) (encodeAll (each (sentTo kind m) lo i)))

@@ -5,8 +5,8 @@ use native.Mathlib.Omega.{arith}
 use Rattle.message.specs.Sized.{Sized}
 use Rattle.rules.specs.Laying.{forward-laid, forward-count}
 use borrow.Author.Needs.{needs}
-use Rattle.unit.proofs.send.forward.Statement.{statement}
-use Rattle.unit.proofs.send.forward.Tie as tie
+use Rattle.unit.proofs.sending.forward.Statement.{statement}
+use Rattle.unit.proofs.sending.forward.Tie as tie
 
 -- what the types say of the message
 sized : (c : tie.Start) → Sized (c .args .m)
