@@ -37,7 +37,7 @@ use Rattle.runs.specs.declared.Answer.{Answer}
 use Rattle.runs.specs.Pool.{cellOf}
 use Rattle.runs.specs.Pool.Laws.{closeGap}
 use Rattle.runs.specs.Calls.{Result, deliverRefusal, receiverOf, stepFrom8, networkAfter, onOut, deliverBy, deliverOf}
-use Rattle.runs.specs.Code.{Open, opened, deliver-goes, Stepping, Stepped, passes, step-told, stepping, hand-sent, hand-refuses, hand-stores, storedAnswer, storedPool, pred-sub}
+use Rattle.runs.specs.Code.{Open, opened, deliver-goes, Stepping, Stepped, passes, step-told, stepping, hand-refuses, hand-stores, storedAnswer, storedPool, pred-sub}
 
 -- the step that trusts, lent what the stream says
 trusted-told : (order : ValueOrder) (s : List ℕ) (own : ℕ) (u : UnitState) (us : List UnitState) → unitAt us (pred own) ≡ u → Stepping order s own u → (n : ℕ) (sizes costs ahead bytes before after : List ℕ) (r : Outcome) → n ≡ unitsOf s
@@ -105,9 +105,6 @@ module _ (order : ValueOrder) (net : Network) (s pool : List ℕ) (cell : ℕ) (
         trusted-told order s own u (net .core .units) (ap (λ (k : ℕ). unitAt (net .core .units) k) (pred-sub own) ∙ sym at) (stepping order (net .core) s (checks .passed .core) n own (take m (drop (messageSize * cell) pool)) units named u at) n sizes costs ahead (take m (drop (messageSize * cell) pool))
         before out r units array lent knows fits (good .0) (good .1) told left
 
-    pub trusted-sent : r .sent ≤ 16
-    trusted-sent = hand-sent order (net .core) s (checks .passed .core) n own (take m (drop (messageSize * cell) pool)) units named u at before out r steps arrays all
-
     unrefused-step : r .refusal ≡ 0
     unrefused-step = go (eqb (r .refusal) 0) refl
       where
@@ -161,16 +158,9 @@ Handed {order} {u} {own} {n} {sizes} {costs} {ahead} {pool} {used} t r after =
 module _ {order : ValueOrder} {u : UnitState} {own n : ℕ} {sizes costs ahead pool : List ℕ} {used : ℕ} (t : Oldest order u own n sizes costs ahead pool used) (before out : List ℕ) (fits : sendingSize ≤ length before) (r : Outcome)
     (told : r ≡ outcomeOf n (pred own) u (trustedOut (seatAt order own n sizes) u costs ahead (take messageSize (drop 0 pool)) (length before)))
     (left : out ≡ bytesOf n (pred own) before (trustedOut (seatAt order own n sizes) u costs ahead (take messageSize (drop 0 pool)) (length before))) (arrays : SizedUnit u) where
-  pub oldest-open : Open order (t .net) (t .stream) pool 0
-  oldest-open = checks order (t .net) (t .stream) pool 0 (t .accepted)
-
   pub oldest-unrefused : r .refusal ≡ 0
   oldest-unrefused =
       unrefused-step order (t .net) (t .stream) pool 0 (t .accepted) n own messageSize (t .units) refl (t .named) u (t .unit) sizes costs ahead before out (t .array) (t .lent) (t .knows) fits r told left arrays (t .bytes)
-
-  pub oldest-sent : r .sent ≤ 16
-  oldest-sent =
-      trusted-sent order (t .net) (t .stream) pool 0 (t .accepted) n own messageSize (t .units) refl (t .named) u (t .unit) sizes costs ahead before out (t .array) (t .lent) (t .knows) fits r told left arrays (t .bytes)
 
   pub oldest-room : used - 1 + r .sent ≤ poolCells
   oldest-room =

@@ -3,7 +3,7 @@
 use Prim.Native.Nat.{ℕ, zero, suc, pred, _-_, _≤_, _<_}
 use native.Mathlib.Omega.{arith}
 use mathlib.Core.Path.{_≡_, refl, sym, ap, _∙_}
-use mathlib.Core.Bool.{Bool, true, false}
+use mathlib.Core.Bool.{true, false}
 use mathlib.Core.List.{[], List}
 use lib.ListN.{length}
 use borrow.Author.Tests.{lt-ltb, le-ltb}
@@ -12,10 +12,9 @@ use Rattle.base.specs.Shape.{shapeGood}
 use Rattle.base.specs.Shape.Laws.{shape-n}
 use Rattle.costs.specs.declared.Seat.{Seat}
 use Rattle.costs.specs.declared.ValueOrder.{ValueOrder}
-use Rattle.costs.specs.Instance.{View, lentView, viewFrom, knowing, viewKnowing}
+use Rattle.costs.specs.Instance.{View, lentView, viewFrom}
 use Rattle.costs.specs.Knowing.{knows-nothing}
 use Rattle.costs.specs.Lent.{lentRefusal}
-use Rattle.message.specs.declared.Message.{Message}
 use Rattle.message.specs.declared.Parsed.{Parsed}
 use Rattle.message.specs.declared.Kind.{Kind}
 use Rattle.message.specs.declared.Read.the-variants.{Good, Refused}
@@ -31,14 +30,14 @@ use Rattle.rules.specs.Step.{Decision, refused, accepted, respond}
 use Rattle.rules.specs.Send.{packets, laid}
 use Rattle.rules.specs.Laying.{Room, laid-none}
 use Rattle.rules.specs.Calls.{outcomeOf, bytesOf, seatRefusal, makeRefusal, rangeRefusal, start, unlessRefused, makeOut, stepRefusal, stepOut}
-use Rattle.rules.specs.Ready.{Shaped, decidedOf}
+use Rattle.rules.specs.Ready.{decidedOf}
 use Rattle.rules.specs.Laws.Views.{unit-range, lent-good}
 use Rattle.rules.specs.Laws.Range.{SizedUnit}
 use Rattle.rules.specs.Laws.Assign.{Whenever, GoodDecision}
 use Rattle.rules.specs.Laws.Steps.{respond-kept, start-kept}
 use Rattle.rules.specs.Laws.Calls.{Makes, Passed}
-use Rattle.rules.specs.Trusted.{canStep, canHear, respondTo, startTo}
-use Rattle.rules.specs.Laws.Trusted.{seatAt, Few, respond-few, known-shaped, respond-9, respond-on, responded, responds, starts}
+use Rattle.rules.specs.Trusted.{respondTo, startTo}
+use Rattle.rules.specs.Laws.Trusted.{seatAt, responds, starts}
 use Rattle.rules.specs.Laws.Readiness.{pred-sub}
 use Rattle.rules.specs.Laws.Refusals.{Accepts, assign-accepts}
 

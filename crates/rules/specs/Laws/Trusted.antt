@@ -1,6 +1,6 @@
--- A unit on what is known to be good: what is asked is what the deciding functions ask, it sends at most 16 packets,
--- and on what making and a step accept it is these. By the tests, and the walk through what a unit decides. Assumes nothing.
-use Prim.Native.Nat.{ℕ, suc, pred, _*_, _-_, _≤_, _<_}
+-- A unit on what is known to be good: what is asked is what the deciding functions ask, what it sends is sent where it fits,
+-- and on what making and a step accept it is these. By the tests. Assumes nothing.
+use Prim.Native.Nat.{ℕ, pred, _*_, _-_, _≤_, _<_}
 use mathlib.Core.Path.{_≡_, refl, ap, _∙_}
 use mathlib.Core.Bool.{Bool, true, false, _&&_, _||_}
 use mathlib.Core.List.{List, []}
@@ -24,17 +24,14 @@ use Rattle.message.specs.Unpack.{unpackOf}
 use Rattle.message.specs.RoundTrip.{ParsedGood, parsed-good, unpack-parsed}
 use Rattle.rules.specs.declared.Unit.{Unit as State}
 use Rattle.rules.specs.declared.Sending.{Sending}
-use Rattle.rules.specs.Step.{Decision, refused, accepted, Written, recorded, backtrack, carried, respond}
+use Rattle.rules.specs.Step.{refused, respond}
 use Rattle.rules.specs.Send.{packets}
 use Rattle.rules.specs.State.{fresh, inRange}
 use Rattle.rules.specs.Calls.{start, stepOut}
 use Rattle.rules.specs.Trusted.{canStep, canHear, respondTo, startTo, inRangeAt, onKnown, trustedOut, canSend, sendTo}
 use Rattle.rules.specs.Laying.{Placed}
-use Rattle.rules.specs.Ready.{Own, Shaped, Ready, Heard, decidedOf}
+use Rattle.rules.specs.Ready.{Own, Shaped, Ready, Heard}
 use Rattle.rules.specs.Laws.Views.{unit-range}
-use Rattle.rules.specs.Laws.Packets.{forward-few, back-few}
-use Rattle.rules.specs.Laws.Assign.{Whenever}
-use Rattle.rules.specs.Laws.Walk.{respond-by}
 use Rattle.rules.specs.Laws.Readiness.{shaped-of, ready-of, ready-fresh, heard-of}
 use Rattle.rules.specs.Laws.Calls.{Makes, Passed, not-refused}
 
@@ -101,14 +98,6 @@ module _ (seat : Seat) (costs ahead : List ℕ) (k : Kind) (u : State) (m : Mess
   unfolding respondTo
   respond-on e f = rw (e, f)
 
-  -- what is not refused could be done
-  pub responded : decidedOf u (respondTo seat costs ahead k u m) .refusal ≡ 0 → canStep (seat .own) (seat .n) (seat .sizes) u ≡ true
-  responded z = go (canStep (seat .own) (seat .n) (seat .sizes) u) refl
-    where
-      go : (t : Bool) → canStep (seat .own) (seat .n) (seat .sizes) u ≡ t → canStep (seat .own) (seat .n) (seat .sizes) u ≡ true
-      go true e = e
-      go false e = let f : decidedOf u (respondTo seat costs ahead k u m) .refusal ≡ 5 = rw (respond-5 e) in absurd (omega arith)
-
 module _ (seat : Seat) (costs ahead : List ℕ) where
   pub start-5 : canStep (seat .own) (seat .n) (seat .sizes) fresh ≡ false → startTo seat costs ahead ≡ refused 5
   unfolding startTo
@@ -145,22 +134,6 @@ module _ (seat : Seat) (s : Sending) (room : ℕ) where
 
   pub can-send : Placed seat → messageSize * length (packets (seat .n) (seat .own - 1) s) ≤ room → canSend seat s room ≡ true
   can-send p f = rw (le-leb 1 (seat .own) (p .first), le-leb (seat .own) (seat .n) (p .last), le-leb (seat .n) 16 (p .units), le-leb _ room f)
-
--- ---- at most 16 packets
-
-module _ (n : ℕ) (w : View) (units : w .n ≡ n) (below : w .place < n) where
-  abbrev pub Few : State → Sending → List Written → Type 0
-  Few u s ws = length (packets n (w .place) s) ≤ n
-
-  pub respond-few : (k : Kind) (u : State) (m : Message) → Whenever Few (respond w k u m)
-  unfolding packets backtrack
-  respond-few k u m =
-      respond-by w (λ o. Whenever Few o) (λ u. forward-few n (w .place) (carried w u) below false)
-      (λ b u l. back-few n (w .place) (carried w u) below b (λ e. eqb-true (suc (w .place)) (w .n) (l e) ∙ units)) more (λ r l. tt) (λ u. omega arith) (λ u m. omega arith) k u m
-    where
-      more : (r : Written) (o : Decision) → Whenever Few o → Whenever Few (recorded r o)
-      more r (refused x) f = tt
-      more r (accepted u s ws) f = f
 
 -- ---- on what making and a step accept
 

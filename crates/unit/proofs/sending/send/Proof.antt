@@ -1,6 +1,5 @@
 -- `send` meets its contract: nothing is sent that doesn't fit, else all is laid.
 -- Assumes nothing.
-use Prim.Native.Nat.{_-_}
 use mathlib.Core.Path.{_≡_, refl, sym, _∙_}
 use mathlib.Core.Bool.{true}
 use lib.ListN.{length}
