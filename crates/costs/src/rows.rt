@@ -7,10 +7,10 @@ use crate::known_h;
 use crate::lesser;
 use crate::place_of;
 use crate::size_of;
-use crate::value_at;
 use base::is_value;
+use base::wide;
 ghost use mathlib.Core.Path.{_≡_};
-ghost use mathlib.Core.Bool.{_&&_};
+ghost use mathlib.Core.Bool.{true, _&&_};
 ghost use mathlib.Core.List.{List};
 ghost use Prim.Native.Nat.{ℕ, suc, _+_, _*_, _≤_, _<_, min, pred};
 ghost use lib.Dec.{leb};
@@ -18,7 +18,7 @@ ghost use lib.ListN.{length, getD};
 ghost use Rattle.base.specs.Bytes.{u16At};
 ghost use Rattle.base.specs.Limits.{places};
 ghost use Rattle.costs.specs.Cost.{_⊕_, asNumber};
-ghost use Rattle.costs.specs.Instance.{viewFrom, viewKnowing};
+ghost use Rattle.costs.specs.Instance.{domIn, viewFrom, viewKnowing};
 ghost use Rattle.costs.specs.Bounds.{h, estimate};
 ghost use Rattle.costs.specs.Lent.Parts.{domFrom};
 ghost use Rattle.costs.specs.Rows.{widened, sumCost, Added, Small, Sums, unitRow, paidNumber};
@@ -101,15 +101,27 @@ pub(crate) fn prefix_sums(seat: Seat, costs: &[u8], values: [u8; 16], k: usize, 
     let d = size_of(seat, place_of(seat));
     let most = at_most_16(d);
     put_unaries(sums, costs, most);
+    let sizes = seat.sizes;
     let mut at = 2 * d;
     let mut j = 0;
     while j < k {
-        let e = size_of(seat, j);
-        let u = value_at(values, j);
+        let e = size_in(&sizes, seat.n, j);
+        let u = wide(values[j]);
         add_unit(sums, costs, at, d, e, u, most);
         at += 2 * (d * e);
         j += 1;
     }
+}
+
+// The size of the unit at place b, of these sizes of n units; 0 where there is no such unit.
+fn size_in(sizes: &[u8], n: u8, b: usize) -> usize
+    requires { ⌜ b < length (now sizes) ⌝ }
+    ensures { λ r. ⌜ (r ≡ domIn n (now (sizes .entry)) b) × (r ≤ 255) ⌝ }
+{
+    if wide(n) <= b {
+        return 0;
+    }
+    wide(sizes[b])
 }
 
 // A number, 16 at most.
@@ -127,9 +139,10 @@ fn put_unaries(sums: &mut [u32], costs: &[u8], most: usize)
     requires { ⌜ (most ≤ length (now sums)) × (most ≤ places) ⌝ }
     ensures { λ r. ⌜ ((i : ℕ) → i < most → getD (now (sums .exit)) i 0 ≡ u16At (now (costs .entry)) (2 * i)) ⌝ }
 {
+    let there = are_there(costs, 2 * most);
     let mut i = 0;
     while i < most {
-        sums[i] = base::u16_at(costs, 2 * i);
+        sums[i] = number_at(costs, 2 * i, there);
         i += 1;
     }
 }
@@ -150,11 +163,30 @@ fn add_row(sums: &mut [u32], costs: &[u8], at: usize, most: usize)
     requires { ⌜ (most ≤ length (now sums)) × Small most (now sums) × (most ≤ places) × (at ≤ 33554432) ⌝ }
     ensures { λ r. ⌜ Added most (λ (i : ℕ). widened (u16At (now (costs .entry)) (at + 2 * i))) (now (sums .entry)) (now (sums .exit)) ⌝ }
 {
+    let there = are_there(costs, at + 2 * most);
     let mut i = 0;
     while i < most {
-        sums[i] = sums[i] + in_sum(base::u16_at(costs, at + 2 * i));
+        sums[i] = sums[i] + in_sum(number_at(costs, at + 2 * i, there));
         i += 1;
     }
+}
+
+// Whether the bytes before `end` are there.
+fn are_there(costs: &[u8], end: usize) -> bool
+    ensures { λ r. ⌜ r ≡ leb end (length (now (costs .entry))) ⌝ }
+{
+    end <= costs.len()
+}
+
+// The 16-bit number at byte k; bytes past the end count as 0. Where it is known to be there it is read without a test.
+fn number_at(costs: &[u8], k: usize, there: bool) -> u32
+    requires { ⌜ (there ≡ true → k + 1 < length (now costs)) ⌝ }
+    ensures { λ r. ⌜ (r ≡ u16At (now (costs .entry)) k) × (r < 65536) ⌝ }
+{
+    if there {
+        return base::wide_u32(costs[k]) + 256 * base::wide_u32(costs[k + 1]);
+    }
+    base::u16_at(costs, k)
 }
 
 // A cost of 16 bits as it is added.

@@ -15,11 +15,11 @@ use Rattle.costs.proofs.rows.prefix_sums.Statement.{statement}
 use Rattle.costs.proofs.rows.prefix_sums.Tie as tie
 
 abbrev Inv-loop : tie.InvT-loop
-Inv-loop seat costs values k sums₀ d most at₀ j₀ sums at j =
+Inv-loop seat costs k sums₀ values d most sizes at₀ j₀ sums at j =
     (j ≤ k) × (length sums ≡ length sums₀) × (at ≡ 2 * (d + d * othersBefore seat j)) × (othersBefore seat j ≤ 255 * j) × Sums (viewFrom seat costs) values j sums
 
 abbrev μ-loop : tie.MeasureT-loop
-μ-loop seat costs values k sums₀ d most at₀ j₀ sums at j = k - j
+μ-loop seat costs k sums₀ values d most sizes at₀ j₀ sums at j = k - j
 
 -- how many values there are of the first 16, and that these are all that is asked for
 few : (c : tie.After-at-most-16 Inv-loop μ-loop) → c .at-most-16 .result ≤ 16
@@ -39,64 +39,66 @@ put-unaries-requires c κs = let s = c .before .before .before .before .before .
 
 loop-holds : tie.Need-loop-holds Inv-loop μ-loop
 loop-holds c =
-    let u = c .before .before in
+    let u = c .before .before .before in
     let s = u .before .before in
     let a = s .before .before .before .before .before .args in
-    (omega arith, search needs, omega arith, omega arith, sums-none (a .seat) (a .costs .now) (a .values) (u .put-unaries .last .0) (all-bytes s) (λ i l b. u .put-unaries .ensures i (within s i l (omega (arith, b, own-size s)))))
+    (omega arith, search needs, omega arith, omega arith, sums-none (a .seat) (a .costs .now) (a .t3) (u .put-unaries .last .0) (all-bytes s) (λ i l b. u .put-unaries .ensures i (within s i l (omega (arith, b, own-size s)))))
 
 -- a turn of the loop: where it stands, and that nothing is large
-module _ (c : tie.After-value-at Inv-loop μ-loop) where
-  below : c .before .before .before .loop .j < c .before .before .before .before .before .before .before .before .before .before .before .before .before .args .k
-  below = c .before .before .loop-test .taken
+module _ (c : tie.After-wide Inv-loop μ-loop) where
+  below : c .before .before .before .before .loop .j < c .before .before .before .before .before .before .before .before .before .before .before .before .before .before .before .args .k
+  below = c .before .before .before .loop-test .taken
 
-  products : (c .before .before .before .before .before .before .before .before .before .size-of .result * othersBefore (c .before .before .before .before .before .before .before .before .before .before .before .before .before .args .seat) (c .before .before .before .loop .j) ≤ 255 * 4080)
-      × (c .before .before .before .before .before .before .before .before .before .size-of .result * c .before .size-of2 .result ≤ 255 * 255)
+  products : (c .before .before .before .before .before .before .before .before .before .before .before .size-of .result * othersBefore (c .before .before .before .before .before .before .before .before .before .before .before .before .before .before .before .args .seat) (c .before .before .before .before .loop .j) ≤ 255 * 4080) × (c .before .before .before .before .before .before .before .before .before .before .before .size-of .result * c .before .size-in .result ≤ 255 * 255)
   products =
-      let s = c .before .before .before .before .before .before .before .before .before .before .before .before .before in
-      let l = c .before .before .before .loop in
+      let s = c .before .before .before .before .before .before .before .before .before .before .before .before .before .before .before in
+      let l = c .before .before .before .before .loop in
       let most : othersBefore (s .args .seat) (l .j) ≤ 4080 = omega (arith, l .inv .3, below, s .pre .1) in
-      (mul-le-mul (c .before .before .before .before .before .before .before .before .before .size-of .ensures .1) most, mul-le-mul (c .before .before .before .before .before .before .before .before .before .size-of .ensures .1) (c .before .size-of2 .ensures .1))
+      (mul-le-mul (c .before .before .before .before .before .before .before .before .before .before .before .size-of .ensures .1) most, mul-le-mul (c .before .before .before .before .before .before .before .before .before .before .before .size-of .ensures .1) (c .before .size-in .ensures .1))
 
-  near : c .before .before .before .loop .at ≤ 2081310
-  near = omega (arith, c .before .before .before .loop .inv .2, products .0, c .before .before .before .before .before .before .before .before .before .size-of .ensures .1)
+  near : c .before .before .before .before .loop .at ≤ 2081310
+  near = omega (arith, c .before .before .before .before .loop .inv .2, products .0, c .before .before .before .before .before .before .before .before .before .before .before .size-of .ensures .1)
+
+size-in-requires : tie.Need-size-in-requires Inv-loop μ-loop
+size-in-requires c κs = let s = c .before .before .before .before .before .before .before .before .before .before .before .before .before in let h : length (s .args .seat .sizes) ≡ 16 = search needs in omega (arith, h, c .before .loop-test .taken, s .pre .1)
 
 add-unit-requires : tie.Need-add-unit-requires Inv-loop μ-loop
 add-unit-requires c κs =
     let v = c .before in
-    let m = v .before .before .before .before .before .before .before .before in
+    let m = v .before .before .before .before .before .before .before .before .before .before in
     let s = m .before .before .before .before .before in
-    let l = v .before .before .before .loop in (
-      omega (arith, l .inv .1, few m, s .pre .2, v .before .before .before .before .before .sums .given),
-      λ i b. let i16 : i < 16 = omega (arith, b, few m) in let own : i < m .before .size-of .result = omega (arith, b, m .at-most-16 .ensures) in omega (arith, l .inv .4 i i16 (omega (arith, own, own-size m, dom-is (s .args .seat) (s .args .costs .now) (s .args .values))) .fits, below v, s .pre .1),
+    let l = v .before .before .before .before .loop in (
+      omega (arith, l .inv .1, few m, s .pre .2, v .before .before .before .before .before .before .before .sums .given),
+      λ i b. let i16 : i < 16 = omega (arith, b, few m) in let own : i < m .before .size-of .result = omega (arith, b, m .at-most-16 .ensures) in omega (arith, l .inv .4 i i16 (omega (arith, own, own-size m, dom-is (s .args .seat) (s .args .costs .now) (s .args .t3))) .fits, below v, s .pre .1),
       few m,
       omega (arith, near v),
       m .before .size-of .ensures .1,
-      c .before .value-at .ensures .1,
+      omega (arith, v .wide .ensures .1),
     )
 
 loop-again : tie.Need-loop-again Inv-loop μ-loop
 loop-again c =
     let v = c .before .before .before .before in
-    let m = v .before .before .before .before .before .before .before .before in
+    let m = v .before .before .before .before .before .before .before .before .before .before in
     let s = m .before .before .before .before .before in
     let a = s .args in
-    let l = v .before .before .before .loop in
+    let l = v .before .before .before .before .loop in
     let j-below : l .j < pred (a .seat .own) = omega (arith, below v, s .pre .0) in
     let j-few : l .j ≤ 16 = omega (arith, below v, s .pre .1) in
     let added = c .before .before .add-unit .ensures in
     let others = others-earlier (a .seat) (l .j) j-below in
-    let e : v .before .size-of2 .result ≡ domFrom (a .seat) (l .j) = v .before .size-of2 .ensures .0 in
-    let product : m .before .size-of .result * (othersBefore (a .seat) (l .j) + v .before .size-of2 .result) ≡ m .before .size-of .result * othersBefore (a .seat) (l .j) + m .before .size-of .result * v .before .size-of2 .result =
-    mul-add (m .before .size-of .result) (othersBefore (a .seat) (l .j)) (v .before .size-of2 .result) in (
+    let e : v .before .size-in .result ≡ domFrom (a .seat) (l .j) = v .before .size-in .ensures .0 in
+    let product : m .before .size-of .result * (othersBefore (a .seat) (l .j) + v .before .size-in .result) ≡ m .before .size-of .result * othersBefore (a .seat) (l .j) + m .before .size-of .result * v .before .size-in .result =
+    mul-add (m .before .size-of .result) (othersBefore (a .seat) (l .j)) (v .before .size-in .result) in (
       omega (arith, below v),
       added .long ∙ l .inv .1,
       rw (others, ← e) (omega (arith, product, l .inv .2)),
-      omega (arith, others, e, l .inv .3, v .before .size-of2 .ensures .1),
-      sums-more (a .seat) (a .costs .now) (a .values) (l .j) j-few j-below (all-bytes m) (l .sums) _ (l .inv .4) (m .before .size-of .result) (l .at) (v .before .size-of2 .result) (v .value-at .result) (m .at-most-16 .result) (own-size m) (l .inv .2) e (v .value-at .ensures .0) (within m) added,
+      omega (arith, others, e, l .inv .3, v .before .size-in .ensures .1),
+      sums-more (a .seat) (a .costs .now) (a .t3) (l .j) j-few j-below (all-bytes m) (l .sums) _ (l .inv .4) (m .before .size-of .result) (l .at) (v .before .size-in .result) (v .wide .result) (m .at-most-16 .result) (own-size m) (l .inv .2) e (v .wide .ensures .0) (within m) added,
     )
 
 returns : tie.Need-returns Inv-loop μ-loop
-returns c = let l = c .before .loop in let e : l .j ≡ c .before .before .before .before .before .before .before .before .before .before .before .args .k = omega arith in rw e at (l .inv .4)
+returns c = let l = c .before .loop in let e : l .j ≡ c .before .before .before .before .before .before .before .before .before .before .before .before .args .k = omega arith in rw e at (l .inv .4)
 
 pub prefix-sums-spec : {M : Type 1} → statement M
 prefix-sums-spec =
@@ -110,7 +112,9 @@ prefix-sums-spec =
     put-unaries-requires
     (λ c. search needs)
     loop-holds
-    (λ c κs. search needs)
+    (λ c. search needs)
+    size-in-requires
+    (λ c. omega (arith, c .before .before .loop-test .taken, c .before .before .before .before .before .before .before .before .before .before .before .before .before .before .pre .1))
     (λ c κs. search needs)
     add-unit-requires
     (λ c. record { fits = omega (arith, products (c .before .before .before .before)) })
