@@ -18,6 +18,7 @@ pub mod linked;
 pub mod maxcsp;
 pub mod order;
 pub mod plot;
+pub mod radio;
 pub mod random;
 pub mod recorded;
 pub mod reference;
