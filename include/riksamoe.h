@@ -52,6 +52,7 @@
  *   riksamoe_to_form_one              2,304
  *   riksamoe_to_form_two              2,304
  *   riksamoe_readings_stream            256
+ *   riksamoe_tiny_stream                256
  *   riksamoe_units                      256
  *   riksamoe_sizes                      256
  *   riksamoe_costs                    1,024
@@ -97,7 +98,7 @@
 extern "C" {
 #endif
 
-#define RIKSAMOE_VERSION 10        /* raised where a call, a struct or a promise below changes */
+#define RIKSAMOE_VERSION 11        /* raised where a call, a struct or a promise below changes */
 
 #define RIKSAMOE_UNITS 16          /* places in every array: unit k's is k - 1 */
 #define RIKSAMOE_NONE 4294967295u  /* the bound *none*; the estimate of a unit that has no value left */
@@ -139,6 +140,7 @@ enum {
     RIKSAMOE_TOO_MANY = 16,       /* more than 1,048,576 assignments (riksamoe_search only) */
     RIKSAMOE_BAD_READING = 17,    /* a reading not 100 to 400 */
     RIKSAMOE_HAS_UNARY = 18,      /* a table with a unary cost above 0 has no form one */
+    RIKSAMOE_NO_SUCH_TABLE = 21,  /* a tiny table's number past the last, or a unit count other than 2 or 3 */
     RIKSAMOE_ODD_LIST = 22        /* a list of cells to replay of odd length */
 };
 
@@ -270,6 +272,12 @@ riksamoe_length_t riksamoe_to_form_two(const uint8_t *file, size_t length, uint8
  * Proved: riksamoe_table_write and riksamoe_network_make accept it. */
 riksamoe_length_t riksamoe_readings_stream(uint8_t n, riksamoe_sizes_t sizes, const uint8_t *readings, size_t length, uint8_t *stream,
                                            size_t room);
+
+/* The stream, in form one, of a tiny table: n units, 2 or 3, of two values each, every pair cost 0 or 1. There are 16 of two units and 4,096 of
+ * three; `number` counts them from 0: it is the table's list of pair costs read as a binary number, the first cost as the top digit. To the front of
+ * `stream` (lend RIKSAMOE_STREAM bytes): 21, 13. Proved: each such table comes once, and the network, riksamoe_search and
+ * riksamoe_branch_and_bound give the same total of it. */
+riksamoe_length_t riksamoe_tiny_stream(uint8_t n, uint32_t number, uint8_t *stream, size_t room);
 
 /* How many units a stream says there are, 0 where it is too short to say. It is not checked. */
 uint8_t riksamoe_units(const uint8_t *stream, size_t length);

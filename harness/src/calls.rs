@@ -6,7 +6,7 @@ use crate::reference::order::ValueOrder::{self, Ascending, CheapestFirst};
 use crate::reference::slots::{self, Shed, Slot};
 use crate::reference::table::Form;
 use crate::reference::unit::{self, Unit};
-use crate::reference::{checksum, convert, costs, readings, search, table, Places, Refusal};
+use crate::reference::{checksum, convert, costs, readings, search, table, tiny, Places, Refusal};
 
 /// Those that try values do so in one order.
 #[derive(Clone, Copy, PartialEq, Eq, Debug)]
@@ -18,6 +18,7 @@ pub enum Call {
     ToFormTwo,
     ToFormOne,
     Readings,
+    Tiny,
     Lent,
     Parse,
     Encode,
@@ -53,7 +54,7 @@ const REPLAY_SLOTS: &[u8] = &[22, 13, 5, 6, 7, 12, 15, 8, 10, 9, 11];
 pub const NUMBERS: usize = 23;
 
 /// Each call, its name in the Rattle code with the order in which it tries values, and the refusals it can give.
-pub const CALLS: [(Call, &str, &[u8]); 36] = [
+pub const CALLS: [(Call, &str, &[u8]); 37] = [
     (Call::Sum, "checksum::sum", &[]),
     (Call::Block, "table::read_block", &[1, 4, 2, 3]),
     (Call::Read, "table::read", &[13, 1, 4, 2, 3, 5, 6, 7]),
@@ -61,6 +62,7 @@ pub const CALLS: [(Call, &str, &[u8]); 36] = [
     (Call::ToFormTwo, "table::convert to form two", &[1, 4, 2, 3, 5, 6, 7, 13]),
     (Call::ToFormOne, "table::convert to form one", &[1, 4, 2, 3, 5, 6, 7, 13, 18]),
     (Call::Readings, "readings::write_stream", &[5, 6, 17, 13]),
+    (Call::Tiny, "tiny::write_stream", &[21, 13]),
     (Call::Lent, "table::units_of, costs::sizes_of and costs::gather", &[5, 10, 6, 7, 13]),
     (Call::Parse, "message::parse", &[5, 8, 10, 9]),
     (Call::Encode, "message::write", &[5, 10, 9, 13]),
@@ -133,6 +135,7 @@ pub enum Input {
     Write { stream: Vec<u8>, file: Vec<u8> },
     Convert { file: Vec<u8>, wanted: Form, out: Vec<u8> },
     Readings { n: u8, sizes: Places, readings: Vec<u8>, stream: Vec<u8> },
+    Tiny { units: u8, number: u32, stream: Vec<u8> },
     Lent { stream: Vec<u8>, own: u8, out: Vec<u8> },
     Parse { n: u8, sizes: Places, packet: Vec<u8> },
     Encode { n: u8, sizes: Places, kind: u8, message: Message, out: Vec<u8> },
@@ -274,6 +277,9 @@ pub fn reference(input: Input) -> Outcome {
         Input::Convert { file, wanted, mut out } => length_outcome(convert::convert(&file, wanted, &mut out), out),
         Input::Readings { n, sizes, readings, mut stream } => {
             length_outcome(readings::write_stream(n, &sizes, &readings, &mut stream), stream)
+        }
+        Input::Tiny { units, number, mut stream } => {
+            length_outcome(tiny::write_stream(units, number, &mut stream), stream)
         }
         Input::Lent { stream, own, mut out } => {
             let answer = costs::gather(&stream, own, &mut out);

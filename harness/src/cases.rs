@@ -1,6 +1,6 @@
 //! What an input comes to beside the refusals: the cases of echoes (02's job 2), of forbidden pairs (its job 3), of the pool of slots (its job
-//! 4), of branch and bound (its job 6), of unary costs (its job 7), of the order of values (its job 9) and of replays (its job 14), each of which
-//! generated inputs must come to; then what they look at: an input's costs, and a unit's step.
+//! 4), of branch and bound (its job 6), of unary costs (its job 7), of the order of values (its job 9), of tiny tables (its job 13) and of replays (its
+//! job 14), each of which generated inputs must come to; then what they look at: an input's costs, and a unit's step.
 
 use crate::calls::{order_of, Call, Input, Named, Outcome};
 use crate::reference::costs::{self, View};
@@ -10,7 +10,7 @@ use crate::reference::table::{self, Form};
 use crate::reference::unit::{self, Unit};
 use crate::reference::Places;
 use crate::replay::{self, Replayed};
-use crate::{bound, echo, forbidden, order, slots, unary};
+use crate::{bound, echo, forbidden, order, slots, tiny, unary};
 use std::fmt;
 
 #[derive(Clone, Copy, PartialEq, Eq)]
@@ -21,6 +21,7 @@ pub enum Case {
     Order(order::Case),
     Slots(slots::Case),
     Bound(bound::Case),
+    Tiny(tiny::Case),
     Replay(replay::Case),
 }
 
@@ -33,6 +34,7 @@ impl fmt::Display for Case {
             Case::Order(case) => write!(out, "{case:?}"),
             Case::Slots(case) => write!(out, "{case:?}"),
             Case::Bound(case) => write!(out, "{case:?}"),
+            Case::Tiny(case) => write!(out, "{case:?}"),
             Case::Replay(case) => write!(out, "{case:?}"),
         }
     }
@@ -46,8 +48,9 @@ pub fn cases(call: Call) -> Vec<Case> {
     let echo = echo::cases(call).into_iter().map(Case::Echo);
     let slots = slots::cases(call).into_iter().map(Case::Slots);
     let bound = bound::cases(call).into_iter().map(Case::Bound);
+    let tiny = tiny::cases(call).into_iter().map(Case::Tiny);
     let replay = replay::cases(call).into_iter().map(Case::Replay);
-    forbidden.chain(unary).chain(order).chain(echo).chain(slots).chain(bound).chain(replay).collect()
+    forbidden.chain(unary).chain(order).chain(echo).chain(slots).chain(bound).chain(tiny).chain(replay).collect()
 }
 
 /// The cases that an input came to; the outcome is the reference's.
@@ -61,6 +64,7 @@ pub fn reached(call: Call, input: &Input, outcome: &Outcome) -> Vec<Case> {
         Case::Order(case) => order::came_to(*case, input, outcome),
         Case::Slots(case) => slots::came_to(*case, input, outcome),
         Case::Bound(case) => bound::came_to(*case, input, outcome),
+        Case::Tiny(case) => tiny::came_to(*case, input, outcome),
         Case::Replay(case) => replayed.as_ref().is_some_and(|replayed| replayed.came_to(*case)),
     });
     cases

@@ -17,7 +17,7 @@ use crate::reference::order::ValueOrder;
 use crate::reference::slots::Slot;
 use crate::reference::table::Form;
 use crate::reference::unit::Unit;
-use crate::reference::{cost_limit, table, Places, MAX_ESTIMATE, MAX_TOTAL, NONE};
+use crate::reference::{cost_limit, table, tiny, Places, MAX_ESTIMATE, MAX_TOTAL, NONE};
 use crate::sample;
 use runs::{ran, Ran};
 use tables::{damage_cost, damage_file, damage_stream, dearest, file, past_limit, sizes, some_stream, stream};
@@ -686,6 +686,23 @@ fn readings_stream(random: &mut Random) -> Input {
     Input::Readings { n, sizes, readings, stream }
 }
 
+/// Two or three units at most times, and a number that one of the two has, an end of theirs or any.
+fn tiny_stream(random: &mut Random) -> Input {
+    let any = random.byte();
+    let units = *random.pick(&[2, 2, 2, 2, 3, 3, 3, 3, 3, 0, 1, 4, 16, 130, any]);
+    let tables = tiny::tables(units).unwrap_or(4_096);
+    let number = match random.below(12) {
+        0 => 0,
+        1 => tables - 1,
+        2 => tables,
+        3 => random.below(4_200) as u32,
+        4 => random.word() as u32,
+        5 => u32::MAX,
+        _ => random.below(tables.into()) as u32,
+    };
+    Input::Tiny { units, number, stream: buffer(random, table::MAX_STREAM) }
+}
+
 fn block(random: &mut Random) -> Input {
     let mut file = table::file_of(&stream(random));
     let mut expected = random.below(file.len() as u64 / 512) as u16;
@@ -725,6 +742,7 @@ pub fn input(random: &mut Random, call: Call) -> Input {
         Call::ToFormTwo => convert(random, Form::Two),
         Call::ToFormOne => convert(random, Form::One),
         Call::Readings => readings_stream(random),
+        Call::Tiny => tiny_stream(random),
         Call::Lent => lent(random),
         Call::Parse => {
             let stream = stream(random);

@@ -136,6 +136,7 @@ extern "C" {
         stream: *mut u8,
         room: usize,
     ) -> Length;
+    fn riksamoe_tiny_stream(units: u8, number: u32, stream: *mut u8, room: usize) -> Length;
     fn riksamoe_units(stream: *const u8, length: usize) -> u8;
     fn riksamoe_sizes(stream: *const u8, length: usize) -> Sizes;
     fn riksamoe_costs(stream: *const u8, length: usize, own: u8, out: *mut u8, room: usize) -> Length;
@@ -364,6 +365,10 @@ pub fn readings_stream(n: u8, sizes: &Places, readings: &[u8], stream: &mut [u8]
     let sizes = Sizes { places: *sizes };
     let (stream, room) = (stream.as_mut_ptr(), stream.len());
     unsafe { riksamoe_readings_stream(n, sizes, readings.as_ptr(), readings.len(), stream, room) }
+}
+
+pub fn tiny_stream(units: u8, number: u32, stream: &mut [u8]) -> Length {
+    unsafe { riksamoe_tiny_stream(units, number, stream.as_mut_ptr(), stream.len()) }
 }
 
 pub fn units(stream: &[u8]) -> u8 {
@@ -683,6 +688,7 @@ pub fn linked(input: Input) -> Outcome {
         Input::Readings { n, sizes, readings, mut stream } => {
             length_outcome(readings_stream(n, &sizes, &readings, &mut stream), stream)
         }
+        Input::Tiny { units, number, mut stream } => length_outcome(tiny_stream(units, number, &mut stream), stream),
         Input::Lent { stream, own, mut out } => {
             let answer = costs(&stream, own, &mut out);
             lent_outcome(units(&stream), &sizes(&stream), length_outcome(answer, out))

@@ -100,7 +100,7 @@ pub fn cases(call: Call) -> Vec<Case> {
             let refused = [UnaryAbove, NeverForbidden, NoCount, CutSizes, RoomFirst, HighByte, LastCost];
             [&refused[..], &file, &converter, &[ZeroUnary]].concat()
         }
-        Call::Readings => vec![RoomForFormOne],
+        Call::Readings | Call::Tiny => vec![RoomForFormOne],
         Call::Lent => [&table[..], &[FormOne, Largest]].concat(),
         Call::Parse | Call::Encode => [&limits[..], &[PrefixAbove]].concat(),
         Call::Make(_) => [&costs[..], &[UnaryMissing, Largest, FirstPays, LeastOfOne]].concat(),

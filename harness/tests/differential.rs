@@ -10,7 +10,7 @@ use harness::reference::order::ValueOrder::{self, Ascending, CheapestFirst};
 use harness::reference::slots::{self, Slot};
 use harness::reference::table::{self, Form};
 use harness::reference::unit::{self, Unit};
-use harness::reference::{convert, message, search, Places, NONE};
+use harness::reference::{convert, message, search, tiny, Places, NONE};
 
 #[test]
 fn equal_implementations_agree() {
@@ -877,4 +877,33 @@ fn the_second_checked_first_is_found() {
     };
     let found = compare(Call::Newer, 20_000, 1, turned).difference.expect("a difference");
     assert!(describe(&found).contains("refusal "));
+}
+
+/// 02's job 13 with the first cost as the lowest digit: the digits the other way round.
+#[test]
+fn the_first_cost_as_the_lowest_digit_is_found() {
+    let turned = |input: Input| {
+        let Input::Tiny { units, number, stream } = input else { unreachable!("a tiny table") };
+        let tables = tiny::tables(units).unwrap_or(0);
+        let turned = if number < tables { number.reverse_bits() >> (tables.leading_zeros() + 1) } else { number };
+        calls::reference(Input::Tiny { units, number: turned, stream })
+    };
+    let found = compare(Call::Tiny, 20_000, 1, turned).difference.expect("a difference");
+    assert_eq!((found.reference.refusal, found.other.refusal), (0, 0));
+    assert!(describe(&found).contains("byte "));
+}
+
+#[test]
+fn room_looked_at_before_a_tiny_tables_number_is_found() {
+    let room_first = |input: Input| {
+        let Input::Tiny { stream, .. } = &input else { unreachable!("a tiny table") };
+        let short = stream.len() < table::MAX_STREAM;
+        let mut outcome = calls::reference(input);
+        if outcome.refusal == 21 && short {
+            outcome.refusal = 13;
+        }
+        outcome
+    };
+    let found = compare(Call::Tiny, 20_000, 1, room_first).difference.expect("a difference");
+    assert!(describe(&found).contains("refusal 21 by the reference, 13 by the other"));
 }

@@ -25,6 +25,7 @@ ghost use Rattle.table.specs.File.{readOf, readInto, storeOf, storeInto};
 ghost use Rattle.table.specs.declared.Form.the-variants.{One, Two};
 ghost use Rattle.table.specs.Form.{convertOf, convertInto};
 ghost use Rattle.readings.specs.Readings.{tableOf, tableInto};
+ghost use Rattle.tiny.specs.Tiny.{tinyOf, tinyInto};
 ghost use Rattle.costs.specs.Gather.{sizesIn, gatherOf, gatherInto};
 ghost use Rattle.costs.specs.Order.{defaultOrder};
 ghost use Rattle.message.specs.Message.{kindOf};
@@ -166,6 +167,14 @@ pub extern "C" fn riksamoe_readings_stream(
 {
     let places = sizes.places;
     readings::write_stream(n, places, readings, stream)
+}
+
+// The stream of a tiny table, by its number.
+#[no_mangle]
+pub extern "C" fn riksamoe_tiny_stream(n: u8, number: u32, stream: &mut [u8]) -> Length
+    ensures { λ r. ⌜ (r ≡ tinyOf n number (length (now (stream .entry)))) × (now (stream .exit) ≡ tinyInto n number (now (stream .entry))) ⌝ }
+{
+    tiny::write_stream(n, number, stream)
 }
 
 // ---- what a unit is lent, out of a stream

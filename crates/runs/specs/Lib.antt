@@ -11,6 +11,7 @@ pub mod Proof
 pub mod Theorem
 pub mod Echo
 pub mod Lending
+pub mod Made
 pub mod Settle
 pub mod Code
 pub mod Trusted

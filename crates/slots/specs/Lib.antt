@@ -7,6 +7,7 @@ pub mod Bytes
 pub mod Calls
 pub mod Demand3
 pub mod Checks
+pub mod Made
 pub mod Settle
 pub mod Placing
 pub mod Code

@@ -24,7 +24,7 @@ use Rattle.slots.specs.Bytes.{isEmpty}
 use Rattle.slots.specs.Calls.{Result, makeOf, lentRefusal, deliverOf}
 use Rattle.slots.specs.Run.{run}
 use Rattle.slots.specs.Checks.{lent-passes}
-use Rattle.slots.specs.Demand3.{Shed, shedMade, shedAfter, runBytes, refusalAt, delivery, Made, over}
+use Rattle.slots.specs.Demand3.{Shed, shedOf, shedMade, shedAfter, runBytes, refusalAt, delivery, Made, over}
 use Rattle.slots.specs.Placing.{not-empty, empty-used}
 use Rattle.slots.specs.Settle.{firstFrom, lowest, lowestCells, settled, unlessUnmade, settleOf}
 use Rattle.slots.specs.Theorem.{ok, invariant, one-counted, stopped-stays, served}
@@ -124,6 +124,14 @@ module _ (order : ValueOrder) (s pool : List ℕ) (made : Made order s pool) whe
     pub settles-stopped : over S ≡ true → settleOf order s pool ≡ settled S
     unfolding settleOf runBytes
     settles-stopped st = ap (λ r. unlessUnmade order r s pool) made ∙ ap settled (E.after-all (delivery order s) start over countOf choose (most (instanceOf s)) promise cells (one-more order s start) accepts S a st)
+
+  -- the network that is handed back has come to its end
+  pub settle-ends : over (shedOf (settleOf order s pool)) ≡ true
+  unfolding settleOf runBytes
+  settle-ends =
+      ap (λ r. over (shedOf (unlessUnmade order r s pool))) made
+      ∙ E.rule-ends (delivery order s) start over countOf choose (most (instanceOf s)) promise cells (one-more order s start) accepts
+      (λ cs h. let v = served order s pool made cs in v .ends (sym (v .deliveries) ∙ h))
 
 -- ---- the turns of the loop that does it
 
