@@ -15,7 +15,7 @@ use harness::reference::network::{self, Network};
 use harness::reference::order::ValueOrder;
 use harness::reference::table::{self, Form};
 use harness::reference::unit::{self, Unit};
-use harness::reference::{convert, costs, readings, search, slots, Places};
+use harness::reference::{convert, costs, readings, search, slots, tiny, Places};
 use harness::{generate, recorded, sample, tuned};
 use std::cell::RefCell;
 use std::hint::black_box;
@@ -41,6 +41,7 @@ trait Library {
     fn table_write(&self, stream: &[u8], file: &mut [u8]) -> u64;
     fn convert(&self, file: &[u8], wanted: Form, out: &mut [u8]) -> u64;
     fn readings_stream(&self, n: u8, sizes: &Places, readings: &[u8], stream: &mut [u8]) -> u64;
+    fn tiny_stream(&self, units: u8, number: u32, stream: &mut [u8]) -> u64;
     fn message_parse(&self, n: u8, sizes: &Places, packets: &[[u8; 64]]) -> u64;
     fn message_write(&self, n: u8, sizes: &Places, messages: &[(u8, Message)], out: &mut [u8]) -> u64;
     fn search(&self, stream: &[u8]) -> u64;
@@ -124,6 +125,10 @@ impl Library for Yardstick {
 
     fn readings_stream(&self, n: u8, sizes: &Places, readings: &[u8], stream: &mut [u8]) -> u64 {
         u64::from(black_box(readings::write_stream(n, sizes, readings, stream)).is_ok())
+    }
+
+    fn tiny_stream(&self, units: u8, number: u32, stream: &mut [u8]) -> u64 {
+        u64::from(black_box(tiny::write_stream(units, number, stream)).is_ok())
     }
 
     fn message_parse(&self, n: u8, sizes: &Places, packets: &[[u8; 64]]) -> u64 {
@@ -225,6 +230,10 @@ impl Library for Rattle {
 
     fn readings_stream(&self, n: u8, sizes: &Places, readings: &[u8], stream: &mut [u8]) -> u64 {
         u64::from(linked::readings_stream(n, sizes, readings, stream).refusal == 0)
+    }
+
+    fn tiny_stream(&self, units: u8, number: u32, stream: &mut [u8]) -> u64 {
+        u64::from(linked::tiny_stream(units, number, stream).refusal == 0)
     }
 
     fn message_parse(&self, n: u8, sizes: &Places, packets: &[[u8; 64]]) -> u64 {
@@ -419,12 +428,17 @@ fn other_rows() -> Vec<Row> {
     let messages: Vec<(u8, Message)> = (0..64).map(|_| generate::message(&mut random, 16, &sizes)).collect();
     let packets: Vec<[u8; 64]> = messages.iter().map(|(kind, m)| message::encode(*kind, m)).collect();
     let readings: Vec<u8> = (0..16).flat_map(|_| (random.between(160, 210) as u16).to_le_bytes()).collect();
-    let (made, out) = (RefCell::new(vec![0; table::MAX_STREAM]), RefCell::new([0; 64]));
+    let lent = || RefCell::new(vec![0; table::MAX_STREAM]);
+    let (made, tiny, out) = (lent(), lent(), RefCell::new([0; 64]));
     let mut rows = vec![
         row("readings, 16 lines of 16".into(), "call", move |library| {
             library.readings_stream(16, &[16; 16], black_box(&readings), &mut made.borrow_mut())
         })
         .over(61_457),
+        row("tiny, 3 units".into(), "call", move |library| {
+            library.tiny_stream(3, black_box(2_730), &mut tiny.borrow_mut())
+        })
+        .over(28),
         row("message read, 16 units".into(), "call", move |library| {
             library.message_parse(16, &sizes, black_box(&packets))
         })
