@@ -7,8 +7,10 @@
  *
  * What a box does
  *
- *   1. At start, from the stored table: riksamoe_table_read joins its blocks to the stream. riksamoe_units gives n, riksamoe_sizes the
- *      sizes, riksamoe_costs the costs that touch this unit. Keep n, sizes and costs; the stream can go.
+ *   1. At start, from the stored table: riksamoe_start, then riksamoe_start_block for each of its blocks, one after the other, with
+ *      RIKSAMOE_COSTS bytes for the costs. Behind the last block n and the sizes stand in the state, and the costs that touch this unit
+ *      where they were lent. Keep n, sizes and costs; no more than a block of the table is ever held. (riksamoe_table_read, _units,
+ *      _sizes and _costs give the same out of a whole file, for whom it fits.)
  *   2. riksamoe_unit_make gives the unit's first state and, for unit 1, its first packets. Send these.
  *   3. When a packet arrives, call riksamoe_unit_step_in_place with the kept state, n, sizes, costs, the bytes as they came and an
  *      output of RIKSAMOE_SENDING bytes. If the refusal is 0, send the first `sent` packets of 64 bytes from the output, in their
@@ -56,6 +58,8 @@
  *   riksamoe_units                      256
  *   riksamoe_sizes                      256
  *   riksamoe_costs                    1,024
+ *   riksamoe_start                      256
+ *   riksamoe_start_block              1,024
  *   riksamoe_message_parse              768
  *   riksamoe_message_write              768
  *   riksamoe_unit_make                2,560
@@ -106,6 +110,7 @@ extern "C" {
 #define RIKSAMOE_PACKET 64         /* bytes of a packet */
 #define RIKSAMOE_SENDING 1024      /* bytes to lend for what a step sends: 16 packets */
 #define RIKSAMOE_COSTS 7712        /* most bytes of the costs that touch one unit: unary costs first, then pair costs */
+#define RIKSAMOE_BLOCK 512         /* bytes of a block of a stored table */
 #define RIKSAMOE_STREAM 61970      /* bytes to lend for a stream */
 #define RIKSAMOE_FILE 62976        /* most bytes of a stored table */
 #define RIKSAMOE_FORM_TWO 200      /* the first byte of a stream of form two */
@@ -156,6 +161,31 @@ typedef struct {
     uint8_t refusal; /*  0 */
     size_t length;   /*  8 */
 } riksamoe_length_t;
+
+/* How far a box is with the blocks of its table: hand it on from block to block, and change nothing in it. Any bytes have a meaning. n and
+ * sizes are for the caller once the last block is in. Size 32, alignment 4; the byte of padding at the end is not read, and may come back as
+ * any. */
+typedef struct {
+    uint8_t own;            /*  0 the unit's number */
+    uint8_t stage;          /*  1 what the stream's next byte is, 0 to 7; any other number stands for 7 */
+    uint16_t blocks;        /*  2 how many are in: the number of the next */
+    uint32_t count;         /*  4 bytes of costs that were gathered */
+    uint8_t n;              /*  8 how many units there are */
+    riksamoe_sizes_t sizes; /*  9 */
+    uint8_t row;            /* 25 the two units of the costs that come next */
+    uint8_t unit;           /* 26 */
+    uint8_t low;            /* 27 the low byte of the next cost, where it is in */
+    uint16_t left;          /* 28 how many costs of these two units are to come */
+    uint8_t refusal;        /* 30 7 once a cost was refused */
+} riksamoe_start_t;
+
+/* What a block gives: refused, the refusal, 0 and the state as lent; else 0, with the last block how many bytes of costs there are, and the
+ * state. Size 48. */
+typedef struct {
+    uint8_t refusal;        /*  0 */
+    size_t length;          /*  8 */
+    riksamoe_start_t start; /* 16 */
+} riksamoe_started_t;
 
 /* The fields of a message; those that its kind lacks are 0. An estimate's cost may be RIKSAMOE_NONE. Size 60. */
 typedef struct {
@@ -289,6 +319,20 @@ riksamoe_sizes_t riksamoe_sizes(const uint8_t *stream, size_t length);
 /* The costs that touch unit `own`: what each of its values costs alone, 0 in a table of form one, then its pair costs; to the front of `out`
  * (RIKSAMOE_COSTS bytes are always enough): 5, 10, 6, 7, 13. */
 riksamoe_length_t riksamoe_costs(const uint8_t *stream, size_t length, uint8_t own, uint8_t *out, size_t room);
+
+/* ---- A box's start from the blocks of its stored table. Lend to every call the state as the call before gave it, and the same
+ * RIKSAMOE_COSTS bytes as `costs`. */
+
+/* Unit `own`, before the first block. */
+riksamoe_start_t riksamoe_start(uint8_t own);
+
+/* The next block, which is the table's last (any `last` but 0) or not (0). What of it touches the unit is written behind what came before:
+ * as riksamoe_costs has it, once the last block is in, and of no use until then. 13 (fewer than RIKSAMOE_COSTS bytes), 1 (not 512 bytes, or
+ * 123 blocks are in), 4, 2, 3; with the last block 5, 6, 7 of the whole stream, then 10 (the unit's number). A refused block changes
+ * nothing, so it can be read and handed over again. Proved: a file's blocks are refused as riksamoe_table_read and then riksamoe_costs
+ * refuse the file, and else give what these give. */
+riksamoe_started_t riksamoe_start_block(riksamoe_start_t start, const uint8_t *block, size_t length, uint8_t last, uint8_t *costs,
+                                        size_t room);
 
 /* ---- Messages. A box needs neither: making and steps read and write packets themselves. They are for tools that watch the radio. */
 
@@ -440,6 +484,10 @@ riksamoe_found_t riksamoe_branch_and_bound(const uint8_t *stream, size_t length)
 #endif
 RIKSAMOE_HOLDS(sizeof(riksamoe_sizes_t) == 16);
 RIKSAMOE_HOLDS(sizeof(riksamoe_length_t) == 16 && offsetof(riksamoe_length_t, length) == 8);
+RIKSAMOE_HOLDS(sizeof(riksamoe_start_t) == 32 && offsetof(riksamoe_start_t, stage) == 1 && offsetof(riksamoe_start_t, blocks) == 2);
+RIKSAMOE_HOLDS(offsetof(riksamoe_start_t, count) == 4 && offsetof(riksamoe_start_t, n) == 8 && offsetof(riksamoe_start_t, sizes) == 9);
+RIKSAMOE_HOLDS(offsetof(riksamoe_start_t, row) == 25 && offsetof(riksamoe_start_t, left) == 28 && offsetof(riksamoe_start_t, refusal) == 30);
+RIKSAMOE_HOLDS(sizeof(riksamoe_started_t) == 48 && offsetof(riksamoe_started_t, length) == 8 && offsetof(riksamoe_started_t, start) == 16);
 RIKSAMOE_HOLDS(sizeof(riksamoe_message_t) == 60 && offsetof(riksamoe_message_t, stamp) == 2);
 RIKSAMOE_HOLDS(offsetof(riksamoe_message_t, values) == 18 && offsetof(riksamoe_message_t, cost) == 36);
 RIKSAMOE_HOLDS(offsetof(riksamoe_message_t, bound) == 40 && offsetof(riksamoe_message_t, best) == 44);

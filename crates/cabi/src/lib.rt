@@ -1,6 +1,7 @@
 // The calls of documents 01 and 02 for C and Rust, as include/riksamoe.h declares them. Each hands on to the call that it names, and promises
 // what that one does.
 
+mod begun; // how far a box is with its blocks, as C lends it
 mod lent; // a state, and a network over either pool, as C lends them
 
 use base::Length;
@@ -38,6 +39,8 @@ ghost use Rattle.slots.specs.Newer.{newerRefusal, whichNewer};
 ghost use Rattle.slots.specs.Calls.{makeOf as slotsMakeOf};
 ghost use Rattle.slots.specs.Settle.{settleOf as slotsSettleOf};
 ghost use Rattle.search.specs.Search.{searchOf, branchAndBoundOf};
+ghost use Rattle.start.specs.Block.{fresh};
+ghost use Rattle.cabi.specs.Begun.{lentStart, startBlock, startedCosts};
 ghost use Rattle.cabi.specs.Lent.{unitFrom};
 ghost use Rattle.cabi.specs.Calls.{codeOf, parsedOf, orderOf, slotAs, writeAs, writtenAs, unknownKind, stepOf, steppedBytes, reportBy, deliveredTo, deliveredPool, echoedTo, echoedPool, slotsDeliveredTo, slotsDeliveredPool, replayedTo, replayedPool};
 
@@ -48,6 +51,29 @@ const CHEAPEST_FIRST: u8 = 1;
 #[repr(C)]
 pub struct Sizes {
     pub places: [u8; 16],
+}
+
+// `start::Start` as C lends it, and `start::Started`: any number can stand where the stage is.
+#[repr(C)]
+pub struct LentStart {
+    pub own: u8,
+    pub stage: u8,
+    pub blocks: u16,
+    pub count: u32,
+    pub n: u8,
+    pub sizes: Sizes,
+    pub row: u8,
+    pub unit: u8,
+    pub low: u8,
+    pub left: u16,
+    pub refusal: u8,
+}
+
+#[repr(C)]
+pub struct LentStarted {
+    pub refusal: u8,
+    pub length: usize,
+    pub start: LentStart,
 }
 
 // A refusal with all else zero, or 0 with the kind's number and the fields.
@@ -200,6 +226,31 @@ pub extern "C" fn riksamoe_costs(stream: &[u8], own: u8, out: &mut [u8]) -> base
     ensures { λ r. ⌜ (r ≡ gatherOf (now (stream .entry)) own (length (now (out .entry)))) × (now (out .exit) ≡ gatherInto (now (stream .entry)) own (now (out .entry))) ⌝ }
 {
     costs::gather(stream, own, out)
+}
+
+// ---- a box's start from blocks
+
+// Before the first block.
+#[no_mangle]
+pub extern "C" fn riksamoe_start(own: u8) -> LentStart
+    ensures { λ r. ⌜ r ≡ lentStart (fresh own) ⌝ }
+{
+    begun::lent_start(start::begin(own))
+}
+
+// Any `last` but 0 is true.
+#[no_mangle]
+pub extern "C" fn riksamoe_start_block(
+    state: LentStart,
+    block: &[u8],
+    last: u8,
+    costs: &mut [u8],
+) -> LentStarted
+    ensures { λ r. ⌜ (r ≡ startBlock state (now (block .entry)) (not (eqb last 0)) (length (now (costs .entry)))) × (now (costs .exit) ≡ startedCosts state (now (block .entry)) (not (eqb last 0)) (now (costs .entry))) ⌝ }
+{
+    let read = begun::start_from(state);
+    let r = start::take_block(read, block, last != 0, costs);
+    begun::started_back(state, r)
 }
 
 // ---- messages
