@@ -59,7 +59,7 @@
  *   riksamoe_sizes                      256
  *   riksamoe_costs                    1,024
  *   riksamoe_start                      256
- *   riksamoe_start_block              1,024
+ *   riksamoe_start_block                512
  *   riksamoe_message_parse              768
  *   riksamoe_message_write              768
  *   riksamoe_unit_make                2,560

@@ -99,6 +99,7 @@ pub fn take_block(state: Start, block: &[u8], last: bool, costs: &mut [u8]) -> S
     if refusal != 0 {
         return refused(refusal, state);
     }
+    // the stream is read on before anything is written, as a refusal leaves the costs alone
     let payload = table::read_block(block, state.blocks, last);
     let before = state.reader;
     let reader = read_bytes(before, payload);

@@ -24,7 +24,8 @@ keep-requires : tie.Need-keep-requires Inv-loop μ-loop
 keep-requires c κs = omega arith
 
 loop-again : tie.Need-loop-again Inv-loop μ-loop
-loop-again c = let k = c .before .before .before in
+loop-again c =
+    let k = c .before .before .before in
     let l = k .before .before .before .before in
     let a = l .before .before .before .args in
     let h : l .loop .i < length (a .bytes .now) = omega arith in (
@@ -36,7 +37,8 @@ loop-again c = let k = c .before .before .before in
     )
 
 returns : tie.Need-returns Inv-loop μ-loop
-returns c = let l = c .before in
+returns c =
+    let l = c .before in
     let a = l .before .before .before .args in
     let h : length (a .bytes .now) ≤ l .loop .i = omega arith in (
       omega (arith, l .loop .inv .3, kept-end (a .bytes .now) (l .loop .i) (a .own) (l .loop .reader) h),
@@ -44,4 +46,17 @@ returns c = let l = c .before in
     )
 
 pub keep-bytes-spec : {M : Type 1} → statement M
-keep-bytes-spec = tie.close (tie.spec Inv-loop μ-loop loop-holds (λ c. search needs) keep-requires (λ c κs. search needs) (λ c. search needs) (λ c. search needs) loop-again (λ c. search needs) returns)
+keep-bytes-spec =
+    tie.close
+    (tie.spec
+    Inv-loop
+    μ-loop
+    loop-holds
+    (λ c. search needs)
+    keep-requires
+    (λ c κs. search needs)
+    (λ c. search needs)
+    (λ c. search needs)
+    loop-again
+    (λ c. search needs)
+    returns)

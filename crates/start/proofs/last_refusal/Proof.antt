@@ -1,6 +1,5 @@
 -- `last_refusal` meets its contract, test by test. Assumes nothing.
 use mathlib.Core.Path.{_≡_, sym, _∙_}
-use mathlib.Core.Bool.{true, false}
 use borrow.Author.Tests.{not-true, not-false}
 use Rattle.base.specs.Refusal.Laws.{or-first}
 use Rattle.start.specs.Byte.{endRefusal}
@@ -19,7 +18,8 @@ returns : tie.Need-returns
 returns c = rw (not-true (c .before .args .last) (c .if1 .taken))
 
 returns-2 : tie.Need-returns-2
-returns-2 c = let e = c .before .end-refusal in
+returns-2 c =
+    let e = c .before .end-refusal in
     rw (not-false (c .before .before .before .args .last) (c .before .before .if1 .left)) (e .ensures ∙ sym (or-first _ _ (λ z. c .if2 .taken (e .ensures ∙ z))))
 
 returns-3 : tie.Need-returns-3

@@ -19,12 +19,14 @@ loop-holds : tie.Need-loop-holds Inv-loop μ-loop
 loop-holds c = (omega arith, refl)
 
 loop-again : tie.Need-loop-again Inv-loop μ-loop
-loop-again c = let l = c .before .before .before in
+loop-again c =
+    let l = c .before .before .before in
     let bytes = l .before .before .args .bytes .now in
     (omega arith, rw (c .after-byte .ensures) (l .loop .inv .1 ∙ after-turn bytes (l .loop .i) (l .loop .reader) (omega arith)))
 
 returns : tie.Need-returns Inv-loop μ-loop
-returns c = let l = c .before in
+returns c =
+    let l = c .before in
     sym (l .loop .inv .1 ∙ after-end (l .before .before .args .bytes .now) (l .loop .i) (l .loop .reader) (omega arith))
 
 pub read-bytes-spec : {M : Type 1} → statement M

@@ -11,7 +11,8 @@ returns : tie.Need-returns
 returns c = let a = c .before .before .before .args in rw (sym (c .before .touches .ensures) ∙ not-true _ (c .if1 .taken)) (keeps-none (a .out .now) (a .at))
 
 returns-2 : tie.Need-returns-2
-returns-2 c = let x = c .before .before .before .before .before in
+returns-2 c =
+    let x = c .before .before .before .before .before in
     rw (sym (x .before .touches .ensures) ∙ not-false _ (x .if1 .left)) (omega arith, omega arith, c .before .before .put .ensures)
 
 pub keep-cost-spec : {M : Type 1} → statement M

@@ -23,10 +23,24 @@ part-put-end : tie.Need-part-put-end
 part-put-end c = let few : 2 * c .before .before .wide .result ≤ 32 = omega (arith, c .before .before .wide .ensures .0, small (c .before .before .before)) in search needs
 
 returns-2 : tie.Need-returns-2
-returns-2 c = let w = c .before .before .before .before .before .before in
+returns-2 c =
+    let w = c .before .before .before .before .before .before in
     let x = w .before in
     let a = x .before .before .before .args in
     rw (due x) (keeps-zeros (a .out .now) (c .before .before .put .last .0) (a .at) (a .b) (w .wide .result) (2 * w .wide .result - 0) (w .wide .ensures .0) (omega (arith, w .wide .ensures .0)) (small x) (c .before .before .put .ensures))
 
 pub keep-zeros-spec : {M : Type 1} → statement M
-keep-zeros-spec = tie.close (tie.spec (λ c κs. search needs) returns (λ c κs. search needs) (λ c. search needs) (λ c. search needs) (λ c. search needs) part-put-end (λ c κs. search needs) (λ c. search needs) (λ c. search needs) returns-2)
+keep-zeros-spec =
+    tie.close
+    (tie.spec
+    (λ c κs. search needs)
+    returns
+    (λ c κs. search needs)
+    (λ c. search needs)
+    (λ c. search needs)
+    (λ c. search needs)
+    part-put-end
+    (λ c κs. search needs)
+    (λ c. search needs)
+    (λ c. search needs)
+    returns-2)

@@ -8,7 +8,8 @@ use Rattle.start.proofs.byte.stored.Statement.{statement}
 use Rattle.start.proofs.byte.stored.Tie as tie
 
 returns : tie.Need-returns
-returns c = let a = c .before .before .before .args in
+returns c =
+    let a = c .before .before .before .args in
     let h : length (a .r .sizes) ≡ 16 = search needs in
     sym (set-out (a .r .sizes) (a .r .unit) (a .b) (omega (arith, h, c .if1 .taken, c .before .before .wide .ensures .0)))
 

@@ -9,7 +9,8 @@ returns : tie.Need-returns
 returns c = rw (lt-ltb _ _ (c .if1 .taken)) (c .before .before .one-cost .ensures)
 
 returns-2 : tie.Need-returns-2
-returns-2 c = let x = c .before .before .before in
+returns-2 c =
+    let x = c .before .before .before in
     rw (le-ltb _ _ (x .if1 .left)) (c .to-run .ensures ∙ rw (x .before .before .one-cost .ensures, c .before .before .wide .ensures .0, c .before .wide2 .ensures .0))
 
 pub with-high-spec : {M : Type 1} → statement M

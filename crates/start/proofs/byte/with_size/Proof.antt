@@ -12,7 +12,8 @@ returns : tie.Need-returns
 returns c = let x = c .before .before in rw (not-sixteen (x .before .wide .ensures .0) (x .is-value .ensures) (c .before .if1 .taken)) (c .with-stage .ensures)
 
 returns-2 : tie.Need-returns-2
-returns-2 c = let y = c .before .before .before in
+returns-2 c =
+    let y = c .before .before .before in
     let x = y .before .before in
     let r = x .before .before .before .args .r in
     rw (
@@ -22,7 +23,8 @@ returns-2 c = let y = c .before .before .before in
     )
 
 returns-3 : tie.Need-returns-3
-returns-3 c = let z = c .before .before .before in
+returns-3 c =
+    let z = c .before .before .before in
     let y = z .before .before in
     let x = y .before .before in
     let a = x .before .before .before .args in
@@ -32,4 +34,21 @@ returns-3 c = let z = c .before .before .before in
     ) (c .to-run .ensures ∙ to-first (a .r) (a .b) (y .before .stored .ensures) (c .before .before .wide4 .ensures .0) (c .before .wide5 .ensures .0))
 
 pub with-size-spec : {M : Type 1} → statement M
-with-size-spec = tie.close (tie.spec (λ c κs. search needs) (λ c κs. search needs) (λ c κs. search needs) returns (λ c κs. search needs) (λ c κs. search needs) (λ c. search needs) (λ c κs. search needs) (λ c. search needs) returns-2 (λ c κs. search needs) (λ c κs. search needs) (λ c. search needs) (λ c κs. search needs) returns-3)
+with-size-spec =
+    tie.close
+    (tie.spec
+    (λ c κs. search needs)
+    (λ c κs. search needs)
+    (λ c κs. search needs)
+    returns
+    (λ c κs. search needs)
+    (λ c κs. search needs)
+    (λ c. search needs)
+    (λ c κs. search needs)
+    (λ c. search needs)
+    returns-2
+    (λ c κs. search needs)
+    (λ c κs. search needs)
+    (λ c. search needs)
+    (λ c κs. search needs)
+    returns-3)

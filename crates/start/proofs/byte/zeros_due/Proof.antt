@@ -12,7 +12,8 @@ returns-2 : tie.Need-returns-2
 returns-2 c = let x = c .before .before in rw (in-sixteen (x .before .before .wide .ensures .0) (x .before .is-value .ensures) (x .if1 .left), ne-eqb _ _ (c .if2 .taken))
 
 returns-3 : tie.Need-returns-3
-returns-3 c = let y = c .before .before in
+returns-3 c =
+    let y = c .before .before in
     let x = y .before .before in
     rw (in-sixteen (x .before .before .wide .ensures .0) (x .before .is-value .ensures) (x .if1 .left), eq-eqb _ _ (y .if2 .left), c .before .wide2 .ensures .0, c .wide3 .ensures .0)
 
