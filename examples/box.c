@@ -54,20 +54,16 @@ static struct {
 
 /* ---- the stored table */
 
-/* The whole file, straight into `file`: no library keeps a part of it in a buffer. */
-static size_t load(const char *path, uint8_t *file, size_t room)
+/* The next block of the file, straight into `block`: no library keeps a part of it in a buffer. At the end of the file it is shorter. */
+static size_t read_block(int in, const char *path, uint8_t *block)
 {
     size_t length = 0;
     ssize_t more;
-    int in = open(path, O_RDONLY);
-    if (in < 0)
-        fail(path);
-    while (length < room && (more = read(in, file + length, room - length)) != 0) {
+    while (length < RIKSAMOE_BLOCK && (more = read(in, block + length, RIKSAMOE_BLOCK - length)) != 0) {
         if (more < 0)
             fail(path);
         length += (size_t)more;
     }
-    close(in);
     return length;
 }
 
@@ -78,21 +74,28 @@ static void wipe(volatile uint8_t *bytes, size_t length)
         bytes[--length] = 0;
 }
 
-/* Out of the stored table the box keeps n, the sizes and the costs that touch it; file and stream are gone when this returns. */
+/* Out of the stored table the box keeps n, the sizes and the costs that touch it. It takes the file's blocks one after the other, and the last
+ * two that it holds are gone when this returns. */
 static void keep_own(const char *path)
 {
-    static uint8_t file[RIKSAMOE_FILE + 1]; /* one more, so that a longer file is refused */
-    static uint8_t stream[RIKSAMOE_STREAM];
-    size_t length = load(path, file, sizeof file);
-    riksamoe_length_t read = riksamoe_table_read(file, length, stream, sizeof stream);
-    accept_only(read.refusal);
-    box.n = riksamoe_units(stream, read.length);
-    box.sizes = riksamoe_sizes(stream, read.length);
-    riksamoe_length_t costs = riksamoe_costs(stream, read.length, box.own, box.costs, sizeof box.costs);
-    accept_only(costs.refusal);
-    box.costs_length = costs.length;
-    wipe(file, sizeof file);
-    wipe(stream, sizeof stream);
+    uint8_t blocks[2][RIKSAMOE_BLOCK]; /* one that is handed over, and the next, which tells whether it is the last */
+    riksamoe_started_t now = {.start = riksamoe_start(box.own)};
+    int in = open(path, O_RDONLY);
+    if (in < 0)
+        fail(path);
+    size_t length = read_block(in, path, blocks[0]), next;
+    for (unsigned k = 0;; k ^= 1, length = next) {
+        next = read_block(in, path, blocks[k ^ 1]);
+        now = riksamoe_start_block(now.start, blocks[k], length, next == 0, box.costs, sizeof box.costs);
+        accept_only(now.refusal);
+        if (next == 0)
+            break;
+    }
+    close(in);
+    box.n = now.start.n;
+    box.sizes = now.start.sizes;
+    box.costs_length = now.length;
+    wipe(blocks[0], sizeof blocks);
 }
 
 /* ---- the radio */

@@ -5,8 +5,7 @@
 //! It does what box.c does, which says how: it listens at FOLDER/NUMBER, what it sends goes to FOLDER/air, it prints a line when it has stopped
 //! and one when its standard input ends. scripts/radio builds it, and runs it among others.
 
-use std::fs::File;
-use std::io::{self, ErrorKind, Read};
+use std::io::{self, ErrorKind};
 use std::os::unix::net::UnixDatagram;
 use std::path::Path;
 use std::process::exit;
@@ -18,48 +17,8 @@ use std::time::Duration;
 mod riksamoe;
 use riksamoe::*;
 
-const FILE: usize = 62_976; // RIKSAMOE_FILE
 const CHEAPEST_FIRST: u8 = 1; // RIKSAMOE_CHEAPEST_FIRST
 const MOMENT: Duration = Duration::from_millis(5);
-
-fn refused(refusal: Refusal) -> String {
-    format!("refused {refusal}")
-}
-
-fn failed(what: &str) -> impl Fn(io::Error) -> String + '_ {
-    move |error| format!("{what}: {error}")
-}
-
-// ---- the stored table
-
-/// The whole file, straight into `file`: nothing keeps a part of it in a buffer.
-fn load(path: &str, file: &mut [u8]) -> io::Result<usize> {
-    let mut input = File::open(path)?;
-    let mut length = 0;
-    while length < file.len() {
-        match input.read(&mut file[length..])? {
-            0 => break,
-            more => length += more,
-        }
-    }
-    Ok(length)
-}
-
-/// Overwrites bytes that nobody reads again, which a compiler would leave out.
-fn wipe(bytes: &mut [u8]) {
-    bytes.iter_mut().for_each(|byte| unsafe { std::ptr::write_volatile(byte, 0) });
-}
-
-/// Out of the stored table the box keeps n, the sizes and the costs that touch it; file and stream are gone when this returns.
-fn keep_own(own: u8, path: &str) -> Result<Kept, String> {
-    let mut file = vec![0; FILE + 1]; // one more, so that a longer file is refused
-    let mut stream = vec![0; STREAM];
-    let length = load(path, &mut file).map_err(failed(path))?;
-    let kept = read_table(&file[..length], &mut stream).and_then(|length| Kept::gather(own, &stream[..length]));
-    wipe(&mut file);
-    wipe(&mut stream);
-    kept.map_err(refused)
-}
 
 // ---- the radio
 
@@ -181,7 +140,7 @@ impl Set {
 }
 
 fn run(own: u8, table: &str, folder: &str, order: u8) -> Result<(), String> {
-    let kept = keep_own(own, table)?;
+    let kept = Kept::load(own, table)?;
     let radio = tune(Path::new(folder), own).map_err(failed(folder))?;
     let (node, done) = Node::make(order, kept).map_err(refused)?;
     let mut set = Set { node, radio, told: false, heard: 0, accepted: 0, sent: 0, records: 0, refused: [0; 256] };

@@ -1,11 +1,14 @@
 //! What a box needs of include/riksamoe.h, for shed.rs and box.rs: the calls declared again (the header says what each does), and a box over them
 //! that lends whole slices, so that no pointer goes further than its bytes.
 
+use std::fs::File;
+use std::io::{self, Read};
+
 pub type Packet = [u8; 64];
 pub type Refusal = u8;
 
-/// Bytes to lend for a stream, for what a step sends, for a unit's costs.
-pub const STREAM: usize = 61_970;
+/// Bytes of a block of the stored table; to lend for what a step sends, for a unit's costs.
+const BLOCK: usize = 512;
 const SENDING: usize = 1_024;
 const COSTS: usize = 7_712;
 
@@ -35,25 +38,64 @@ pub struct Done {
     pub records: u8,
 }
 
-/// A stored table's stream, to the front of `stream`; its length.
-pub fn read_table(file: &[u8], stream: &mut [u8]) -> Result<usize, Refusal> {
-    let read = unsafe { riksamoe_table_read(file.as_ptr(), file.len(), stream.as_mut_ptr(), stream.len()) };
-    accepted(read.refusal, read.length)
+pub fn refused(refusal: Refusal) -> String {
+    format!("refused {refusal}")
 }
 
-/// How many boxes there are.
-pub fn units(stream: &[u8]) -> u8 {
-    unsafe { riksamoe_units(stream.as_ptr(), stream.len()) }
+pub fn failed(what: &str) -> impl Fn(io::Error) -> String + '_ {
+    move |error| format!("{what}: {error}")
 }
 
 impl Kept {
-    pub fn gather(own: u8, stream: &[u8]) -> Result<Kept, Refusal> {
-        let mut costs = vec![0; COSTS];
-        let sizes = unsafe { riksamoe_sizes(stream.as_ptr(), stream.len()) };
-        let gathered = unsafe { riksamoe_costs(stream.as_ptr(), stream.len(), own, costs.as_mut_ptr(), costs.len()) };
-        costs.truncate(accepted(gathered.refusal, gathered.length)?);
-        Ok(Kept { own, n: units(stream), sizes, costs })
+    /// Out of the file of a stored table, whose blocks are taken one after the other; the last two that are held are gone when this returns.
+    pub fn load(own: u8, path: &str) -> Result<Kept, String> {
+        let mut file = File::open(path).map_err(failed(path))?;
+        let mut blocks = [[0; BLOCK]; 2];
+        let kept = Kept::take_all(own, &mut blocks, |block| read_block(&mut file, block).map_err(failed(path)));
+        blocks.iter_mut().for_each(|block| wipe(block));
+        kept
     }
+
+    /// Of two blocks one is handed over, and the other is the next, which tells whether it is the last.
+    fn take_all(
+        own: u8,
+        blocks: &mut [[u8; BLOCK]; 2],
+        mut read: impl FnMut(&mut [u8]) -> Result<usize, String>,
+    ) -> Result<Kept, String> {
+        let mut costs = vec![0; COSTS];
+        let mut start = unsafe { riksamoe_start(own) };
+        let mut length = read(&mut blocks[0])?;
+        let mut k = 0;
+        loop {
+            let next = read(&mut blocks[1 - k])?;
+            let (block, room) = (&blocks[k][..length], costs.len());
+            let (last, lent) = (u8::from(next == 0), costs.as_mut_ptr());
+            let now = unsafe { riksamoe_start_block(start, block.as_ptr(), block.len(), last, lent, room) };
+            start = accepted(now.refusal, now.start).map_err(refused)?;
+            if next == 0 {
+                costs.truncate(now.length);
+                return Ok(Kept { own, n: start.n, sizes: start.sizes, costs });
+            }
+            (k, length) = (1 - k, next);
+        }
+    }
+}
+
+/// The next block of the file, straight into `block`: nothing keeps a part of it in a buffer. At the end of the file it is shorter.
+fn read_block(file: &mut File, block: &mut [u8]) -> io::Result<usize> {
+    let mut length = 0;
+    while length < block.len() {
+        match file.read(&mut block[length..])? {
+            0 => break,
+            more => length += more,
+        }
+    }
+    Ok(length)
+}
+
+/// Overwrites bytes that nobody reads again, which a compiler would leave out.
+fn wipe(bytes: &mut [u8]) {
+    bytes.iter_mut().for_each(|byte| unsafe { std::ptr::write_volatile(byte, 0) });
 }
 
 impl Node {
@@ -110,10 +152,28 @@ struct Sizes {
     places: [u8; 16],
 }
 
+/// How far a box is with the blocks of its table. The header says what the other fields are.
 #[repr(C)]
-struct Length {
+#[derive(Clone, Copy)]
+struct Start {
+    own: u8,
+    stage: u8,
+    blocks: u16,
+    count: u32,
+    n: u8,
+    sizes: Sizes,
+    row: u8,
+    unit: u8,
+    low: u8,
+    left: u16,
+    refusal: u8,
+}
+
+#[repr(C)]
+struct Started {
     refusal: u8,
     length: usize,
+    start: Start,
 }
 
 #[repr(C)]
@@ -146,12 +206,18 @@ struct Report {
 }
 
 const _: () = assert!(std::mem::size_of::<Unit>() == 140 && std::mem::size_of::<Outcome>() == 148);
+const _: () = assert!(std::mem::size_of::<Start>() == 32 && std::mem::size_of::<Started>() == 48);
 
 extern "C" {
-    fn riksamoe_table_read(file: *const u8, length: usize, stream: *mut u8, room: usize) -> Length;
-    fn riksamoe_units(stream: *const u8, length: usize) -> u8;
-    fn riksamoe_sizes(stream: *const u8, length: usize) -> Sizes;
-    fn riksamoe_costs(stream: *const u8, length: usize, own: u8, out: *mut u8, room: usize) -> Length;
+    fn riksamoe_start(own: u8) -> Start;
+    fn riksamoe_start_block(
+        start: Start,
+        block: *const u8,
+        length: usize,
+        last: u8,
+        costs: *mut u8,
+        room: usize,
+    ) -> Started;
     fn riksamoe_unit_make_by(
         order: u8,
         own: u8,

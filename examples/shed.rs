@@ -12,25 +12,15 @@ use std::process::exit;
 mod riksamoe;
 use riksamoe::*;
 
-fn load(path: &str) -> Result<Vec<u8>, String> {
-    let file = std::fs::read(path).map_err(|error| format!("{path}: {error}"))?;
-    let mut stream = vec![0; STREAM];
-    let length = read_table(&file, &mut stream).map_err(refused)?;
-    stream.truncate(length);
-    Ok(stream)
-}
-
-fn refused(refusal: Refusal) -> String {
-    format!("refused {refusal}")
-}
-
 fn run(path: &str) -> Result<(), String> {
-    let stream = load(path)?;
     let mut air: VecDeque<Packet> = VecDeque::new();
     let mut nodes = Vec::new();
     let (mut records, mut accepted) = (0, 0);
-    for own in 1..=units(&stream) {
-        let (node, done) = Kept::gather(own, &stream).and_then(|kept| Node::make(ASCENDING, kept)).map_err(refused)?;
+    let mut units = 1; // until box 1 tells
+    while nodes.len() < usize::from(units) {
+        let kept = Kept::load(nodes.len() as u8 + 1, path)?;
+        units = kept.n;
+        let (node, done) = Node::make(ASCENDING, kept).map_err(refused)?;
         nodes.push(node);
         records += u64::from(done.records);
         air.extend(done.sent);

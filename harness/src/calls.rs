@@ -4,6 +4,7 @@ use crate::reference::message::{self, Message};
 use crate::reference::network::{self, Network};
 use crate::reference::order::ValueOrder::{self, Ascending, CheapestFirst};
 use crate::reference::slots::{self, Shed, Slot};
+use crate::reference::start::{Begun, Start};
 use crate::reference::table::Form;
 use crate::reference::unit::{self, Unit};
 use crate::reference::{checksum, convert, costs, readings, search, table, tiny, Places, Refusal};
@@ -20,6 +21,7 @@ pub enum Call {
     Readings,
     Tiny,
     Lent,
+    Start,
     Parse,
     Encode,
     Make(ValueOrder),
@@ -54,7 +56,7 @@ const REPLAY_SLOTS: &[u8] = &[22, 13, 5, 6, 7, 12, 15, 8, 10, 9, 11];
 pub const NUMBERS: usize = 23;
 
 /// Each call, its name in the Rattle code with the order in which it tries values, and the refusals it can give.
-pub const CALLS: [(Call, &str, &[u8]); 37] = [
+pub const CALLS: [(Call, &str, &[u8]); 38] = [
     (Call::Sum, "checksum::sum", &[]),
     (Call::Block, "table::read_block", &[1, 4, 2, 3]),
     (Call::Read, "table::read", &[13, 1, 4, 2, 3, 5, 6, 7]),
@@ -64,6 +66,7 @@ pub const CALLS: [(Call, &str, &[u8]); 37] = [
     (Call::Readings, "readings::write_stream", &[5, 6, 17, 13]),
     (Call::Tiny, "tiny::write_stream", &[21, 13]),
     (Call::Lent, "table::units_of, costs::sizes_of and costs::gather", &[5, 10, 6, 7, 13]),
+    (Call::Start, "start::begin and start::take_block", &[13, 1, 4, 2, 3, 5, 6, 7, 10]),
     (Call::Parse, "message::parse", &[5, 8, 10, 9]),
     (Call::Encode, "message::write", &[5, 10, 9, 13]),
     (Call::Make(Ascending), "unit::make, ascending", MAKE),
@@ -126,7 +129,17 @@ impl Event {
     }
 }
 
-/// What a call is lent; `Deliver` is a delivery or an echo. The last buffer of each is the one that it may write.
+/// A block that a box is handed, any `last` but 0 for the table's last one. Where it is refused and comes again, the next is handed over all
+/// the same.
+#[derive(Clone, PartialEq, Eq, Debug)]
+pub struct Handed {
+    pub block: Vec<u8>,
+    pub last: u8,
+    pub again: bool,
+}
+
+/// What a call is lent; `Start` is a call for each block, up to one that is refused and doesn't come again; `Deliver` is a delivery or an
+/// echo. The last buffer of each is the one that it may write.
 #[derive(Clone, Debug)]
 pub enum Input {
     Sum { bytes: Vec<u8> },
@@ -137,6 +150,7 @@ pub enum Input {
     Readings { n: u8, sizes: Places, readings: Vec<u8>, stream: Vec<u8> },
     Tiny { units: u8, number: u32, stream: Vec<u8> },
     Lent { stream: Vec<u8>, own: u8, out: Vec<u8> },
+    Start { own: u8, blocks: Vec<Handed>, costs: Vec<u8> },
     Parse { n: u8, sizes: Places, packet: Vec<u8> },
     Encode { n: u8, sizes: Places, kind: u8, message: Message, out: Vec<u8> },
     Make { order: Named, own: u8, n: u8, sizes: Places, costs: Vec<u8>, out: Vec<u8> },
@@ -256,6 +270,33 @@ pub fn lent_outcome(n: u8, sizes: &Places, mut gathered: Outcome) -> Outcome {
     gathered
 }
 
+/// Of a start: the refusal of each call, the last one's being the outcome's; and what the box has. Where it has nothing yet, what it lent for
+/// its costs is not to be looked at.
+pub fn start_outcome(refusals: &[u8], begun: Option<Begun>, costs: Vec<u8>) -> Outcome {
+    let refusal = refusals.last().copied().unwrap_or(0);
+    let numbers = refusals.iter().copied().map(u64::from).collect();
+    let lent = if begun.is_some() { costs } else { Vec::new() };
+    let Begun { n, sizes, length } = begun.unwrap_or(Begun { n: 0, sizes: [0; 16], length: 0 });
+    let mut outcome = Outcome { refusal, numbers, lent, ..Outcome::default() };
+    outcome.numbers.push(length as u64);
+    lent_outcome(n, &sizes, outcome)
+}
+
+/// The blocks by the reference implementation.
+fn start(own: u8, blocks: &[Handed], mut costs: Vec<u8>) -> Outcome {
+    let mut start = Start::new(own);
+    let (mut refusals, mut begun) = (Vec::new(), None);
+    for Handed { block, last, again } in blocks {
+        let answer = start.take(block, *last != 0, &mut costs);
+        refusals.push(answer.err().unwrap_or(0));
+        begun = answer.unwrap_or(None);
+        if answer.is_err() && !again {
+            break;
+        }
+    }
+    start_outcome(&refusals, begun, costs)
+}
+
 /// A delivery or an echo by the reference implementation.
 pub fn hear(order: ValueOrder, network: &mut Network, stream: &[u8], event: &Event, pool: &mut [u8]) -> Result<(), u8> {
     match event {
@@ -285,6 +326,7 @@ pub fn reference(input: Input) -> Outcome {
             let answer = costs::gather(&stream, own, &mut out);
             lent_outcome(costs::units_in(&stream), &costs::sizes_in(&stream), length_outcome(answer, out))
         }
+        Input::Start { own, blocks, costs } => start(own, &blocks, costs),
         Input::Parse { n, sizes, packet } => match message::parse(n, &sizes, &packet) {
             Ok((kind, message)) => Outcome { numbers: vec![kind.into()], message, ..Outcome::default() },
             Err(refusal) => Outcome { refusal, numbers: vec![0], ..Outcome::default() },

@@ -43,7 +43,7 @@ pub fn cases(call: Call) -> &'static [Case] {
     use Case::*;
     match call {
         Call::Sum | Call::Block | Call::Readings | Call::Tiny | Call::SlotOf | Call::Newer => &[],
-        Call::Read | Call::Write | Call::ToFormTwo | Call::ToFormOne | Call::Lent => &[Pair, OneBelow],
+        Call::Read | Call::Write | Call::ToFormTwo | Call::ToFormOne | Call::Lent | Call::Start => &[Pair, OneBelow],
         Call::Parse | Call::Encode => &[Estimate, OneBelow],
         Call::Make(_) | Call::MakeNetwork(_) | Call::MakeSlots(_) => &[Pair, OneBelow, NoH, Stops],
         Call::InRange(_) => &[Pair, OneBelow, OwnValue, OwnNoH],

@@ -7,7 +7,7 @@ mod runs;
 mod slots;
 mod tables;
 
-use crate::calls::{Call, Event, Input, Named};
+use crate::calls::{Call, Event, Handed, Input, Named};
 use crate::random::Random;
 use crate::reference::convert;
 use crate::reference::costs::{self, Cost, View};
@@ -15,6 +15,7 @@ use crate::reference::message::{self, Message};
 use crate::reference::network::{self, Network};
 use crate::reference::order::ValueOrder;
 use crate::reference::slots::Slot;
+use crate::reference::start::COSTS;
 use crate::reference::table::Form;
 use crate::reference::unit::Unit;
 use crate::reference::{cost_limit, table, tiny, Places, MAX_ESTIMATE, MAX_TOTAL, NONE};
@@ -675,6 +676,31 @@ fn lent(random: &mut Random) -> Input {
     Input::Lent { stream, own, out: buffer(random, room) }
 }
 
+/// A file's blocks, and a unit of its table. At times a block is damaged, and comes again as it is; or is named the last one, or none, against the
+/// file. An empty file is one empty block.
+fn start(random: &mut Random) -> Input {
+    let file = file(random);
+    let n = file.get(if file.get(4) == Some(&table::FORM_TWO) { 5 } else { 4 }).copied().unwrap_or(0);
+    let own = own_number(random, n.clamp(1, 16));
+    let mut parts: Vec<Vec<u8>> = file.chunks(table::BLOCK).map(<[u8]>::to_vec).collect();
+    if parts.is_empty() {
+        parts.push(Vec::new());
+    }
+    let count = parts.len();
+    let wrong = if random.once_in(12) { random.below(count as u64) as usize } else { count };
+    let mut blocks = Vec::new();
+    for (k, block) in parts.into_iter().enumerate() {
+        let last = if (k + 1 == count) != (k == wrong) { *random.pick(&[1, 1, 2, 128, 255]) } else { 0 };
+        if block.len() == table::BLOCK && random.once_in(20) {
+            let mut damaged = block.clone();
+            damaged[random.below(512) as usize] ^= 1 << random.below(8);
+            blocks.push(Handed { block: damaged, last, again: true });
+        }
+        blocks.push(Handed { block, last, again: false });
+    }
+    Input::Start { own, blocks, costs: buffer(random, COSTS) }
+}
+
 fn readings_stream(random: &mut Random) -> Input {
     let shape = if random.once_in(100) { vec![16; 16] } else { sizes(random) };
     let (mut n, mut sizes) = head(random, &sample::stream(&shape, &[]));
@@ -744,6 +770,7 @@ pub fn input(random: &mut Random, call: Call) -> Input {
         Call::Readings => readings_stream(random),
         Call::Tiny => tiny_stream(random),
         Call::Lent => lent(random),
+        Call::Start => start(random),
         Call::Parse => {
             let stream = stream(random);
             let (mut n, mut sizes) = head(random, &stream);

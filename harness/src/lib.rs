@@ -25,6 +25,7 @@ pub mod reference;
 pub mod replay;
 pub mod sample;
 pub mod slots;
+pub mod start;
 pub mod tiny;
 pub mod trials;
 pub mod tuned;

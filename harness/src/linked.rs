@@ -4,15 +4,16 @@
 //! A slice passes as a pointer and a length; structs pass by value and are `repr(C)`. A call that tries values is two, one that names no
 //! order and one that names it by its number: here one function for both.
 
-use crate::calls::{lent_outcome, Event, Input, Named, Outcome};
+use crate::calls::{lent_outcome, start_outcome, Event, Handed, Input, Named, Outcome};
 use crate::reference;
 use crate::reference::network::Network as PlainNetwork;
 use crate::reference::slots::{Shed, Slot};
+use crate::reference::start::Begun;
 use crate::reference::table::Form;
 use crate::reference::Places;
 
 #[repr(C)]
-#[derive(Clone, Copy)]
+#[derive(Clone, Copy, PartialEq, Eq, Debug)]
 pub struct Sizes {
     pub places: Places,
 }
@@ -22,6 +23,31 @@ pub struct Sizes {
 pub struct Length {
     pub refusal: u8,
     pub length: usize,
+}
+
+/// How far a box is with the blocks of its table.
+#[repr(C)]
+#[derive(Clone, Copy, PartialEq, Eq, Debug)]
+pub struct Start {
+    pub own: u8,
+    pub stage: u8,
+    pub blocks: u16,
+    pub count: u32,
+    pub n: u8,
+    pub sizes: Sizes,
+    pub row: u8,
+    pub unit: u8,
+    pub low: u8,
+    pub left: u16,
+    pub refusal: u8,
+}
+
+#[repr(C)]
+#[derive(Clone, Copy)]
+pub struct Started {
+    pub refusal: u8,
+    pub length: usize,
+    pub start: Start,
 }
 
 #[repr(C)]
@@ -140,6 +166,15 @@ extern "C" {
     fn riksamoe_units(stream: *const u8, length: usize) -> u8;
     fn riksamoe_sizes(stream: *const u8, length: usize) -> Sizes;
     fn riksamoe_costs(stream: *const u8, length: usize, own: u8, out: *mut u8, room: usize) -> Length;
+    fn riksamoe_start(own: u8) -> Start;
+    fn riksamoe_start_block(
+        start: Start,
+        block: *const u8,
+        length: usize,
+        last: u8,
+        costs: *mut u8,
+        room: usize,
+    ) -> Started;
     fn riksamoe_message_parse(n: u8, sizes: Sizes, bytes: *const u8, length: usize) -> Parsed;
     fn riksamoe_message_write(n: u8, sizes: Sizes, kind: u8, message: Message, out: *mut u8, room: usize) -> u8;
     fn riksamoe_unit_make(
@@ -381,6 +416,14 @@ pub fn sizes(stream: &[u8]) -> Places {
 
 pub fn costs(stream: &[u8], own: u8, out: &mut [u8]) -> Length {
     unsafe { riksamoe_costs(stream.as_ptr(), stream.len(), own, out.as_mut_ptr(), out.len()) }
+}
+
+pub fn start(own: u8) -> Start {
+    unsafe { riksamoe_start(own) }
+}
+
+pub fn start_block(start: Start, block: &[u8], last: u8, costs: &mut [u8]) -> Started {
+    unsafe { riksamoe_start_block(start, block.as_ptr(), block.len(), last, costs.as_mut_ptr(), costs.len()) }
 }
 
 pub fn message_parse(n: u8, sizes: &Places, bytes: &[u8]) -> Parsed {
@@ -693,6 +736,7 @@ pub fn linked(input: Input) -> Outcome {
             let answer = costs(&stream, own, &mut out);
             lent_outcome(units(&stream), &sizes(&stream), length_outcome(answer, out))
         }
+        Input::Start { own, blocks, costs } => start_from(own, &blocks, costs),
         Input::Parse { n, sizes, packet } => {
             let answer = message_parse(n, &sizes, &packet);
             let numbers = vec![answer.kind.into()];
@@ -747,6 +791,30 @@ fn found_outcome(answer: &Found) -> Outcome {
     Outcome { refusal: answer.refusal, numbers, lent: answer.values.to_vec(), ..Outcome::default() }
 }
 
+/// The blocks one after the other; a refused one must leave all as it was.
+fn start_from(own: u8, blocks: &[Handed], mut costs: Vec<u8>) -> Outcome {
+    let mut now = start(own);
+    let (mut refusals, mut begun) = (Vec::new(), None);
+    for Handed { block, last, again } in blocks {
+        let before = costs.clone();
+        let answer = start_block(now, block, *last, &mut costs);
+        let refused = answer.refusal != 0;
+        if refused {
+            assert_eq!((answer.start, answer.length), (now, 0), "a refused block leaves the state");
+            assert!(costs == before, "a refused block leaves the costs");
+        }
+        now = answer.start;
+        let Start { n, sizes, .. } = now;
+        let whole = !refused && *last != 0;
+        begun = whole.then_some(Begun { n, sizes: sizes.places, length: answer.length });
+        refusals.push(answer.refusal);
+        if refused && !again {
+            break;
+        }
+    }
+    start_outcome(&refusals, begun, costs)
+}
+
 /// The step by value, and in place: the two must agree.
 fn step_both_ways(unit: Unit, lent: Lent, packet: &[u8], mut out: Vec<u8>) -> Outcome {
     let mut in_place = unit;
@@ -773,6 +841,8 @@ const _: () = {
     assert!(size_of::<Unit>() == 140);
     assert!(offset_of!(Unit, estimates) == 36 && offset_of!(Unit, cost) == 132 && offset_of!(Unit, stopped) == 137);
     assert!(size_of::<UnitOutcome>() == 148 && size_of::<Report>() == 3);
+    assert!(size_of::<Start>() == 32 && offset_of!(Start, count) == 4 && offset_of!(Start, left) == 28);
+    assert!(size_of::<Started>() == 48 && offset_of!(Started, start) == 16);
     assert!(size_of::<Found>() == 24 && size_of::<Parsed>() == 64);
     assert!(size_of::<Network>() == 2_280 && offset_of!(Core, records) == 2_240 && offset_of!(Network, used) == 2_272);
     assert!(size_of::<SlotsAnswer>() == 2_280 && offset_of!(SlotsAnswer, core) == 8);

@@ -10,6 +10,7 @@ use crate::reference::table::{self, Form, FORM_TWO};
 use crate::reference::unit::{self, Unit};
 use crate::reference::{check_sizes, cost_limit, filled, search, Places};
 use crate::reference::{FORBIDDEN_PAIR, MAX_COST, MAX_ESTIMATE, MAX_TOTAL};
+use crate::start::TOLD;
 use std::ops::RangeInclusive;
 
 #[derive(Clone, Copy, PartialEq, Eq, Debug)]
@@ -101,7 +102,7 @@ pub fn cases(call: Call) -> Vec<Case> {
             [&refused[..], &file, &converter, &[ZeroUnary]].concat()
         }
         Call::Readings | Call::Tiny => vec![RoomForFormOne],
-        Call::Lent => [&table[..], &[FormOne, Largest]].concat(),
+        Call::Lent | Call::Start => [&table[..], &[FormOne, Largest]].concat(),
         Call::Parse | Call::Encode => [&limits[..], &[PrefixAbove]].concat(),
         Call::Make(_) => [&costs[..], &[UnaryMissing, Largest, FirstPays, LeastOfOne]].concat(),
         Call::InRange(_) => [&costs[..], &state, &[UnaryMissing]].concat(),
@@ -198,6 +199,7 @@ fn largest(input: &Input, outcome: &Outcome) -> bool {
         Input::Read { file, .. } => file.len() == table::MAX_FILE,
         Input::Write { .. } | Input::Convert { .. } => outcome.numbers == [table::MAX_FILE as u64],
         Input::Lent { .. } => outcome.numbers[0] == 7_712,
+        Input::Start { .. } => outcome.numbers[outcome.numbers.len() - TOLD] == 7_712,
         Input::Make { costs, .. } => costs.len() == 7_712,
         Input::MakeNetwork { stream, .. } | Input::MakeSlots { stream, .. } => stream.len() == table::MAX_STREAM,
         _ => false,

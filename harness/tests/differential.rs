@@ -907,3 +907,30 @@ fn room_looked_at_before_a_tiny_tables_number_is_found() {
     let found = compare(Call::Tiny, 20_000, 1, room_first).difference.expect("a difference");
     assert!(describe(&found).contains("refusal 21 by the reference, 13 by the other"));
 }
+
+/// A start that asks for the unit's number before the stream's 5, 6 and 7.
+#[test]
+fn a_units_number_before_its_stream_is_found() {
+    let number_first = |input: Input| {
+        let Input::Start { own, .. } = input else { unreachable!("a start") };
+        let mut outcome = calls::reference(input);
+        if (5..=7).contains(&outcome.refusal) && !(1..=16).contains(&own) {
+            outcome.refusal = 10;
+        }
+        outcome
+    };
+    let found = compare(Call::Start, 20_000, 1, number_first).difference.expect("a difference");
+    assert!(describe(&found).contains("10 by the other"));
+}
+
+/// A start that a refused block ends, although it comes again.
+#[test]
+fn a_start_that_a_refused_block_ends_is_found() {
+    let ended = |mut input: Input| {
+        let Input::Start { blocks, .. } = &mut input else { unreachable!("a start") };
+        blocks.iter_mut().for_each(|handed| handed.again = false);
+        calls::reference(input)
+    };
+    let found = compare(Call::Start, 20_000, 1, ended).difference.expect("a difference");
+    assert!(describe(&found).contains("numbers "));
+}

@@ -10,6 +10,7 @@ pub mod order;
 pub mod readings;
 pub mod search;
 pub mod slots;
+pub mod start;
 pub mod table;
 pub mod tiny;
 pub mod unit;
