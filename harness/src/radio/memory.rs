@@ -88,10 +88,10 @@ fn seen(rows: &[Row], memory: &[Vec<u8>]) -> Vec<bool> {
     seen
 }
 
-/// Each part of a process's memory that it can write.
+/// Each part of a process's memory that it can write. What stands side by side is one part, as a row may lie across.
 fn writable(process: u32) -> io::Result<Vec<Vec<u8>>> {
     let memory = File::open(format!("/proc/{process}/mem"))?;
-    let mut parts = Vec::new();
+    let (mut parts, mut end) = (Vec::<Vec<u8>>::new(), 0);
     for line in fs::read_to_string(format!("/proc/{process}/maps"))?.lines() {
         let mut words = line.split_whitespace();
         let (Some(range), Some(rights)) = (words.next(), words.next()) else { continue };
@@ -100,7 +100,11 @@ fn writable(process: u32) -> io::Result<Vec<Vec<u8>>> {
         if rights.starts_with("rw") {
             let mut part = vec![0; (to - from) as usize];
             memory.read_exact_at(&mut part, from)?;
-            parts.push(part);
+            match parts.last_mut() {
+                Some(before) if end == from => before.append(&mut part),
+                _ => parts.push(part),
+            }
+            end = to;
         }
     }
     Ok(parts)
