@@ -127,7 +127,7 @@ enum { RIKSAMOE_CPA = 1 /* paper */, RIKSAMOE_REQUEST = 2 /* copy */, RIKSAMOE_E
 /* Refusals. The order in which a call checks them stands with it; the first that applies is returned. */
 enum {
     RIKSAMOE_ACCEPTED = 0,
-    RIKSAMOE_BAD_FILE = 1,        /* table bytes: 0, no multiple of 512, or over 62,976; a block not of 512 bytes */
+    RIKSAMOE_BAD_FILE = 1,        /* table bytes: 0, no multiple of 512, or over 62,976; a block not of 512 bytes, or after 123 */
     RIKSAMOE_BAD_BLOCK = 2,       /* block number wrong */
     RIKSAMOE_BAD_PAYLOAD = 3,     /* payload count or unused bytes wrong */
     RIKSAMOE_BAD_BLOCK_CHECK = 4, /* block check wrong */
