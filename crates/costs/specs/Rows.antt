@@ -1,11 +1,11 @@
 -- The costs of all own values at once, as sums: a row of numbers for each unit, in which what is forbidden counts so much that a sum tells it.
--- In order: a sum and the cost that it stands for; rows added; the sums of a prefix. By cases on what is forbidden, then on numbers.
+-- In order: a sum and the cost that it stands for; rows added, one number or four at a time; the sums of a prefix. By cases on what is forbidden, then on numbers.
 -- Assumes nothing.
-use Prim.Native.Nat.{ℕ, suc, _+_, _*_, _-_, _≤_, _<_, min, pred}
+use Prim.Native.Nat.{ℕ, suc, _+_, _*_, _-_, _%_, _^_, _≤_, _<_, min, pred}
 use mathlib.Core.Path.{_≡_, refl, sym, ap, _∙_}
 use mathlib.Core.Bool.{Bool, true, false, cond, _&&_, and-false}
 use mathlib.Core.List.{List}
-use native.Mathlib.Nat.{zero-add}
+use native.Mathlib.Nat.{zero-add, mod-eq-of-lt}
 use native.Mathlib.Omega.{arith}
 use lib.Dec.{ltb, leb, eqb}
 use lib.ListN.{length, getD, set, replicate, length-set, getD-replicate}
@@ -33,6 +33,13 @@ forbiddenSum = 16777216
 -- a number of 16 bits in a sum
 abbrev pub widened : ℕ → ℕ
 widened y = cond (eqb y forbiddenPair) forbiddenSum y
+
+pub widened-most : (y : ℕ) → y < 65536 → widened y ≤ forbiddenSum
+widened-most y l = go (eqb y forbiddenPair)
+  where
+    go : (t : Bool) → cond t forbiddenSum y ≤ forbiddenSum
+    go true = omega arith
+    go false = omega arith
 
 abbrev pub sumCost : ℕ → Cost
 sumCost x = cond (ltb x forbiddenSum) (Of x) Forbidden
@@ -115,6 +122,64 @@ module _ (f : ℕ → ℕ) (before : List ℕ) where
 
   pub adding-done : (m i : ℕ) (after : List ℕ) → m ≤ i → Adding i f before after → Added m f before after
   adding-done m i after l a = record { long = a .long; each = λ k b. a .done k (omega arith) }
+
+-- ---- four numbers at a time: behind the first m sums a number may be added that nobody asks for, so each sum is kept in 32 bits
+
+-- y added at place i
+abbrev pub addedAt : ℕ → ℕ → List ℕ → List ℕ
+addedAt i y l = set l i ((getD l i 0 + y) % 2 ^ 32)
+
+-- the four costs from byte `at` on added from place i on
+abbrev pub fourAdded : List ℕ → ℕ → ℕ → List ℕ → List ℕ
+fourAdded costs at i l =
+    addedAt (i + 3) (widened (u16At costs (at + 6))) (addedAt (i + 2) (widened (u16At costs (at + 4))) (addedAt (i + 1) (widened (u16At costs (at + 2))) (addedAt i (widened (u16At costs at)) l)))
+
+-- the numbers before place i are added, of the first m; the sums from there on are as they were
+pub record Passing (m i : ℕ) (f : ℕ → ℕ) (before after : List ℕ) : Type 0 where
+  pub long : length after ≡ length before
+  pub done : (k : ℕ) → k < i → k < m → getD after k 0 ≡ getD before k 0 + f k
+  pub rest : (k : ℕ) → i ≤ k → getD after k 0 ≡ getD before k 0
+
+module _ (m : ℕ) (f : ℕ → ℕ) (before : List ℕ) where
+  pub passing-none : Passing m 0 f before before
+  passing-none = record { long = refl; done = λ k l. absurd (omega arith); rest = λ k l. refl }
+
+  -- one number more
+  passing-more : (i : ℕ) (after : List ℕ) (y : ℕ) → i < length before → (i < m → getD before i 0 + f i < 2 ^ 32) → y ≡ f i → Passing m i f before after → Passing m (suc i) f before (addedAt i y after)
+  passing-more i after y room fits e p = record {
+    long = length-set after i ((getD after i 0 + y) % 2 ^ 32) ∙ p .long;
+    done = λ k l few. by-place k (eqb k i) refl l few;
+    rest = λ k l. getD-set-other after i k ((getD after i 0 + y) % 2 ^ 32) 0 (λ q. omega arith) ∙ p .rest k (omega arith);
+  }
+    where
+      by-place : (k : ℕ) (t : Bool) → eqb k i ≡ t → k < suc i → k < m → getD (addedAt i y after) k 0 ≡ getD before k 0 + f k
+      by-place k true q l few =
+          let same = eqb-true k i q in
+          rw same
+          (getD-set-same after i ((getD after i 0 + y) % 2 ^ 32) 0 (omega (arith, p .long, room)) ∙ rw (p .rest i (omega arith), e) (mod-eq-of-lt (fits (omega (arith, same, few)))))
+      by-place k false q l few = let ne = eqb-false k i q in getD-set-other after i k ((getD after i 0 + y) % 2 ^ 32) 0 ne ∙ p .done k (omega (arith, l, ne)) few
+
+  pub passing-four : (costs : List ℕ) (at i : ℕ) (after : List ℕ) → ((k : ℕ) → f (i + k) ≡ widened (u16At costs (at + 2 * k))) → i + 4 ≤ length before → ((k : ℕ) → k < m → getD before k 0 + f k < 2 ^ 32) → Passing m i f before after
+      → Passing m (i + 4) f before (fourAdded costs at i after)
+  passing-four costs at i after is room fits p =
+      let n0 : i + 0 ≡ i = omega arith in
+      let b0 : at + 2 * 0 ≡ at = omega arith in
+      let e0 : widened (u16At costs at) ≡ f i = sym (rw (n0, b0) at (is 0)) in
+      let n1 : i + 1 ≡ suc i = omega arith in
+      let e1 : widened (u16At costs (at + 2)) ≡ f (suc i) = sym (rw n1 at (is 1)) in
+      let n2 : i + 2 ≡ suc (suc i) = omega arith in
+      let e2 : widened (u16At costs (at + 4)) ≡ f (suc (suc i)) = sym (rw n2 at (is 2)) in
+      let n3 : i + 3 ≡ suc (suc (suc i)) = omega arith in
+      let e3 : widened (u16At costs (at + 6)) ≡ f (suc (suc (suc i))) = sym (rw n3 at (is 3)) in
+      let n4 : i + 4 ≡ suc (suc (suc (suc i))) = omega arith in
+      let p1 = passing-more i after _ (omega arith) (fits i) e0 p in
+      let p2 = passing-more (suc i) _ _ (omega arith) (fits (suc i)) e1 p1 in
+      let p3 = passing-more (suc (suc i)) _ _ (omega arith) (fits (suc (suc i))) e2 p2 in
+      let p4 = passing-more (suc (suc (suc i))) _ _ (omega arith) (fits (suc (suc (suc i)))) e3 p3 in
+      rw (n4, n3, n2, n1) p4
+
+  pub passing-done : (i : ℕ) (after : List ℕ) → m ≤ i → Passing m i f before after → Added m f before after
+  passing-done i after l p = record { long = p .long; each = λ k b. p .done k (omega arith) b }
 
 -- nothing added
 pub added-nothing : (m : ℕ) (f : ℕ → ℕ) (before : List ℕ) → ((i : ℕ) → f i ≡ 0) → Added m f before before

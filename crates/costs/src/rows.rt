@@ -21,7 +21,7 @@ ghost use Rattle.costs.specs.Cost.{_⊕_, asNumber};
 ghost use Rattle.costs.specs.Instance.{domIn, viewFrom, viewKnowing};
 ghost use Rattle.costs.specs.Bounds.{h, estimate};
 ghost use Rattle.costs.specs.Lent.Parts.{domFrom};
-ghost use Rattle.costs.specs.Rows.{widened, sumCost, Added, Small, Sums, unitRow, paidNumber};
+ghost use Rattle.costs.specs.Rows.{widened, sumCost, Added, Small, fourAdded, Sums, unitRow, paidNumber};
 
 // The cost of each own value, of the first 16, alone and with the values of the units before, as a number: value v's at place v - 1, NONE where it
 // is forbidden, 0 where there is no such value.
@@ -149,7 +149,7 @@ fn put_unaries(sums: &mut [u32], costs: &[u8], most: usize)
 
 // The costs with value u of a unit of e values are added, none where it is no value. They begin at byte `at`, in rows of d own values.
 fn add_unit(sums: &mut [u32], costs: &[u8], at: usize, d: usize, e: usize, u: usize, most: usize)
-    requires { ⌜ (most ≤ length (now sums)) × Small most (now sums) × (most ≤ places) × (at ≤ 16777216) × (d ≤ 255) × (u ≤ 255) ⌝ }
+    requires { ⌜ (places ≤ length (now sums)) × Small most (now sums) × (most ≤ places) × (at ≤ 16777216) × (d ≤ 255) × (u ≤ 255) ⌝ }
     ensures { λ r. ⌜ Added most (unitRow (now (costs .entry)) at d e u) (now (sums .entry)) (now (sums .exit)) ⌝ }
 {
     if !is_value(e, u) {
@@ -158,15 +158,54 @@ fn add_unit(sums: &mut [u32], costs: &[u8], at: usize, d: usize, e: usize, u: us
     add_row(sums, costs, at + 2 * ((u - 1) * d), most);
 }
 
-// The row of costs that begins at byte `at` is added.
+// The row of costs that begins at byte `at` is added: four at a time, where three costs more are there behind it.
 fn add_row(sums: &mut [u32], costs: &[u8], at: usize, most: usize)
+    requires { ⌜ (places ≤ length (now sums)) × Small most (now sums) × (most ≤ places) × (at ≤ 33554432) ⌝ }
+    ensures { λ r. ⌜ Added most (λ (i : ℕ). widened (u16At (now (costs .entry)) (at + 2 * i))) (now (sums .entry)) (now (sums .exit)) ⌝ }
+{
+    if are_there(costs, at + 2 * most + 6) {
+        add_fours(sums, costs, at, most);
+        return;
+    }
+    add_each(sums, costs, at, most);
+}
+
+// Four costs at a time. Those behind the row are added to sums that nobody asks for.
+fn add_fours(sums: &mut [u32], costs: &[u8], at: usize, most: usize)
+    requires { ⌜ (places ≤ length (now sums)) × Small most (now sums) × (most ≤ places) × (at ≤ 33554432) × (at + 2 * most + 6 ≤ length (now costs)) ⌝ }
+    ensures { λ r. ⌜ Added most (λ (i : ℕ). widened (u16At (now (costs .entry)) (at + 2 * i))) (now (sums .entry)) (now (sums .exit)) ⌝ }
+{
+    let mut i = 0;
+    while i < most {
+        add_four(sums, costs, at + 2 * i, i);
+        i += 4;
+    }
+}
+
+// The four costs from byte `at` on are added to the sums from place i on, each kept in 32 bits. All are read before one is written, so that a
+// compiler can add them at once.
+fn add_four(sums: &mut [u32], costs: &[u8], at: usize, i: usize)
+    requires { ⌜ (i + 4 ≤ length (now sums)) × (i ≤ places) × (at + 8 ≤ length (now costs)) × (at ≤ 33554464) ⌝ }
+    ensures { λ r. ⌜ now (sums .exit) ≡ fourAdded (now (costs .entry)) at i (now (sums .entry)) ⌝ }
+{
+    let first = in_sum(number_at(costs, at, true));
+    let second = in_sum(number_at(costs, at + 2, true));
+    let third = in_sum(number_at(costs, at + 4, true));
+    let fourth = in_sum(number_at(costs, at + 6, true));
+    sums[i] = std::num::wrapping_add_u32(sums[i], first);
+    sums[i + 1] = std::num::wrapping_add_u32(sums[i + 1], second);
+    sums[i + 2] = std::num::wrapping_add_u32(sums[i + 2], third);
+    sums[i + 3] = std::num::wrapping_add_u32(sums[i + 3], fourth);
+}
+
+// One cost at a time; bytes past the end count as 0.
+fn add_each(sums: &mut [u32], costs: &[u8], at: usize, most: usize)
     requires { ⌜ (most ≤ length (now sums)) × Small most (now sums) × (most ≤ places) × (at ≤ 33554432) ⌝ }
     ensures { λ r. ⌜ Added most (λ (i : ℕ). widened (u16At (now (costs .entry)) (at + 2 * i))) (now (sums .entry)) (now (sums .exit)) ⌝ }
 {
-    let there = are_there(costs, at + 2 * most);
     let mut i = 0;
     while i < most {
-        sums[i] = sums[i] + in_sum(number_at(costs, at + 2 * i, there));
+        sums[i] = sums[i] + in_sum(base::u16_at(costs, at + 2 * i));
         i += 1;
     }
 }

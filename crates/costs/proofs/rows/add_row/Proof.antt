@@ -1,66 +1,29 @@
--- `add_row` meets its contract. The loop's invariant: the first i numbers are added.
+-- `add_row` meets its contract: either way each number is added. Four at a time reach no further than what is there.
 -- Assumes nothing.
-use Prim.Native.Nat.{ℕ, _+_, _*_, _-_, _≤_}
-use mathlib.Core.Path.{sym, ap, _∙_}
-use native.Mathlib.Omega.{arith}
-use lib.ListN.{length, getD}
+use Prim.Native.Nat.{_+_, _*_}
+use mathlib.Core.Path.{sym, _∙_}
+use lib.ListN.{length}
 use borrow.Author.Needs.{needs}
 use borrow.Author.Tests.{leb-true}
-use Rattle.base.specs.Bytes.{u16At}
-use Rattle.costs.specs.Rows.{widened, Adding, adding-none, adding-more, adding-done}
 use Rattle.costs.proofs.rows.add_row.Statement.{statement}
 use Rattle.costs.proofs.rows.add_row.Tie as tie
 
-abbrev Inv-loop : tie.InvT-loop
-Inv-loop sums₀ costs at most there i₀ sums i = (i ≤ most) × Adding i (λ (k : ℕ). widened (u16At costs (at + 2 * k))) sums₀ sums
-
-abbrev μ-loop : tie.MeasureT-loop
-μ-loop sums₀ costs at most there i₀ sums i = most - i
-
-loop-holds : tie.Need-loop-holds Inv-loop μ-loop
-loop-holds c = let a = c .before .before .before .args in (omega arith, adding-none (λ (k : ℕ). widened (u16At (a .costs .now) (a .at + 2 * k))) (a .sums .now))
-
-loop-again : tie.Need-loop-again Inv-loop μ-loop
-loop-again c =
-    let a = c .before .before .before .before .before .before .before .before .args in
-    let l = c .before .before .before .before .loop in
-    let number = c .in-sum .ensures .0 ∙ ap widened (c .before .number-at .ensures .0) in
-    (omega arith, adding-more (λ (k : ℕ). widened (u16At (a .costs .now) (a .at + 2 * k))) (a .sums .now) (l .i) (l .sums) _ (omega (arith, l .inv .1 .long, c .before .before .before .before .before .before .before .before .pre .0)) (l .inv .1) (ap (λ x. getD (l .sums) (l .i) 0 + x) number))
-
-returns : tie.Need-returns Inv-loop μ-loop
-returns c = let a = c .before .before .before .before .before .args in let l = c .before .loop in adding-done (λ (k : ℕ). widened (u16At (a .costs .now) (a .at + 2 * k))) (a .sums .now) (a .most) (l .i) (l .sums) (omega arith) (l .inv .1)
-
-number-at-requires : tie.Need-number-at-requires Inv-loop μ-loop
-number-at-requires c κs = let a = c .before .before .before .before .before .before .args in λ e. omega (arith, leb-true (a .at + 2 * a .most) (length (a .costs .now)) (sym (c .before .before .before .are-there .ensures) ∙ e), c .before .loop-test .taken)
-
--- no sum is too large for one number more
-add-sums : tie.Need-add-sums Inv-loop μ-loop
-add-sums c =
-    let s = c .before .before .before .before .before .before .before .before in
-    let l = c .before .before .before .before .loop in
-    record { fits = omega (arith, l .inv .1 .rest (l .i) (omega arith), s .pre .1 (l .i) (c .before .before .before .loop-test .taken), c .in-sum .ensures .1) }
+add-fours-requires : tie.Need-add-fours-requires
+add-fours-requires c κs =
+    let s = c .before .before .before .before .before in
+    (s .pre .0, s .pre .1, s .pre .2, s .pre .3, leb-true (s .args .at + 2 * s .args .most + 6) (length (s .args .costs .now)) (sym (c .before .before .are-there .ensures) ∙ c .before .if1 .taken))
 
 pub add-row-spec : {M : Type 1} → statement M
 add-row-spec =
     tie.close
     (tie.spec
-    Inv-loop
-    μ-loop
+    (λ c. search needs)
     (λ c. search needs)
     (λ c. search needs)
     (λ c κs. search needs)
-    loop-holds
+    add-fours-requires
     (λ c. search needs)
     (λ c. search needs)
-    (λ c. search needs)
-    (λ c. search needs)
-    number-at-requires
     (λ c κs. search needs)
-    add-sums
     (λ c. search needs)
-    (λ c. search needs)
-    (λ c. search needs)
-    (λ c. search needs)
-    loop-again
-    (λ c. search needs)
-    returns)
+    (λ c. search needs))
