@@ -97,11 +97,10 @@ pub none-left : (w : View) (v k : ℕ) (was : Unit) (b : Bool) (u : Unit) → ne
 unfolding tryAfter
 none-left w v k was b u l = rw (left-none w v l)
 
--- what holds whenever the loop's test is reached, of d values v being tried last and x next, the state s having been held before: the CPA in hand
--- is as it was, and the whole is what is left, after the records written
-pub record Tried (w : View) (own d from : ℕ) (s : Held) (v x records : ℕ) (improved : Bool) (t : Held) : Type 0 where
-  pub after : x ≡ next w v
-  pub within : x ≤ d
+-- what holds whenever a turn of the loop begins, of d values v being tried last, the state s having been held before: the CPA in hand is as it
+-- was, and the whole is what is left, after the records written
+pub record Tried (w : View) (own d from : ℕ) (s : Held) (v records : ℕ) (improved : Bool) (t : Held) : Type 0 where
+  pub within : v ≤ d
   pub written : records + left w v ≤ 16
   pub counter : t .counter + left w v ≤ 32
   pub threshold : getD (t .threshold) (own - 1) 0 ≤ 33

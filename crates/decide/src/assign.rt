@@ -35,14 +35,29 @@ pub(crate) fn assign(seat: Seat, costs: &[u8], ahead: &[u32], t: Held) -> Decide
     ensures { λ r. ⌜ ((was : Unit) (e : List ℕ) → r ≡ decidedOf was (assign (viewKnowing seat (now (costs .entry)) (now (ahead .entry))) (holding t e))) ⌝ }
 {
     let values = t.values;
-    let value = values[(seat.own - 1) as usize];
     let paid = costs::paid(seat, costs, values);
+    assign_paid(seat, costs, ahead, paid, t)
+}
+
+// The same, with what each value costs.
+pub(crate) fn assign_paid(
+    seat: Seat,
+    costs: &[u8],
+    ahead: &[u32],
+    paid: [u32; 16],
+    t: Held,
+) -> Decided
+    requires { ⌜ Shaped seat × Ready seat (holding t zeros) × Paid (viewKnowing seat (now costs) (now ahead)) (t .values) paid ⌝ }
+    ensures { λ r. ⌜ ((was : Unit) (e : List ℕ) → r ≡ decidedOf was (assign (viewKnowing seat (now (costs .entry)) (now (ahead .entry))) (holding t e))) ⌝ }
+{
+    let values = t.values;
+    let value = values[(seat.own - 1) as usize];
     let s = begin(seat.own, own_paid(value, paid), t);
     try_after(seat, costs, ahead, paid, value, s)
 }
 
 // The own value's costs, of those of all values; without one there are none.
-fn own_paid(value: u8, paid: [u32; 16]) -> u32
+pub(crate) fn own_paid(value: u8, paid: [u32; 16]) -> u32
     requires { ⌜ value ≤ 16 ⌝ }
     ensures { λ r. ⌜ (value ≡ 0 → r ≡ 0) × (1 ≤ value → r ≡ getD paid (value - 1) 0) ⌝ }
 {
@@ -75,10 +90,11 @@ fn try_after(seat: Seat, costs: &[u8], ahead: &[u32], paid: [u32; 16], from: u8,
     let mut improved = false;
     let mut records = 0;
     let mut v = from;
-    let mut after = next(seat, keys, v);
-    while after != 0 {
-        v = after;
-        after = next(seat, keys, v);
+    loop {
+        v = next(seat, keys, v);
+        if v == 0 {
+            return backtrack(seat.own, improved, records, t);
+        }
         let place = (v - 1) as usize;
         let cost = base::wide_u64(t.cost) + base::wide_u64(paid[place]);
         if below_bound(seat, costs, ahead, v, cost, t.bound) {
@@ -90,7 +106,6 @@ fn try_after(seat: Seat, costs: &[u8], ahead: &[u32], paid: [u32; 16], from: u8,
             improved = true;
         }
     }
-    backtrack(seat.own, improved, records, t)
 }
 
 // Whether this cost with own value v, and h, stay below the bound. h is asked for only where the cost does.

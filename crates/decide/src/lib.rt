@@ -38,10 +38,14 @@ ghost use Rattle.rules.specs.Ready.{Own, Shaped, Ready, Heard, decidedOf};
 pub fn respond(seat: Seat, costs: &[u8], ahead: &[u32], kind: Kind, u: Unit, m: Message) -> Decided
     ensures { λ r. ⌜ r ≡ decidedOf u (respondTo seat (now (costs .entry)) (now (ahead .entry)) kind u m) ⌝ }
 {
-    if !can_step(seat, u) {
+    let threshold = u.threshold;
+    let values = u.values;
+    if !can_step(seat, threshold, values, u.counter) {
         return refuse(5, u);
     }
-    if !can_hear(seat.own, m) {
+    let stamp = m.stamp;
+    let theirs = m.values;
+    if !can_hear(seat.own, m.sender, stamp, theirs) {
         return refuse(9, u);
     }
     by_kind(seat, costs, ahead, kind, u, m)
@@ -52,7 +56,9 @@ pub fn start(seat: Seat, costs: &[u8], ahead: &[u32]) -> Decided
     ensures { λ r. ⌜ r ≡ decidedOf fresh (startTo seat (now (costs .entry)) (now (ahead .entry))) ⌝ }
 {
     let u = fresh();
-    if !can_step(seat, u) {
+    let threshold = u.threshold;
+    let values = u.values;
+    if !can_step(seat, threshold, values, u.counter) {
         return refuse(5, u);
     }
     if seat.own == 1 {
@@ -78,9 +84,9 @@ fn by_kind(seat: Seat, costs: &[u8], ahead: &[u32], kind: Kind, u: Unit, m: Mess
     }
 }
 
-// Whether a unit in this state can step at all.
-fn can_step(seat: Seat, u: Unit) -> bool
-    ensures { λ r. ⌜ r ≡ canStep (seat .own) (seat .n) (seat .sizes) u ⌝ }
+// Whether a unit in a state with these parts can step at all.
+fn can_step(seat: Seat, threshold: [u8; 16], values: [u8; 16], counter: u8) -> bool
+    ensures { λ r. ⌜ ((u : Unit) → u .threshold ≡ threshold → u .values ≡ values → u .counter ≡ counter → r ≡ canStep (seat .own) (seat .n) (seat .sizes) u) ⌝ }
 {
     if !message::is_unit(seat.n, seat.own) {
         return false;
@@ -92,35 +98,35 @@ fn can_step(seat: Seat, u: Unit) -> bool
     if 16 < seat.sizes[place] {
         return false;
     }
-    if 17 < u.threshold[place] {
+    if 17 < threshold[place] {
         return false;
     }
-    let value = u.values[place];
+    let value = values[place];
     if seat.sizes[place] < value {
         return false;
     }
     if value == 0 {
         return true;
     }
-    u.counter <= 16
+    counter <= 16
 }
 
-// Whether unit `own` can do anything with a message.
-fn can_hear(own: u8, m: Message) -> bool
+// Whether unit `own` can do anything with a message with these parts.
+fn can_hear(own: u8, sender: u8, stamp: [u8; 16], values: [u8; 16]) -> bool
     requires { ⌜ Own own ⌝ }
-    ensures { λ r. ⌜ r ≡ canHear own m ⌝ }
+    ensures { λ r. ⌜ ((m : Message) → m .sender ≡ sender → m .stamp ≡ stamp → m .values ≡ values → r ≡ canHear own m) ⌝ }
 {
-    if !message::is_unit(16, m.sender) {
+    if !message::is_unit(16, sender) {
         return false;
     }
     let place = (own - 1) as usize;
-    if 17 < m.stamp[place] {
+    if 17 < stamp[place] {
         return false;
     }
-    if own <= m.sender {
+    if own <= sender {
         return true;
     }
-    m.values[place] == 0
+    values[place] == 0
 }
 
 // A new unit: bound *none*, all else zero.

@@ -1,6 +1,7 @@
 // A cpa comes in: 01, "Paper".
 
-use crate::assign::assign;
+use crate::assign::assign_paid;
+use crate::assign::own_paid;
 use crate::backtrack::backtrack;
 use crate::backtrack::bare_cost;
 use crate::backtrack::take_off;
@@ -10,7 +11,6 @@ use crate::bound::take_bound;
 use crate::state::compare;
 use crate::state::hold;
 use crate::state::not_less;
-use crate::state::own_cost;
 use crate::state::same;
 use costs::Seat;
 use message::Message;
@@ -116,15 +116,17 @@ pub(crate) fn is_stamp_out(own: u8, values: [u8; 16], stamp: [u8; 16], theirs: [
     same(own as usize, theirs, stamp)
 }
 
-// Backtrack where the cost without the own value reaches the bound, else assign.
+// Backtrack where the cost without the own value reaches the bound, else assign. What the values cost is worked out once for both.
 fn resume(seat: Seat, costs: &[u8], ahead: &[u32], t: Held) -> Decided
     requires { ⌜ Shaped seat × Ready seat (holding t zeros) ⌝ }
     ensures { λ r. ⌜ ((was : Unit) (e : List ℕ) → r ≡ decidedOf was (resume (viewKnowing seat (now (costs .entry)) (now (ahead .entry))) (holding t e))) ⌝ }
 {
     let values = t.values;
-    let paid = own_cost(seat, costs, values);
-    if t.bound <= bare_cost(t.cost, paid) {
-        return backtrack(seat.own, false, 0, take_off(seat.own, paid, t));
+    let value = values[(seat.own - 1) as usize];
+    let paid = costs::paid(seat, costs, values);
+    let own = own_paid(value, paid);
+    if t.bound <= bare_cost(t.cost, own) {
+        return backtrack(seat.own, false, 0, take_off(seat.own, own, t));
     }
-    assign(seat, costs, ahead, t)
+    assign_paid(seat, costs, ahead, paid, t)
 }

@@ -43,7 +43,7 @@ pub fn in_range(seat: Seat, costs: &[u8], ahead: &[u32], u: Unit) -> bool
 }
 
 // The own value's costs, NONE where they are forbidden; without one there are none to add up.
-pub(crate) fn own_cost(seat: Seat, costs: &[u8], values: [u8; 16]) -> u32
+fn own_cost(seat: Seat, costs: &[u8], values: [u8; 16]) -> u32
     requires { ⌜ Own (seat .own) ⌝ }
     ensures { λ r. ⌜ ((ahead : List ℕ) (u : Unit) → u .values ≡ values → r ≡ ownCost (viewKnowing seat (now (costs .entry)) ahead) u) ⌝ }
 {

@@ -9,20 +9,20 @@ use Rattle.decide.proofs.can_hear.Statement.{statement}
 use Rattle.decide.proofs.can_hear.Tie as tie
 
 -- from a unit
-sent : (c : tie.Else1) → isUnit 16 (c .before .before .args .t2 .sender) ≡ true
+sent : (c : tie.Else1) → isUnit 16 (c .before .before .args .sender) ≡ true
 sent c = sym (c .before .is-unit .ensures) ∙ not-false _ (c .if1 .left)
 
 returns : tie.Need-returns
-returns c = let e : isUnit 16 (c .before .before .args .t2 .sender) ≡ false = sym (c .before .is-unit .ensures) ∙ not-true _ (c .if1 .taken) in rw e
+returns c = λ m p q r. let e : isUnit 16 (c .before .before .args .sender) ≡ false = sym (c .before .is-unit .ensures) ∙ not-true _ (c .if1 .taken) in rw (p, e)
 
 returns-2 : tie.Need-returns-2
-returns-2 c = rw (sent (c .before .before), lt-leb _ 17 (c .if2 .taken))
+returns-2 c = λ m p q r. rw (p, q, r, sent (c .before), lt-leb _ 17 (c .if2 .taken))
 
 returns-3 : tie.Need-returns-3
-returns-3 c = rw (sent (c .before .before .before), le-leb _ 17 (c .before .if2 .left), le-leb _ _ (c .if3 .taken))
+returns-3 c = λ m p q r. rw (p, q, r, sent (c .before .before), le-leb _ 17 (c .before .if2 .left), le-leb _ _ (c .if3 .taken))
 
 returns-4 : tie.Need-returns-4
-returns-4 c = rw (sent (c .before .before .before .before), le-leb _ 17 (c .before .before .if2 .left), lt-leb _ _ (c .before .if3 .left))
+returns-4 c = λ m p q r. rw (p, q, r, sent (c .before .before), le-leb _ 17 (c .before .if2 .left), lt-leb _ _ (c .if3 .left))
 
 pub can-hear-spec : {M : Type 1} → statement M
 can-hear-spec = tie.close (tie.spec (λ c κs. search needs) returns (λ c. search needs) (λ c. search needs) (λ c. search needs) returns-2 returns-3 (λ c. search needs) returns-4)

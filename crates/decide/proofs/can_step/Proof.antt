@@ -22,31 +22,31 @@ place : (c : tie.Else2) → let s = c .before .before .before .args .t1 in (1 �
 place c = let s = c .before .before .before .args .t1 in let r = unit-range (s .n) (s .own) (unit (c .before)) in (r .0, omega (arith, r .0, r .1, c .if2 .left))
 
 returns : tie.Need-returns
-returns c = let s = c .before .before .args .t1 in let e : isUnit (s .n) (s .own) ≡ false = sym (c .before .is-unit .ensures) ∙ not-true _ (c .if1 .taken) in rw e
+returns c = λ u e f g. let s = c .before .before .args .t1 in let e : isUnit (s .n) (s .own) ≡ false = sym (c .before .is-unit .ensures) ∙ not-true _ (c .if1 .taken) in rw e
 
 returns-2 : tie.Need-returns-2
-returns-2 c = rw (unit (c .before), lt-leb _ 16 (c .if2 .taken))
+returns-2 c = λ u e f g. rw (unit (c .before), lt-leb _ 16 (c .if2 .taken))
 
 returns-3 : tie.Need-returns-3
-returns-3 c = rw (unit (c .before .before .before), le-leb _ 16 (c .before .before .if2 .left), lt-leb _ 16 (c .if3 .taken))
+returns-3 c = λ u e f g. rw (unit (c .before .before .before), le-leb _ 16 (c .before .before .if2 .left), lt-leb _ 16 (c .if3 .taken))
 
 returns-4 : tie.Need-returns-4
-returns-4 c = rw (unit (c .before .before .before .before .before), le-leb _ 16 (c .before .before .before .before .if2 .left), le-leb _ 16 (c .before .before .if3 .left), lt-leb _ 17 (c .if4 .taken))
+returns-4 c = λ u e f g. rw (e, f, g, unit (c .before .before .before .before), le-leb _ 16 (c .before .before .before .if2 .left), le-leb _ 16 (c .before .if3 .left), lt-leb _ 17 (c .if4 .taken))
 
 -- all but the own value and the counter
 most : (c : tie.Else4)
-    → let a = c .before .before .before .before .before .before .before .args in
-    (isUnit (a .t1 .n) (a .t1 .own) && leb (a .t1 .n) 16 && leb (getD (a .t1 .sizes) (a .t1 .own - 1) 0) 16 && leb (getD (a .t2 .threshold) (a .t1 .own - 1) 0) 17) ≡ true
-most c = rw (unit (c .before .before .before .before .before), le-leb _ 16 (c .before .before .before .before .if2 .left), le-leb _ 16 (c .before .before .if3 .left), le-leb _ 17 (c .if4 .left))
+    → let a = c .before .before .before .before .before .before .args in
+    (isUnit (a .t1 .n) (a .t1 .own) && leb (a .t1 .n) 16 && leb (getD (a .t1 .sizes) (a .t1 .own - 1) 0) 16 && leb (getD (a .t2) (a .t1 .own - 1) 0) 17) ≡ true
+most c = rw (unit (c .before .before .before .before), le-leb _ 16 (c .before .before .before .if2 .left), le-leb _ 16 (c .before .if3 .left), le-leb _ 17 (c .if4 .left))
 
 returns-5 : tie.Need-returns-5
-returns-5 c = rw (most (c .before .before .before), lt-leb _ _ (c .if5 .taken))
+returns-5 c = λ u e f g. rw (e, f, g, most (c .before .before), lt-leb _ _ (c .if5 .taken))
 
 returns-6 : tie.Need-returns-6
-returns-6 c = rw (most (c .before .before .before .before), le-leb _ _ (c .before .if5 .left), eq-eqb _ 0 (c .if6 .taken))
+returns-6 c = λ u e f g. rw (e, f, g, most (c .before .before .before), le-leb _ _ (c .before .if5 .left), eq-eqb _ 0 (c .if6 .taken))
 
 returns-7 : tie.Need-returns-7
-returns-7 c = rw (most (c .before .before .before .before), le-leb _ _ (c .before .if5 .left), ne-eqb _ 0 (c .if6 .left))
+returns-7 c = λ u e f g. rw (e, f, g, most (c .before .before .before), le-leb _ _ (c .before .if5 .left), ne-eqb _ 0 (c .if6 .left))
 
 pub can-step-spec : {M : Type 1} → statement M
 can-step-spec =
@@ -61,8 +61,8 @@ can-step-spec =
     returns-3
     (λ c. place (c .before .before) .1)
     returns-4
-    (λ c. place (c .before .before .before .before) .1)
-    (λ c. place (c .before .before .before .before .before) .1)
+    (λ c. place (c .before .before .before) .1)
+    (λ c. place (c .before .before .before) .1)
     returns-5
     returns-6
     returns-7)
