@@ -12,6 +12,7 @@ use crate::short::send_on;
 use costs::ValueOrder;
 use runs::Answer;
 use runs::Network;
+use unit::Unit;
 use unit::Way;
 ghost use mathlib.Core.Path.{_≡_};
 ghost use Rattle.costs.specs.Order.{defaultOrder};
@@ -42,42 +43,34 @@ pub fn settle_by(order: ValueOrder, stream: &[u8], pool: &mut [u8]) -> Answer
 }
 
 // Delivers cell 0 of a new network until unit 1 stops. No delivery is asked what the making has seen: the costs of each unit are gathered
-// once, and so is h of its values; the packets are those that the units sent. Most go a short way, on which the unit stays where it is.
+// once, and so is h of its values; the packets are those that the units sent. Most go a short way, on which the unit stays where it is: each
+// such way has an arm of its own, so that a compiler writes only what it changes.
 fn run(order: ValueOrder, stream: &[u8], net: Network, pool: &mut [u8]) -> Network
     requires { ⌜ Begun order (now stream) net (now pool) ⌝ }
     ensures { λ r. ⌜ Ended order (now (stream .entry)) net (now (pool .entry)) r (now (pool .exit)) ⌝ }
 {
     let mut lent = [0u8; LENT_SIZE];
     let loans = lend(order, stream, &mut lent);
-    let starts = loans.starts;
-    let looks = loans.looks;
     let first = first_seat(order, stream);
     let mut core = net.core;
     let mut used = net.used;
-    loop {
-        let one = core.units[0];
-        if one.stopped {
-            return Network { core, used };
-        }
+    while !has_stopped(core.units[0]) {
         let seat = seat_of(first, &pool[0..base::MESSAGE_SIZE]);
         let place = (seat.own - 1) as usize;
-        let lo = starts[place];
-        let hi = starts[place + 1];
-        let known = looks[place];
+        let lo = loans.starts[place];
+        let hi = loans.starts[place + 1];
+        let known = loans.looks[place];
         let h = known.ahead;
-        let u = core.units[place];
-        let turn = hear(seat, &lent[lo..hi], &h, u, pool, used as usize);
+        let turn = hear(seat, &lent[lo..hi], &h, core.units[place], pool, used);
         let way = turn.way;
         let mut sent = turn.sent;
         match way {
             Way::Quiet | Way::Reply => {}
-            Way::Follow | Way::Store | Way::Lower => {
-                let w = core.units[place];
-                core.units[place] = changed(turn, w);
-            }
+            Way::Follow => core.units[place] = changed(turn, core.units[place]),
+            Way::Store => core.units[place] = changed(turn, core.units[place]),
+            Way::Lower => core.units[place] = changed(turn, core.units[place]),
             Way::Whole => {
-                let w = core.units[place];
-                let d = decided(seat, &lent[lo..hi], &h, turn, w);
+                let d = decided(seat, &lent[lo..hi], &h, turn, core.units[place]);
                 let w = d.unit;
                 core.units[place] = w;
                 let records = core.records;
@@ -89,4 +82,12 @@ fn run(order: ValueOrder, stream: &[u8], net: Network, pool: &mut [u8]) -> Netwo
         let deliveries = core.deliveries;
         core.deliveries = core::plus(deliveries, 1);
     }
+    Network { core, used }
+}
+
+// Whether a unit has stopped.
+fn has_stopped(u: Unit) -> bool
+    ensures { λ r. ⌜ r ≡ u .stopped ⌝ }
+{
+    u.stopped
 }

@@ -68,7 +68,7 @@ pub(crate) fn hear(
     ahead: &[u32],
     u: Unit,
     pool: &mut [u8],
-    used: usize,
+    used: u64,
 ) -> Turn
     requires { ⌜ Oldest (seat .order) u (seat .own) (seat .n) (seat .sizes) (now costs) (now ahead) (now pool) used ⌝ }
     ensures { λ r. ⌜ ((t : Oldest (seat .order) u (seat .own) (seat .n) (seat .sizes) (now (costs .entry)) (now (ahead .entry)) (now (pool .entry)) used) → Heard t (r .way) (r .message) (r .sent) (now (pool .exit))) × (record { message = r .message; answer = r .read } ≡ unpackOf (take messageSize (drop 0 (now (pool .entry))))) × SizedUnit u ⌝ }
@@ -77,7 +77,7 @@ pub(crate) fn hear(
     let read = known.answer;
     let message = known.message;
     let way = unit::way(seat, read, u, message);
-    let sent = pass(way, seat, costs, ahead, message, pool, used);
+    let sent = pass(way, seat, costs, ahead, message, pool, used as usize);
     Turn {
         message,
         read,
