@@ -1,13 +1,12 @@
 -- `add_fours` meets its contract. The loop's invariant: the numbers before place i are added, four at a time; the sums from there on are as
 -- they were. Assumes nothing.
-use Prim.Native.Nat.{ℕ, _+_, _*_, _-_, _%_, _^_, _≤_, _<_}
+use Prim.Native.Nat.{ℕ, _+_, _*_, _-_, _%_, _≤_}
 use mathlib.Core.Path.{_≡_, refl, ap}
 use native.Mathlib.Omega.{arith}
-use lib.ListN.{length, getD}
 use borrow.Author.Needs.{needs}
 use Rattle.base.specs.Bytes.{u16At}
 use Rattle.base.specs.Bytes.Laws.{AllBytes}
-use Rattle.costs.specs.Rows.{widened, Small, Passing, widened-most, passing-none, passing-four, passing-done}
+use Rattle.costs.specs.Rows.{widened, Passing, widened-most, passing-none, passing-four, passing-done}
 use Rattle.costs.proofs.rows.add_fours.Statement.{statement}
 use Rattle.costs.proofs.rows.add_fours.Tie as tie
 
