@@ -5,8 +5,8 @@
 //! speed [--counts FOLDER] [WORD]   times; WORD: the rows alone whose name has it. FOLDER: callgrind's dumps of a run with --once
 //! speed --once [WORD]              does the work of every row once, with a call of `riksamoe_mark` before and after, for callgrind to dump at
 //!
-//! Both are built for release and get the same inputs in the same buffers, which are not cleared between rounds. Each time is the best
-//! of five measurements of a twentieth of a second of processor time or more. scripts/speed runs it.
+//! Both are built for release and get the same inputs in the same buffers, which are not cleared between rounds. They work in turn,
+//! a hundredth of a second of processor time or more each; each number is the median of 31 turns. scripts/speed runs it.
 
 use harness::linked;
 use harness::random::Random;
@@ -469,19 +469,27 @@ extern "C" {
     fn clock() -> i64;
 }
 
-/// How many a second of processor time: the best of five measurements.
+/// How many a second of processor time, in one slice of a hundredth of a second or more.
 fn a_second(work: impl Fn() -> u64) -> f64 {
     let now = || unsafe { clock() };
-    let mut best: f64 = 0.0;
-    for _ in 0..5 {
-        let start = now();
-        let mut done = 0;
-        while now() - start < 50_000 {
-            done += work();
-        }
-        best = best.max(done as f64 * 1e6 / (now() - start) as f64);
+    let (start, mut done) = (now(), 0);
+    while now() - start < 10_000 {
+        done += work();
     }
-    best
+    done as f64 * 1e6 / (now() - start) as f64
+}
+
+fn median(mut numbers: Vec<f64>) -> f64 {
+    numbers.sort_by(f64::total_cmp);
+    numbers[numbers.len() / 2]
+}
+
+/// How many a second of processor time each of two does, and how many times slower the first is. They work in turn, a slice each, so that what
+/// slows the machine down slows both; each number is the median of 31 turns.
+fn in_turn(work: impl Fn(usize) -> u64) -> ([f64; 2], f64) {
+    let turns: Vec<[f64; 2]> = (0..31).map(|_| [0, 1].map(|side| a_second(|| work(side)))).collect();
+    let speed = [0, 1].map(|side| median(turns.iter().map(|turn| turn[side]).collect()));
+    (speed, median(turns.iter().map(|turn| turn[1] / turn[0]).collect()))
 }
 
 /// Callgrind dumps here.
@@ -532,13 +540,12 @@ fn main() {
     println!(" {:>14} {:>14} {:>7}", "Rattle instr.", "yardst. instr.", "more");
     let mut means: Vec<(String, Vec<f64>, Vec<f64>)> = Vec::new();
     for (k, row) in rows.iter().enumerate() {
-        let speed = LIBRARIES.map(|library| a_second(|| black_box((row.work)(library))));
+        let (speed, slower) = in_turn(|side| black_box((row.work)(LIBRARIES[side])));
         let done = LIBRARIES.map(|library| (row.work)(library).max(1));
         let cost = [0, 1]
             .map(|side| instructions(counts.as_deref(), 2 * k + side).map(|number| number as f64 / done[side] as f64));
-        let slower = speed[1] / speed[0];
         print!("{:<39} {:<9} {:<9}", row.name, row.beside, row.counted);
-        print!(" {:>14.0} {:>14.0} {slower:>7.1}", speed[0], speed[1]);
+        print!(" {:>14.0} {:>14.0} {slower:>7.2}", speed[0], speed[1]);
         let rate = match row.bytes {
             0 => String::new(),
             bytes => format!("   {:.0} and {:.0} MB/s", speed[0] * bytes as f64 / 1e6, speed[1] * bytes as f64 / 1e6),
