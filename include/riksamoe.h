@@ -91,6 +91,7 @@
  *   riksamoe_newer_refusal            1,024
  *   riksamoe_search                   7,424
  *   riksamoe_branch_and_bound         7,424
+ *   riksamoe_ends                       256
  */
 #ifndef RIKSAMOE_H
 #define RIKSAMOE_H
@@ -102,7 +103,7 @@
 extern "C" {
 #endif
 
-#define RIKSAMOE_VERSION 11        /* raised where a call, a struct or a promise below changes */
+#define RIKSAMOE_VERSION 12        /* raised where a call, a struct or a promise below changes */
 
 #define RIKSAMOE_UNITS 16          /* places in every array: unit k's is k - 1 */
 #define RIKSAMOE_NONE 4294967295u  /* the bound *none*; the estimate of a unit that has no value left */
@@ -145,6 +146,7 @@ enum {
     RIKSAMOE_TOO_MANY = 16,       /* more than 1,048,576 assignments (riksamoe_search only) */
     RIKSAMOE_BAD_READING = 17,    /* a reading not 100 to 400 */
     RIKSAMOE_HAS_UNARY = 18,      /* a table with a unary cost above 0 has no form one */
+    RIKSAMOE_PAST_LIMIT = 20,     /* an old or new cost above 60,000, RIKSAMOE_FORBIDDEN too; a total above 8,160,000 that is not RIKSAMOE_NONE */
     RIKSAMOE_NO_SUCH_TABLE = 21,  /* a tiny table's number past the last, or a unit count other than 2 or 3 */
     RIKSAMOE_ODD_LIST = 22        /* a list of cells to replay of odd length */
 };
@@ -242,6 +244,13 @@ typedef struct {
     uint32_t total;     /* 4 */
     uint8_t values[16]; /* 8 */
 } riksamoe_found_t;
+
+/* How far the least total may go when one cost changes: a refusal and zeros, or 0, the lowest and the highest that it can become. Size 12. */
+typedef struct {
+    uint8_t refusal; /* 0 */
+    uint32_t lower;  /* 4 */
+    uint32_t upper;  /* 8 */
+} riksamoe_range_t;
 
 /* A number of two words: low + 2^64 times high. Size 16. */
 typedef struct {
@@ -471,6 +480,12 @@ riksamoe_found_t riksamoe_search(const uint8_t *stream, size_t length);
  * anything short. */
 riksamoe_found_t riksamoe_branch_and_bound(const uint8_t *stream, size_t length);
 
+/* A retest: of a table with this least total, RIKSAMOE_NONE where it has no assignment, one cost, of a value alone or of a pair, becomes `new_cost`
+ * where it was `old_cost`: 20. Proved: the new least total, as either search above gives it, lies between the ends, both of them RIKSAMOE_NONE where
+ * the old one is. Of several costs that change the lowerings add up for the lower end, which is never below 0, and the raises for the upper one, as
+ * long as n, the sizes and the forbidden pairs stay. The upper end may be above 8,160,000. */
+riksamoe_range_t riksamoe_ends(uint32_t total, uint32_t old_cost, uint32_t new_cost);
+
 /* ---- The layouts above, held */
 
 #if defined(__cplusplus) && __cplusplus >= 201103L
@@ -506,6 +521,7 @@ RIKSAMOE_HOLDS(sizeof(riksamoe_network_t) == 2280 && offsetof(riksamoe_network_t
 RIKSAMOE_HOLDS(sizeof(riksamoe_answer_t) == 2288 && offsetof(riksamoe_answer_t, network) == 8);
 RIKSAMOE_HOLDS(sizeof(riksamoe_slots_answer_t) == 2280 && offsetof(riksamoe_slots_answer_t, core) == 8);
 RIKSAMOE_HOLDS(sizeof(riksamoe_found_t) == 24 && offsetof(riksamoe_found_t, total) == 4 && offsetof(riksamoe_found_t, values) == 8);
+RIKSAMOE_HOLDS(sizeof(riksamoe_range_t) == 12 && offsetof(riksamoe_range_t, lower) == 4 && offsetof(riksamoe_range_t, upper) == 8);
 
 #ifdef __cplusplus
 }

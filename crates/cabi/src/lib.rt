@@ -10,6 +10,7 @@ use message::Read;
 use network::Answer;
 use network::Count;
 use search::Found;
+use sensitivity::Range;
 use table::Form;
 use unit::Outcome;
 use unit::Report;
@@ -39,6 +40,7 @@ ghost use Rattle.slots.specs.Newer.{newerRefusal, whichNewer};
 ghost use Rattle.slots.specs.Calls.{makeOf as slotsMakeOf};
 ghost use Rattle.slots.specs.Settle.{settleOf as slotsSettleOf};
 ghost use Rattle.search.specs.Search.{searchOf, branchAndBoundOf};
+ghost use Rattle.sensitivity.specs.Ends.{endsOf};
 ghost use Rattle.start.specs.Block.{fresh};
 ghost use Rattle.cabi.specs.Begun.{lentStart, startBlock, startedCosts};
 ghost use Rattle.cabi.specs.Lent.{unitFrom};
@@ -659,6 +661,13 @@ pub extern "C" fn riksamoe_branch_and_bound(stream: &[u8]) -> Found
     ensures { λ r. ⌜ r ≡ branchAndBoundOf (now (stream .entry)) ⌝ }
 {
     search::branch_and_bound(stream)
+}
+
+#[no_mangle]
+pub extern "C" fn riksamoe_ends(total: u32, old: u32, new: u32) -> Range
+    ensures { λ r. ⌜ r ≡ endsOf total old new ⌝ }
+{
+    sensitivity::ends(total, old, new)
 }
 
 // ---- orders and kinds by their numbers
