@@ -7,7 +7,7 @@ use crate::reference::slots::{self, Shed, Slot};
 use crate::reference::start::{Begun, Start};
 use crate::reference::table::Form;
 use crate::reference::unit::{self, Unit};
-use crate::reference::{checksum, convert, costs, readings, search, table, tiny, Places, Refusal};
+use crate::reference::{checksum, convert, costs, readings, retest, search, table, tiny, Places, Refusal};
 
 /// Those that try values do so in one order.
 #[derive(Clone, Copy, PartialEq, Eq, Debug)]
@@ -39,6 +39,7 @@ pub enum Call {
     SettleSlots(ValueOrder),
     Search,
     BranchAndBound,
+    Ends,
 }
 
 const MAKE: &[u8] = &[5, 10, 6, 7, 13];
@@ -56,7 +57,7 @@ const REPLAY_SLOTS: &[u8] = &[22, 13, 5, 6, 7, 12, 15, 8, 10, 9, 11];
 pub const NUMBERS: usize = 23;
 
 /// Each call, its name in the Rattle code with the order in which it tries values, and the refusals it can give.
-pub const CALLS: [(Call, &str, &[u8]); 38] = [
+pub const CALLS: [(Call, &str, &[u8]); 39] = [
     (Call::Sum, "checksum::sum", &[]),
     (Call::Block, "table::read_block", &[1, 4, 2, 3]),
     (Call::Read, "table::read", &[13, 1, 4, 2, 3, 5, 6, 7]),
@@ -95,6 +96,7 @@ pub const CALLS: [(Call, &str, &[u8]); 38] = [
     (Call::SettleSlots(CheapestFirst), "slots::settle, cheapest first", MAKE_NETWORK),
     (Call::Search, "search::exhaustive", &[5, 6, 7, 16]),
     (Call::BranchAndBound, "search::branch_and_bound", &[5, 6, 7]),
+    (Call::Ends, "sensitivity::ends", &[20]),
 ];
 
 /// The order that a call names by its number, as C does; `None` is the call that names nothing.
@@ -167,6 +169,7 @@ pub enum Input {
     SettleSlots { order: Named, stream: Vec<u8>, pool: Vec<u8> },
     Search { stream: Vec<u8> },
     BranchAndBound { stream: Vec<u8> },
+    Ends { total: u32, old: u32, new: u32 },
 }
 
 impl Input {
@@ -381,6 +384,12 @@ pub fn reference(input: Input) -> Outcome {
         }
         Input::Search { stream } => found_outcome(search::exhaustive(&stream)),
         Input::BranchAndBound { stream } => found_outcome(search::branch_and_bound(&stream)),
+        Input::Ends { total, old, new } => {
+            let ends = retest::ends(total, old, new);
+            let (lower, upper) = ends.unwrap_or((0, 0));
+            let numbers = vec![lower.into(), upper.into()];
+            Outcome { refusal: ends.err().unwrap_or(0), numbers, ..Outcome::default() }
+        }
     }
 }
 

@@ -42,7 +42,7 @@ pub enum Case {
 pub fn cases(call: Call) -> &'static [Case] {
     use Case::*;
     match call {
-        Call::Sum | Call::Block | Call::Readings | Call::Tiny | Call::SlotOf | Call::Newer => &[],
+        Call::Sum | Call::Block | Call::Readings | Call::Tiny | Call::SlotOf | Call::Newer | Call::Ends => &[],
         Call::Read | Call::Write | Call::ToFormTwo | Call::ToFormOne | Call::Lent | Call::Start => &[Pair, OneBelow],
         Call::Parse | Call::Encode => &[Estimate, OneBelow],
         Call::Make(_) | Call::MakeNetwork(_) | Call::MakeSlots(_) => &[Pair, OneBelow, NoH, Stops],

@@ -18,7 +18,7 @@ use crate::reference::slots::Slot;
 use crate::reference::start::COSTS;
 use crate::reference::table::Form;
 use crate::reference::unit::Unit;
-use crate::reference::{cost_limit, table, tiny, Places, MAX_ESTIMATE, MAX_TOTAL, NONE};
+use crate::reference::{cost_limit, table, tiny, Places, MAX_COST, MAX_ESTIMATE, MAX_TOTAL, NONE};
 use crate::sample;
 use runs::{ran, Ran};
 use tables::{damage_cost, damage_file, damage_stream, dearest, file, past_limit, sizes, some_stream, stream};
@@ -652,6 +652,29 @@ fn branch_and_bound(random: &mut Random) -> Input {
     Input::BranchAndBound { stream }
 }
 
+/// A total and two costs at the ends of their ranges, near one another or any; at times past them.
+fn retest(random: &mut Random) -> Input {
+    let past = random.below(8);
+    let mut cost = |past: bool| match random.below(6) {
+        _ if past => *random.pick(&[60_001, 65_534, 65_535, 65_536, 120_000, MAX_TOTAL, NONE - 1, NONE]),
+        0 => 0,
+        1 => MAX_COST,
+        2 | 3 => random.below(20) as u32,
+        _ => random.below(u64::from(MAX_COST) + 1) as u32,
+    };
+    let (old, new) = (cost(past == 1), cost(past == 2));
+    let new = if random.once_in(6) { old } else { new };
+    let total = match random.below(8) {
+        _ if past == 3 => *random.pick(&[MAX_TOTAL + 1, MAX_TOTAL + 60_000, NONE - 60_000, NONE - 1]),
+        0 => NONE,
+        1 => MAX_TOTAL,
+        2 => 0,
+        3 | 4 => random.below(100_000) as u32,
+        _ => random.below(u64::from(MAX_TOTAL) + 1) as u32,
+    };
+    Input::Ends { total, old, new }
+}
+
 fn table_read(random: &mut Random) -> Input {
     Input::Read { file: file(random), stream: buffer(random, table::MAX_STREAM) }
 }
@@ -810,5 +833,6 @@ pub fn input(random: &mut Random, call: Call) -> Input {
         Call::SettleSlots(order) => slots::settle(random, order),
         Call::Search => exhaustive(random),
         Call::BranchAndBound => branch_and_bound(random),
+        Call::Ends => retest(random),
     }
 }

@@ -1,4 +1,4 @@
-//! An independent implementation of documents 01 and 02 (jobs 1, 2, 3, 4, 6, 7, 9, 13 and 14) and the tools that compare the Rattle code with it.
+//! An independent implementation of documents 01 and 02 (jobs 1, 2, 3, 4, 6, 7, 9, 12, 13 and 14) and the tools that compare the Rattle code with it.
 //!
 //! `reference` is written from the documents alone. Nothing here is proved: it is the other opinion.
 
@@ -23,6 +23,7 @@ pub mod random;
 pub mod recorded;
 pub mod reference;
 pub mod replay;
+pub mod retest;
 pub mod sample;
 pub mod slots;
 pub mod start;

@@ -147,6 +147,14 @@ pub struct Found {
     pub values: Places,
 }
 
+#[repr(C)]
+#[derive(Clone, Copy)]
+pub struct Range {
+    pub refusal: u8,
+    pub lower: u32,
+    pub upper: u32,
+}
+
 extern "C" {
     fn riksamoe_checksum(bytes: *const u8, length: usize) -> u32;
     fn riksamoe_block_refusal(block: *const u8, length: usize, expected: u16, last: u8) -> u8;
@@ -368,6 +376,7 @@ extern "C" {
         -> SlotsAnswer;
     fn riksamoe_search(stream: *const u8, length: usize) -> Found;
     fn riksamoe_branch_and_bound(stream: *const u8, length: usize) -> Found;
+    fn riksamoe_ends(total: u32, old: u32, new: u32) -> Range;
 }
 
 // The calls made safe: every pointer comes with the length of the slice that it points into, and the library keeps none.
@@ -594,6 +603,10 @@ pub fn branch_and_bound(stream: &[u8]) -> Found {
     unsafe { riksamoe_branch_and_bound(stream.as_ptr(), stream.len()) }
 }
 
+pub fn ends(total: u32, old: u32, new: u32) -> Range {
+    unsafe { riksamoe_ends(total, old, new) }
+}
+
 // From one side's structs to the other's
 
 impl From<&reference::unit::Unit> for Unit {
@@ -783,6 +796,10 @@ pub fn linked(input: Input) -> Outcome {
         Input::SettleSlots { order, stream, mut pool } => slots_outcome(&slots_settle(order, &stream, &mut pool), pool),
         Input::Search { stream } => found_outcome(&search(&stream)),
         Input::BranchAndBound { stream } => found_outcome(&branch_and_bound(&stream)),
+        Input::Ends { total, old, new } => {
+            let Range { refusal, lower, upper } = ends(total, old, new);
+            Outcome { refusal, numbers: vec![lower.into(), upper.into()], ..Outcome::default() }
+        }
     }
 }
 
@@ -844,6 +861,7 @@ const _: () = {
     assert!(size_of::<Start>() == 32 && offset_of!(Start, count) == 4 && offset_of!(Start, left) == 28);
     assert!(size_of::<Started>() == 48 && offset_of!(Started, start) == 16);
     assert!(size_of::<Found>() == 24 && size_of::<Parsed>() == 64);
+    assert!(size_of::<Range>() == 12 && offset_of!(Range, lower) == 4 && offset_of!(Range, upper) == 8);
     assert!(size_of::<Network>() == 2_280 && offset_of!(Core, records) == 2_240 && offset_of!(Network, used) == 2_272);
     assert!(size_of::<SlotsAnswer>() == 2_280 && offset_of!(SlotsAnswer, core) == 8);
 };

@@ -1,6 +1,7 @@
 //! Tables for tests and programs, those of vectors/ among them, and what the two programs print of them.
 
 use crate::reference::order::ValueOrder;
+use crate::reference::retest::{self, Which};
 use crate::reference::unit::Unit;
 use crate::reference::{network, search, slots, table, Places, NONE};
 use std::path::{Path, PathBuf};
@@ -103,6 +104,21 @@ pub fn bench(file: &[u8]) -> String {
 /// The same with the word `bound`.
 pub fn bench_bound(file: &[u8]) -> String {
     found(file, search::branch_and_bound)
+}
+
+/// What the retest program prints of a table's file, a cost of it and its new number (02's job 12); nothing where it has no such cost.
+pub fn retest(file: &[u8], which: Which, new: u32) -> String {
+    let retested = read(file).and_then(|stream| {
+        let number = u16::try_from(new).unwrap_or(u16::MAX);
+        let Some((changed, old)) = retest::retested(&stream, which, number) else { return Ok(String::new()) };
+        let total = search::branch_and_bound(&stream)?.0;
+        let (lower, upper) = retest::ends(total, old.into(), new)?;
+        let again = search::branch_and_bound(&changed)?.0;
+        let word = |total: u32| if total == NONE { "none".to_string() } else { total.to_string() };
+        let lines = [("total", total), ("lower end", lower), ("upper end", upper), ("new total", again)];
+        Ok(lines.map(|(name, total)| format!("{name} {}\n", word(total))).concat())
+    });
+    retested.unwrap_or_else(|refusal| format!("refused {refusal}\n"))
 }
 
 fn found(file: &[u8], search: impl Fn(&[u8]) -> Result<(u32, Places), u8>) -> String {

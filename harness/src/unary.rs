@@ -93,7 +93,7 @@ pub fn cases(call: Call) -> Vec<Case> {
     let limits = [LargeBound, BoundAbove, DearPrefix, EstimateAbove];
     let state = [&limits[..], &[OneFewer, FirstOverpays, UnaryUnpaid, FirstPays]].concat();
     match call {
-        Call::Sum | Call::Block | Call::SlotOf | Call::Newer => Vec::new(),
+        Call::Sum | Call::Block | Call::SlotOf | Call::Newer | Call::Ends => Vec::new(),
         Call::Read => [&table[..], &file, &[Largest, RoomForFormOne]].concat(),
         Call::Write => [&table[..], &[Largest]].concat(),
         Call::ToFormTwo => [&table[..], &file, &converter, &[Largest]].concat(),

@@ -10,7 +10,7 @@ use harness::reference::order::ValueOrder::{self, Ascending, CheapestFirst};
 use harness::reference::slots::{self, Slot};
 use harness::reference::table::{self, Form};
 use harness::reference::unit::{self, Unit};
-use harness::reference::{convert, message, search, tiny, Places, NONE};
+use harness::reference::{convert, message, search, tiny, Places, FORBIDDEN_PAIR, MAX_COST, MAX_TOTAL, NONE};
 
 #[test]
 fn equal_implementations_agree() {
@@ -170,6 +170,45 @@ fn the_last_of_equal_assignments_is_found() {
         outcome
     };
     assert!(compare(Call::BranchAndBound, 4_000, 1, last).difference.is_some());
+}
+
+/// 02's job 12 with a change that moves both ends; with an upper end cut at the limit of totals; with numbers for a table that has no assignment;
+/// with a forbidden cost that counts as 60,000.
+#[test]
+fn wrong_ends_of_a_retest_are_found() {
+    let find = |change: fn(u32, u32, u32, &mut Outcome)| {
+        let wrong = move |input: Input| {
+            let Input::Ends { total, old, new } = input else { unreachable!("a retest") };
+            let mut outcome = calls::reference(input);
+            change(total, old, new, &mut outcome);
+            outcome
+        };
+        describe(&compare(Call::Ends, 20_000, 1, wrong).difference.expect("a difference"))
+    };
+    let both_moved = |total, old, new, outcome: &mut Outcome| {
+        if outcome.refusal == 0 && total != NONE && old < new {
+            outcome.numbers[0] = outcome.numbers[1];
+        }
+    };
+    assert!(find(both_moved).contains("numbers"));
+    let cut = |total, _, _, outcome: &mut Outcome| {
+        if total != NONE {
+            outcome.numbers[1] = outcome.numbers[1].min(MAX_TOTAL.into());
+        }
+    };
+    assert!(find(cut).contains("numbers"));
+    let numbers_for_none = |total: u32, old, new, outcome: &mut Outcome| {
+        if outcome.refusal == 0 && total == NONE && old > new {
+            outcome.numbers[0] = u64::from(total - (old - new));
+        }
+    };
+    assert!(find(numbers_for_none).contains("numbers"));
+    let forbidden_taken = |total, old, new: u32, outcome: &mut Outcome| {
+        if old == u32::from(FORBIDDEN_PAIR) {
+            *outcome = calls::reference(Input::Ends { total, old: MAX_COST, new });
+        }
+    };
+    assert!(find(forbidden_taken).contains("refusal 20 by the reference, 0 by the other"));
 }
 
 /// A step or a search without unary costs in its sums, though checked.

@@ -1,6 +1,6 @@
 //! The generators reach every refusal of every call in either order of values, and every case of forbidden pairs, of unary costs, of the
-//! order, of echoes, of the pool of slots, of branch and bound, of tiny tables, of replays and of a start from blocks, and a refused call of the
-//! reference leaves what it was lent, a replay's but for the deliveries before it.
+//! order, of echoes, of the pool of slots, of branch and bound, of a retest, of tiny tables, of replays and of a start from blocks, and a refused
+//! call of the reference leaves what it was lent, a replay's but for the deliveries before it.
 
 use harness::calls::{self, Call, Input, Outcome, CALLS, NUMBERS};
 use harness::cases;

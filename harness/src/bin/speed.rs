@@ -15,7 +15,7 @@ use harness::reference::network::{self, Network};
 use harness::reference::order::ValueOrder;
 use harness::reference::table::{self, Form};
 use harness::reference::unit::{self, Unit};
-use harness::reference::{convert, costs, readings, search, slots, tiny, Places};
+use harness::reference::{convert, costs, readings, retest, search, slots, tiny, Places, MAX_COST, MAX_TOTAL};
 use harness::{generate, recorded, sample, tuned};
 use std::cell::RefCell;
 use std::hint::black_box;
@@ -45,6 +45,8 @@ trait Library {
     fn message_parse(&self, n: u8, sizes: &Places, packets: &[[u8; 64]]) -> u64;
     fn message_write(&self, n: u8, sizes: &Places, messages: &[(u8, Message)], out: &mut [u8]) -> u64;
     fn search(&self, stream: &[u8]) -> u64;
+    /// Of each a total, an old and a new cost.
+    fn ends(&self, retests: &[[u32; 3]]) -> u64;
 }
 
 /// One step of a run.
@@ -141,6 +143,10 @@ impl Library for Yardstick {
 
     fn search(&self, stream: &[u8]) -> u64 {
         u64::from(black_box(search::exhaustive(stream)).is_ok())
+    }
+
+    fn ends(&self, retests: &[[u32; 3]]) -> u64 {
+        retests.iter().map(|&[total, old, new]| u64::from(black_box(retest::ends(total, old, new)).is_ok())).sum()
     }
 }
 
@@ -247,6 +253,10 @@ impl Library for Rattle {
 
     fn search(&self, stream: &[u8]) -> u64 {
         u64::from(linked::search(stream).refusal == 0)
+    }
+
+    fn ends(&self, retests: &[[u32; 3]]) -> u64 {
+        retests.iter().map(|&[total, old, new]| u64::from(black_box(linked::ends(total, old, new)).refusal == 0)).sum()
     }
 }
 
@@ -428,6 +438,8 @@ fn other_rows() -> Vec<Row> {
     let messages: Vec<(u8, Message)> = (0..64).map(|_| generate::message(&mut random, 16, &sizes)).collect();
     let packets: Vec<[u8; 64]> = messages.iter().map(|(kind, m)| message::encode(*kind, m)).collect();
     let readings: Vec<u8> = (0..16).flat_map(|_| (random.between(160, 210) as u16).to_le_bytes()).collect();
+    let retests: Vec<[u32; 3]> =
+        (0..64).map(|_| [MAX_TOTAL, MAX_COST, MAX_COST].map(|most| random.below(u64::from(most) + 1) as u32)).collect();
     let lent = || RefCell::new(vec![0; table::MAX_STREAM]);
     let (made, tiny, out) = (lent(), lent(), RefCell::new([0; 64]));
     let mut rows = vec![
@@ -447,6 +459,7 @@ fn other_rows() -> Vec<Row> {
             library.message_write(16, &sizes, black_box(&messages), &mut *out.borrow_mut())
         })
         .over(64),
+        row("ends, of a retest".into(), "call", move |library| library.ends(black_box(&retests))),
     ];
     for n in [4, 8, 16] {
         let (steps, out) = (steps(ValueOrder::Ascending, &stream(n, 4), 500), RefCell::new([0; unit::OUT]));
