@@ -12,6 +12,10 @@ lowerEnd total lowering = cond (eqb total NONE) NONE (total - lowering)
 abbrev pub upperEnd : ℕ → ℕ → ℕ
 upperEnd total raise = cond (eqb total NONE) NONE (total + raise)
 
+-- this total lies between the ends
+abbrev pub WithinEnds : ℕ → ℕ → ℕ → ℕ → Type 0
+WithinEnds total lowering raise t = (lowerEnd total lowering ≤ t) × (t ≤ upperEnd total raise)
+
 -- "An old or new cost above 60,000 (barred included), or a total past the limit that isn't *none*, is 20, before anything is worked out." 60,000
 -- is the limit of unary costs too.
 abbrev pub inLimits : ℕ → ℕ → ℕ → Bool

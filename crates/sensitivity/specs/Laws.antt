@@ -23,7 +23,7 @@ use Rattle.costs.specs.Instance.{Instance}
 use Rattle.costs.specs.Bounds.{Valued, Assignment, total, Reported}
 use Rattle.costs.specs.Laws.{Sound}
 use Rattle.costs.specs.Laws.Prefix.{total-limit}
-use Rattle.sensitivity.specs.Ends.{endsOf, Between}
+use Rattle.sensitivity.specs.Ends.{endsOf, WithinEnds, Between}
 use Rattle.sensitivity.specs.Changes.{Which, Unary, Pair, costAt, There, SameShape, loweredBy, overValues, overCosts, lowerings, raises, OneCost}
 
 -- ---- sums with one term
@@ -226,9 +226,9 @@ reach B x (Of n) h p = omega arith
 reach B x Forbidden h p = absurd p
 
 module _ (I J : Instance) (same : SameShape I J) (t t′ : ℕ) (l m : List ℕ) (a : Reported I t l) (b : Reported J t′ m) where
-  -- "the ends add up: lowerings for the lower end, raises for the upper"; the lower end is never below 0
-  pub ends-add-up : (t - lowerings I J ≤ t′) × (t′ ≤ t + raises I J)
-  ends-add-up = go a b
+  -- of numbers, so that what is none may count as one
+  sums-apart : (t - lowerings I J ≤ t′) × (t′ ≤ t + raises I J)
+  sums-apart = go a b
     where
       go : Reported I t l → Reported J t′ m → (t - lowerings I J ≤ t′) × (t′ ≤ t + raises I J)
       go (inl p) (inl q) = (omega (arith, p .0, q .0), omega (arith, p .0, q .0))
@@ -249,16 +249,38 @@ module _ (I J : Instance) (same : SameShape I J) (t t′ : ℕ) (l m : List ℕ)
       go (inl p) (inr q) = absurd (p .2 m (same-assignments J I (same-back I J same) m (q .0)))
       go (inr p) q = absurd (omega (arith, e, most-is totalLimit t (total I l) (p .1) (total-limit I sound l)))
 
+  -- "the ends add up: lowerings for the lower end, raises for the upper"
+  pub ends-add-up : Sound I → WithinEnds t (lowerings I J) (raises I J) t′
+  ends-add-up sound = go (eqb t NONE) refl
+    where
+      go : (r : Bool) → eqb t NONE ≡ r → (cond r NONE (t - lowerings I J) ≤ t′) × (t′ ≤ cond r NONE (t + raises I J))
+      go true e = let q : t′ ≡ NONE = none-kept sound (eqb-true t NONE e) in (omega arith, omega arith)
+      go false e = sums-apart
+
 -- "a table with no lotting keeps none", and only such a one has none
 pub keeps-none : (I J : Instance) → SameShape I J → Sound I → Sound J → (t t′ : ℕ) (l m : List ℕ) → Reported I t l → Reported J t′ m → (t ≡ NONE → t′ ≡ NONE) × (t′ ≡ NONE → t ≡ NONE)
 keeps-none I J same sound sound′ t t′ l m a b = (none-kept I J same t t′ l m a b sound, none-kept J I (same-back I J same) t′ t m l b a sound′)
 
 -- retests one after the other: what is between one pair of ends, and then between another
-pub one-after-another : (t t′ t″ down up down′ up′ : ℕ) → (t - down ≤ t′) × (t′ ≤ t + up) → (t′ - down′ ≤ t″) × (t″ ≤ t′ + up′)
-    → (t - (down + down′) ≤ t″) × (t″ ≤ t + (up + up′))
-one-after-another t t′ t″ down up down′ up′ p q = (omega (arith, p .0, q .0), omega (arith, p .1, q .1))
+pub one-after-another : (t t′ t″ down up down′ up′ : ℕ) → WithinEnds t down up t′ → WithinEnds t′ down′ up′ t″ → WithinEnds t (down + down′) (up + up′) t″
+one-after-another t t′ t″ down up down′ up′ p q = go (eqb t NONE) (eqb t′ NONE) refl refl p q
+  where
+    go : (r r′ : Bool) → eqb t NONE ≡ r → eqb t′ NONE ≡ r′ → (cond r NONE (t - down) ≤ t′) × (t′ ≤ cond r NONE (t + up)) → (cond r′ NONE (t′ - down′) ≤ t″) × (t″ ≤ cond r′ NONE (t′ + up′))
+        → (cond r NONE (t - (down + down′)) ≤ t″) × (t″ ≤ cond r NONE (t + (up + up′)))
+    go true true e e′ p q = q
+    go true false e e′ p q = absurd (eqb-false t′ NONE e′ (omega (arith, p .0, p .1)))
+    go false true e e′ p q = let x : t′ ≡ NONE = eqb-true t′ NONE e′ in (omega (arith, p .0, q .0), omega (arith, p .1, q .1))
+    go false false e e′ p q = (omega (arith, p .0, q .0), omega (arith, p .1, q .1))
 
 -- ---- one cost
+
+-- larger sums leave more between the ends
+more-within : (t t′ down down′ up up′ : ℕ) → down ≤ down′ → up ≤ up′ → WithinEnds t down up t′ → WithinEnds t down′ up′ t′
+more-within t t′ down down′ up up′ d u p = go (eqb t NONE) p
+  where
+    go : (r : Bool) → (cond r NONE (t - down) ≤ t′) × (t′ ≤ cond r NONE (t + up)) → (cond r NONE (t - down′) ≤ t′) × (t′ ≤ cond r NONE (t + up′))
+    go true p = p
+    go false p = (omega (arith, p .0), omega (arith, p .1))
 
 same-lowers-none : (c d : Cost) → c ≡ d → loweredBy c d ≡ 0
 same-lowers-none c d e = rw (← e) (go c)
@@ -305,14 +327,7 @@ module _ (I J : Instance) (s : Sound I) (s′ : Sound J) (w : Which) (old new : 
   -- "Raising one cost by an amount raises the least total by 0 to that amount; lowering lowers it likewise."
   pub one-retest : Between (endsOf t old new) t′
   unfolding endsOf
-  one-retest = rw (le-leb old pairLimit (cost-limit I s w old (one .was)), le-leb new pairLimit (cost-limit J s′ w new (one .becomes)), total-given I s t l a) (go (eqb t NONE) refl)
-    where
-      go : (r : Bool) → eqb t NONE ≡ r → Between (record { refusal = 0; lower = cond r NONE (t - (old - new)); upper = cond r NONE (t + (new - old)) }) t′
-      go true e =
-          let q : t′ ≡ NONE = keeps-none I J (one-shape I J w old new one) s s′ t t′ l m a b .0 (eqb-true t NONE e) in
-          record { taken = refl; lower = omega arith; upper = omega arith }
-      go false e =
-          let q = ends-add-up I J (one-shape I J w old new one) t t′ l m a b in
-          let d : lowerings I J ≤ old - new = one-lowering I J w old new one in
-          let u : raises I J ≤ new - old = one-raise I J w old new one in
-          record { taken = refl; lower = omega (arith, q .0); upper = omega (arith, q .1) }
+  one-retest =
+      let w′ : WithinEnds t (old - new) (new - old) t′ =
+      more-within t t′ (lowerings I J) (old - new) (raises I J) (new - old) (one-lowering I J w old new one) (one-raise I J w old new one) (ends-add-up I J (one-shape I J w old new one) t t′ l m a b s) in
+      rw (le-leb old pairLimit (cost-limit I s w old (one .was)), le-leb new pairLimit (cost-limit J s′ w new (one .becomes)), total-given I s t l a) (record { taken = refl; lower = w′ .0; upper = w′ .1 })

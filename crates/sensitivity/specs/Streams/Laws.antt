@@ -25,7 +25,7 @@ use Rattle.costs.specs.Instance.{instanceOf, domOf, pairStart, inPair}
 use Rattle.costs.specs.Laws.Stream.{in-pair-lt, pair-end, all-four, unary-number-at, cost-number-at, unary-costs, accepted-there, instance-units, instance-dom, sound-of}
 use Rattle.search.specs.Search.{branchAndBoundOf}
 use Rattle.search.specs.Laws.{bounded-least-first}
-use Rattle.sensitivity.specs.Ends.{endsOf, Between}
+use Rattle.sensitivity.specs.Ends.{endsOf, WithinEnds, Between}
 use Rattle.sensitivity.specs.Changes.{Which, Unary, Pair, costAt, There, SameShape, lowerings, raises, OneCost}
 use Rattle.sensitivity.specs.Laws.{ends-add-up, keeps-none, one-retest}
 use Rattle.sensitivity.specs.Streams.{numberIndex, numberAt, hasNumber, OneNumber}
@@ -250,9 +250,8 @@ module _ (s s′ : List ℕ) (w : Which) (one : OneNumber s s′ w) where
 -- ---- any two accepted tables of one shape, by what branch and bound finds of them
 
 module _ (s s′ : List ℕ) (ok : Accepted s) (ok′ : Accepted s′) (same : SameShape (instanceOf s) (instanceOf s′)) where
-  pub found-add-up : (branchAndBoundOf s .total - lowerings (instanceOf s) (instanceOf s′) ≤ branchAndBoundOf s′ .total)
-      × (branchAndBoundOf s′ .total ≤ branchAndBoundOf s .total + raises (instanceOf s) (instanceOf s′))
-  found-add-up = ends-add-up (instanceOf s) (instanceOf s′) same _ _ _ _ (bounded-least-first s ok .reported) (bounded-least-first s′ ok′ .reported)
+  pub found-add-up : WithinEnds (branchAndBoundOf s .total) (lowerings (instanceOf s) (instanceOf s′)) (raises (instanceOf s) (instanceOf s′)) (branchAndBoundOf s′ .total)
+  found-add-up = ends-add-up (instanceOf s) (instanceOf s′) same _ _ _ _ (bounded-least-first s ok .reported) (bounded-least-first s′ ok′ .reported) (sound-of s ok)
 
   pub found-none : (branchAndBoundOf s .total ≡ NONE → branchAndBoundOf s′ .total ≡ NONE) × (branchAndBoundOf s′ .total ≡ NONE → branchAndBoundOf s .total ≡ NONE)
   found-none = keeps-none (instanceOf s) (instanceOf s′) same (sound-of s ok) (sound-of s′ ok′) _ _ _ _ (bounded-least-first s ok .reported) (bounded-least-first s′ ok′ .reported)
