@@ -3,14 +3,15 @@
 use Prim.Native.Nat.{ℕ, zero, suc, _+_, _-_, _≤_, _<_}
 use native.Mathlib.Omega.{arith}
 use native.Mathlib.Numerals.{add-one}
-use mathlib.Core.Path.{_≡_, refl, sym, _∙_}
+use mathlib.Core.Path.{_≡_, refl, sym, _∙_, subst}
 use mathlib.Core.Logic.{_≢_}
-use mathlib.Core.Bool.{Bool, true, false, cond}
+use mathlib.Core.Bool.{Bool, true, false, cond, not, _&&_}
 use mathlib.Core.List.{List}
 use lib.Dec.{ltb, leb, eqb}
 use lib.ListN.{length, getD, set}
 use lib.Seq.{getD-set-same, getD-set-other}
-use borrow.Author.Tests.{ltb-true, ltb-false, lt-ltb, leb-true, leb-false, eqb-true, eqb-false, eq-eqb, ne-eqb}
+use borrow.Author.Tests.{ltb-true, ltb-false, lt-ltb, le-ltb, leb-true, leb-false, eqb-true, eqb-false}
+use Rattle.base.specs.Limits.{NONE}
 use Rattle.costs.specs.declared.Seat.{Seat}
 use Rattle.costs.specs.declared.ValueOrder.the-variants.{Ascending, CheapestFirst}
 use Rattle.costs.specs.declared.Cost.{Cost}
@@ -99,14 +100,8 @@ module _ (w : View) (cheapest : w .order ≡ CheapestFirst) (keys : List ℕ) (k
         let b = key-is v v1 v-hi in
         rw (a .0, b .0) (sym (cheaper-numbers (h w u) u (h w v) v 16711425 (omega arith) (a .1) (b .1)) ∙ earlier-is w cheapest u v u1 u-hi v1 v-hi)
 
-    pub tie-by-number : getD keys (u - 1) 0 ≡ getD keys (v - 1) 0 → ltb u v ≡ ltb (placeTried w u) (placeTried w v)
-    tie-by-number e = rw (eq-eqb _ _ e) at by-keys
-
-    pub else-by-key : (getD keys (u - 1) 0 ≡ getD keys (v - 1) 0 → ⊥) → ltb (getD keys (u - 1) 0) (getD keys (v - 1) 0) ≡ ltb (placeTried w u) (placeTried w v)
-    else-by-key e = rw (ne-eqb _ _ e) at by-keys
-
 -- no value stands before all
-pub none-first : (w : View) (u v : ℕ) → u ≡ 0 → 1 ≤ v → true ≡ ltb (placeTried w u) (placeTried w v)
+none-first : (w : View) (u v : ℕ) → u ≡ 0 → 1 ≤ v → true ≡ ltb (placeTried w u) (placeTried w v)
 none-first w u v e lo = rw e (sym (lt-ltb (placeTried w 0) (placeTried w v) (omega (arith, place-of-none w, place-least w v lo))))
 
 -- ---- by rising h: the earliest of those later than v
@@ -153,3 +148,63 @@ module _ (w : View) (v : ℕ) where
       go u lo u-hi true e = absurd (omega (arith, q .first u lo u-hi (ltb-true (placeTried w v) (placeTried w u) e) .0))
       go u lo u-hi false e = ltb-false (placeTried w v) (placeTried w u) e
   earliest-next (suc x) hi q = sym (next-is w v (suc x) hi (q .later (omega arith)) (λ u lo u-hi later. q .first u lo u-hi later .1))
+
+-- ---- by rising h: how one value more is found by its key
+
+-- the key of a value; 0 of none
+abbrev pub KeyOf : List ℕ → ℕ → ℕ → Type 0
+KeyOf keys v x = (v ≡ 0 → x ≡ 0) × (1 ≤ v → x ≡ getD keys (v - 1) 0)
+
+-- the key of what was found, above all where nothing was
+abbrev pub BestOf : List ℕ → ℕ → ℕ → Type 0
+BestOf keys found best = (found ≡ 0 → best ≡ 4294967296) × (1 ≤ found → best ≡ getD keys (found - 1) 0)
+
+module _ (w : View) (cheapest : w .order ≡ CheapestFirst) (keys : List ℕ) (known : Keys w keys) (v i low key best found : ℕ) (v-hi : v ≤ w .dom (w .place)) (i-hi : i + 1 ≤ w .dom (w .place))
+    (low-is : KeyOf keys v low) (key-here : key ≡ getD keys i 0) (key-most : key ≤ NONE) (best-is : BestOf keys found best) (found-hi : found ≤ i) where
+  here : key ≡ getD keys (i + 1 - 1) 0
+  here = let e : i + 1 - 1 ≡ i = omega arith in rw e key-here
+
+  -- it comes after v
+  later-by-key : cond (eqb low key) (ltb v (i + 1)) (ltb low key) ≡ ltb (placeTried w v) (placeTried w (i + 1))
+  later-by-key = go (eqb v 0) refl
+    where
+      from-none : (t : Bool) → eqb low key ≡ t → v ≡ 0 → cond t (ltb v (i + 1)) (ltb low key) ≡ true
+      from-none true e z = lt-ltb v (i + 1) (omega arith)
+      from-none false e z = let ne = eqb-false low key e in lt-ltb low key (omega (arith, ne, low-is .0 z))
+
+      go : (t : Bool) → eqb v 0 ≡ t → cond (eqb low key) (ltb v (i + 1)) (ltb low key) ≡ ltb (placeTried w v) (placeTried w (i + 1))
+      go true e = let z = eqb-true v 0 e in from-none (eqb low key) refl z ∙ none-first w v (i + 1) z (omega arith)
+      go false e =
+          let ne : v ≢ 0 = eqb-false v 0 e in
+          let some : 1 ≤ v = omega (arith, ne) in
+          rw (low-is .1 some, here) (by-keys w cheapest keys known v (i + 1) some v-hi (omega arith) i-hi)
+
+  -- it comes before what was found, which has a lower number
+  before-by-key : 1 ≤ found → ltb key best ≡ not (ltb (placeTried w found) (placeTried w (i + 1)))
+  before-by-key some =
+      rw (← by-keys w cheapest keys known found (i + 1) some (omega (arith, found-hi, i-hi)) (omega arith) i-hi, ← here, ← best-is .1 some) (go (eqb best key) (ltb best key) refl refl)
+    where
+      go : (a b : Bool) → eqb best key ≡ a → ltb best key ≡ b → ltb key best ≡ not (cond a (ltb found (i + 1)) b)
+      go true b e f = rw (lt-ltb found (i + 1) (omega (arith, found-hi))) (le-ltb key best (omega (arith, eqb-true best key e)))
+      go false true e f = le-ltb key best (omega (arith, ltb-true best key f))
+      go false false e f = let ne = eqb-false best key e in lt-ltb key best (omega (arith, ne, ltb-false best key f))
+
+  chosen : cond (ltb (placeTried w v) (placeTried w (i + 1))) (cond (eqb found 0) (i + 1) (cond (ltb (placeTried w found) (placeTried w (i + 1))) found (i + 1))) found
+      ≡ cond (ltb key best && cond (eqb low key) (ltb v (i + 1)) (ltb low key)) (i + 1) found
+  chosen = rw later-by-key (go (ltb (placeTried w v) (placeTried w (i + 1))) (eqb found 0) refl)
+    where
+      not-later : (b : Bool) → found ≡ cond (b && false) (i + 1) found
+      not-later true = refl
+      not-later false = refl
+
+      either : (s : Bool) → cond s found (i + 1) ≡ cond (not s && true) (i + 1) found
+      either true = refl
+      either false = refl
+
+      go : (t z : Bool) → eqb found 0 ≡ z → cond t (cond z (i + 1) (cond (ltb (placeTried w found) (placeTried w (i + 1))) found (i + 1))) found ≡ cond (ltb key best && t) (i + 1) found
+      go false z e = not-later (ltb key best)
+      go true true e = rw (lt-ltb key best (omega (arith, key-most, best-is .0 (eqb-true found 0 e))))
+      go true false e = let ne : found ≢ 0 = eqb-false found 0 e in rw (before-by-key (omega (arith, ne))) (either (ltb (placeTried w found) (placeTried w (i + 1))))
+
+  pub found-next : Earliest w v i found → Earliest w v (i + 1) (cond (ltb key best && cond (eqb low key) (ltb v (i + 1)) (ltb low key)) (i + 1) found)
+  found-next q = subst (λ (x : ℕ). Earliest w v (i + 1) x) chosen (earliest-more w v i found q)

@@ -52,19 +52,19 @@ pub(crate) fn assign_paid(
 {
     let values = t.values;
     let value = values[(seat.own - 1) as usize];
-    let s = begin(seat.own, own_paid(value, paid), t);
+    let s = begin(seat.own, of_value(value, paid), t);
     try_after(seat, costs, ahead, paid, value, s)
 }
 
-// The own value's costs, of those of all values; without one there are none.
-pub(crate) fn own_paid(value: u8, paid: [u32; 16]) -> u32
+// The number of a value, its costs or its key, of those of all values; 0 of no value.
+pub(crate) fn of_value(value: u8, numbers: [u32; 16]) -> u32
     requires { ⌜ value ≤ 16 ⌝ }
-    ensures { λ r. ⌜ (value ≡ 0 → r ≡ 0) × (1 ≤ value → r ≡ getD paid (value - 1) 0) ⌝ }
+    ensures { λ r. ⌜ (value ≡ 0 → r ≡ 0) × (1 ≤ value → r ≡ getD numbers (value - 1) 0) ⌝ }
 {
     if value == 0 {
         return 0;
     }
-    paid[(value - 1) as usize]
+    numbers[(value - 1) as usize]
 }
 
 // The counter as assigning begins, 0 with no own value; and the own value off, which costs `paid`.

@@ -1,16 +1,21 @@
 // The value that a unit tries after another: ascending the next number, by rising h the first of those that come later.
 
+use crate::assign::of_value;
 use costs::Seat;
 use costs::ValueOrder;
 ghost use mathlib.Core.Path.{_≡_};
-ghost use mathlib.Core.Bool.{cond};
+ghost use mathlib.Core.Bool.{cond, _&&_};
 ghost use mathlib.Core.List.{List};
 ghost use Prim.Native.Nat.{ℕ, _-_, _≤_};
 ghost use lib.Dec.{ltb, eqb};
 ghost use lib.ListN.{getD};
+ghost use Rattle.base.specs.Limits.{NONE};
 ghost use Rattle.costs.specs.Instance.{View, viewKnowing};
-ghost use Rattle.costs.specs.Order.{placeTried, next};
+ghost use Rattle.costs.specs.Order.{next};
 ghost use Rattle.rules.specs.Ready.{Shaped, Keys};
+
+// Above every key, as before one is found.
+const NO_KEY: u64 = 4294967296;
 
 // h of each value as a number, NONE where it has none: value v's at place v - 1. Ascending, no h is looked at.
 pub(crate) fn keys(seat: Seat, costs: &[u8], ahead: &[u32]) -> [u32; 16]
@@ -56,50 +61,36 @@ fn number_after(d: u8, v: u8) -> u8
     0
 }
 
-// By rising h, the value after v of d values: the first of those that come later.
+// By rising h, the value after v of d values: the first of those that come later. Each key is read once.
 fn cheapest_after(keys: [u32; 16], d: u8, v: u8) -> u8
     requires { ⌜ (d ≤ 16) × (v ≤ d) ⌝ }
     ensures { λ r. ⌜ (r ≤ d) × ((w : View) → w .order ≡ ValueOrder.CheapestFirst → w .dom (w .place) ≡ d → Keys w keys → r ≡ next w v) ⌝ }
 {
+    let low = of_value(v, keys);
+    let mut best = NO_KEY;
     let mut found: u8 = 0;
     let mut u: u8 = 0;
     while u < d {
+        let key = keys[u as usize];
         u += 1;
-        found = first_later(keys, v, u, found);
+        if comes_next(low, v, key, u, best) {
+            best = base::wide_u64(key);
+            found = u;
+        }
     }
     found
 }
 
-// Which comes first after v by rising h: value u, or the one found before it, 0 where there is none.
-fn first_later(keys: [u32; 16], v: u8, u: u8, found: u8) -> u8
-    requires { ⌜ (v ≤ 16) × (1 ≤ u) × (u ≤ 16) × (found ≤ u) ⌝ }
-    ensures { λ r. ⌜ (r ≤ u) × ((w : View) → w .order ≡ ValueOrder.CheapestFirst → Keys w keys → v ≤ w .dom (w .place) → u ≤ w .dom (w .place)
-        → r ≡ cond (ltb (placeTried w v) (placeTried w u)) (cond (eqb found 0) u (cond (ltb (placeTried w found) (placeTried w u)) found u)) found) ⌝ }
+// Whether value u, by its key, comes after v and before the best key found among lower numbers: the lower number is first on a tie. No value has
+// key 0, and so stands before all.
+fn comes_next(low: u32, v: u8, key: u32, u: u8, best: u64) -> bool
+    ensures { λ r. ⌜ (r ≡ (ltb key best && cond (eqb low key) (ltb v u) (ltb low key))) × (key ≤ NONE) ⌝ }
 {
-    if !is_before(keys, v, u) {
-        return found;
+    if best <= base::wide_u64(key) {
+        return false;
     }
-    if found == 0 {
-        return u;
+    if low == key {
+        return v < u;
     }
-    if is_before(keys, found, u) {
-        return found;
-    }
-    u
-}
-
-// Whether a is tried before value b by rising h: the lower h, the lower number on a tie; no value, 0, stands before all.
-fn is_before(keys: [u32; 16], a: u8, b: u8) -> bool
-    requires { ⌜ (a ≤ 16) × (1 ≤ b) × (b ≤ 16) ⌝ }
-    ensures { λ r. ⌜ ((w : View) → w .order ≡ ValueOrder.CheapestFirst → Keys w keys → a ≤ w .dom (w .place) → b ≤ w .dom (w .place) → r ≡ ltb (placeTried w a) (placeTried w b)) ⌝ }
-{
-    if a == 0 {
-        return true;
-    }
-    let first = keys[(a - 1) as usize];
-    let second = keys[(b - 1) as usize];
-    if first == second {
-        return a < b;
-    }
-    first < second
+    low < key
 }

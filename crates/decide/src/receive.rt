@@ -1,7 +1,7 @@
 // A cpa comes in: 01, "Paper".
 
 use crate::assign::assign_paid;
-use crate::assign::own_paid;
+use crate::assign::of_value;
 use crate::backtrack::backtrack;
 use crate::backtrack::bare_cost;
 use crate::backtrack::take_off;
@@ -124,7 +124,7 @@ fn resume(seat: Seat, costs: &[u8], ahead: &[u32], t: Held) -> Decided
     let values = t.values;
     let value = values[(seat.own - 1) as usize];
     let paid = costs::paid(seat, costs, values);
-    let own = own_paid(value, paid);
+    let own = of_value(value, paid);
     if t.bound <= bare_cost(t.cost, own) {
         return backtrack(seat.own, false, 0, take_off(seat.own, own, t));
     }

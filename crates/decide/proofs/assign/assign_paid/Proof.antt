@@ -22,7 +22,7 @@ begun-is c e =
     let s = c .before .before .before .before .before .before in
     let a = s .args in
     let w = viewKnowing (a .seat) (a .costs .now) (a .ahead .now) in
-    let paid : c .before .own-paid .result ≡ ownCost w (holding (a .t) e) = own-paid-lent (a .seat) (a .costs .now) (a .ahead .now) (holding (a .t) zeros) (a .paid) (c .before .own-paid .result) (s .pre .0) (s .pre .1) (s .pre .2) (c .before .own-paid .ensures) in
+    let paid : c .before .of-value .result ≡ ownCost w (holding (a .t) e) = own-paid-lent (a .seat) (a .costs .now) (a .ahead .now) (holding (a .t) zeros) (a .paid) (c .before .of-value .result) (s .pre .0) (s .pre .1) (s .pre .2) (c .before .of-value .ensures) in
     c .begin .ensures w e (own-lent (a .seat) (a .costs .now) (a .ahead .now) (s .pre .0 .number .first)) paid
 
 sized : (s : tie.Start) → (length (s .args .t .stamp) ≡ 16) × (length (s .args .t .values) ≡ 16)

@@ -18,12 +18,12 @@ use Rattle.decide.proofs.receive.resume.Statement.{statement}
 use Rattle.decide.proofs.receive.resume.Tie as tie
 
 -- what each value costs, and the own one
-module _ (c : tie.After-own-paid) where
+module _ (c : tie.After-of-value) where
   all : let a = c .before .before .before .before .before .before .args in Paid (viewKnowing (a .seat) (a .costs .now) (a .ahead .now)) (a .t .values) (c .before .paid .result)
   all = let s = c .before .before .before .before .before .before in all-paid (s .args .seat) (s .args .costs .now) (s .args .ahead .now) (s .args .t .values) (c .before .paid .result) (s .pre .0) (c .before .paid .ensures)
 
-  own : let a = c .before .before .before .before .before .before .args in c .own-paid .result ≡ ownCost (viewKnowing (a .seat) (a .costs .now) (a .ahead .now)) (holding (a .t) zeros)
-  own = let s = c .before .before .before .before .before .before in own-paid-lent (s .args .seat) (s .args .costs .now) (s .args .ahead .now) (holding (s .args .t) zeros) (c .before .paid .result) (c .own-paid .result) (s .pre .0) (s .pre .1) all (c .own-paid .ensures)
+  own : let a = c .before .before .before .before .before .before .args in c .of-value .result ≡ ownCost (viewKnowing (a .seat) (a .costs .now) (a .ahead .now)) (holding (a .t) zeros)
+  own = let s = c .before .before .before .before .before .before in own-paid-lent (s .args .seat) (s .args .costs .now) (s .args .ahead .now) (holding (s .args .t) zeros) (c .before .paid .result) (c .of-value .result) (s .pre .0) (s .pre .1) all (c .of-value .ensures)
 
 backtrack-requires : tie.Need-backtrack-requires
 backtrack-requires c κs =
