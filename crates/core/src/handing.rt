@@ -14,6 +14,11 @@ ghost use Rattle.rules.specs.Calls.{outcomeOf, bytesOf};
 ghost use Rattle.rules.specs.Laws.Range.{SizedUnit};
 ghost use Rattle.runs.specs.Calls.{coreAfter, receiverOf, stepLent};
 
+// The longest stream of which a unit's costs are first gathered into a short buffer, and that buffer's bytes.
+pub(crate) const SHORT_STREAM: usize = 4096;
+
+pub(crate) const SHORT_COSTS: usize = 1024;
+
 // The unit that a packet names as its receiver, or 1.
 pub fn receiver(n: u8, packet: &[u8]) -> u8
     ensures { λ r. ⌜ (r ≡ receiverOf n (now (packet .entry))) × AllBytes (now (packet .entry)) ⌝ }
@@ -27,6 +32,45 @@ pub fn receiver(n: u8, packet: &[u8]) -> u8
 
 // The step of unit `own` on a packet, with the costs gathered from the stream; where they can't be, the step refuses.
 pub fn step(
+    order: ValueOrder,
+    u: Unit,
+    stream: &[u8],
+    own: u8,
+    packet: &[u8],
+    out: &mut [u8],
+) -> Outcome
+    ensures { λ r. ⌜ (r ≡ outcomeOf (unitsOf (now (stream .entry))) (pred own) u (stepLent order (now (stream .entry)) u own (now (packet .entry)) (length (now (out .entry))))) × (now (out .exit) ≡ bytesOf (unitsOf (now (stream .entry))) (pred own) (now (out .entry)) (stepLent order (now (stream .entry)) u own (now (packet .entry)) (length (now (out .entry))))) × SizedUnit u ⌝ }
+{
+    if SHORT_STREAM < stream.len() {
+        return step_long(order, u, stream, own, packet, out);
+    }
+    step_short(order, u, stream, own, packet, out)
+}
+
+// The same, where the unit's costs mostly fit a short buffer, which is sooner cleared.
+fn step_short(
+    order: ValueOrder,
+    u: Unit,
+    stream: &[u8],
+    own: u8,
+    packet: &[u8],
+    out: &mut [u8],
+) -> Outcome
+    ensures { λ r. ⌜ (r ≡ outcomeOf (unitsOf (now (stream .entry))) (pred own) u (stepLent order (now (stream .entry)) u own (now (packet .entry)) (length (now (out .entry))))) × (now (out .exit) ≡ bytesOf (unitsOf (now (stream .entry))) (pred own) (now (out .entry)) (stepLent order (now (stream .entry)) u own (now (packet .entry)) (length (now (out .entry))))) × SizedUnit u ⌝ }
+{
+    let mut costs = [0u8; SHORT_COSTS];
+    let gathered = costs::gather(stream, own, &mut costs);
+    if gathered.refusal != 0 {
+        return step_long(order, u, stream, own, packet, out);
+    }
+    let n = table::units_of(stream);
+    let sizes = costs::sizes_of(stream);
+    let count = gathered.length;
+    unit::step_by(order, u, own, n, sizes, &costs[0..count], packet, out)
+}
+
+// The same with room for the costs of any unit.
+fn step_long(
     order: ValueOrder,
     u: Unit,
     stream: &[u8],

@@ -1,11 +1,14 @@
 // What is asked before any packet is looked at: a good stream, and states in range.
 
+use crate::handing::SHORT_COSTS;
+use crate::handing::SHORT_STREAM;
 use costs::Seat;
 use costs::ValueOrder;
 use runs::Core;
 use unit::Unit;
 ghost use mathlib.Core.Path.{_≡_};
 ghost use Prim.Native.Nat.{suc, pred, _≤_, _<_};
+ghost use lib.Dec.{leb};
 ghost use lib.ListN.{getD};
 ghost use Rattle.base.specs.Every.{every};
 ghost use Rattle.table.specs.Stream.{unitsOf, Accepted};
@@ -14,7 +17,9 @@ ghost use Rattle.costs.specs.Instance.{viewOf, viewBy, instanceOf};
 ghost use Rattle.costs.specs.Cost.{asNumber};
 ghost use Rattle.costs.specs.Bounds.{costWith};
 ghost use Rattle.costs.specs.Order.{placeTried};
+ghost use Rattle.costs.specs.Gather.{sizesIn};
 ghost use Rattle.rules.specs.State.{paidInRange};
+ghost use Rattle.rules.specs.Laws.Trusted.{seatAt};
 ghost use Rattle.runs.specs.Calls.{coreRefusal};
 ghost use Rattle.runs.specs.Code.{unitInRange};
 
@@ -60,8 +65,22 @@ fn unit_in_range(order: ValueOrder, k: u8, n: u8, sizes: [u8; 16], stream: &[u8]
     let values = u.values;
     let value = values[k as usize];
     let paid = costs::stream_cost_with(stream, values, own, value);
-    let place = place_tried(order, stream, own, value);
+    let place = place_asked(order, stream, own, value, u.counter);
     unit::in_range_paid(own, n, sizes, costs::as_number(paid), place, u)
+}
+
+// A place that the counter is within where it is within that of the unit's value. No value's place is below 1, so only a counter above 1 asks for it.
+fn place_asked(order: ValueOrder, stream: &[u8], own: u8, v: u8, counter: u8) -> usize
+    requires { ⌜ Accepted (now stream) × (1 ≤ own) × (own ≤ unitsOf (now stream)) ⌝ }
+    ensures { λ r. ⌜ leb counter r ≡ leb counter (placeTried (viewBy order (instanceOf (now (stream .entry))) (pred own)) v) ⌝ }
+{
+    if v == 0 {
+        return 0;
+    }
+    if counter <= 1 {
+        return 1;
+    }
+    place_tried(order, stream, own, v)
 }
 
 // The place of a unit's value in the order tried. Its costs are gathered only where that asks for them.
@@ -75,25 +94,56 @@ fn place_tried(order: ValueOrder, stream: &[u8], own: u8, v: u8) -> usize
     }
 }
 
-// The same by rising h; no value stands at place 0.
+// The same by rising h.
 fn place_by_h(stream: &[u8], own: u8, v: u8) -> usize
     requires { ⌜ Accepted (now stream) × (1 ≤ own) × (own ≤ unitsOf (now stream)) ⌝ }
     ensures { λ r. ⌜ r ≡ placeTried (viewBy CheapestFirst (instanceOf (now (stream .entry))) (pred own)) v ⌝ }
 {
-    if v == 0 {
-        return 0;
+    if SHORT_STREAM < stream.len() {
+        return place_long(stream, own, v);
     }
-    let n = table::units_of(stream);
-    let sizes = costs::sizes_of(stream);
+    place_short(stream, own, v)
+}
+
+// The same, where the unit's costs mostly fit a short buffer.
+fn place_short(stream: &[u8], own: u8, v: u8) -> usize
+    requires { ⌜ Accepted (now stream) × (1 ≤ own) × (own ≤ unitsOf (now stream)) ⌝ }
+    ensures { λ r. ⌜ r ≡ placeTried (viewBy CheapestFirst (instanceOf (now (stream .entry))) (pred own)) v ⌝ }
+{
+    let mut costs = [0u8; SHORT_COSTS];
+    let gathered = costs::gather(stream, own, &mut costs);
+    if gathered.refusal != 0 {
+        return place_long(stream, own, v);
+    }
+    let count = gathered.length;
+    let seat = seat_of(stream, own);
+    let unknown = [0u32; 1];
+    costs::place_tried(seat, &costs[0..count], &unknown[0..0], v)
+}
+
+// The same with room for the costs of any unit.
+fn place_long(stream: &[u8], own: u8, v: u8) -> usize
+    requires { ⌜ Accepted (now stream) × (1 ≤ own) × (own ≤ unitsOf (now stream)) ⌝ }
+    ensures { λ r. ⌜ r ≡ placeTried (viewBy CheapestFirst (instanceOf (now (stream .entry))) (pred own)) v ⌝ }
+{
     let mut costs = [0u8; base::COSTS_SIZE];
     let gathered = costs::gather(stream, own, &mut costs);
     let count = gathered.length;
-    let seat = Seat {
+    let seat = seat_of(stream, own);
+    let unknown = [0u32; 1];
+    costs::place_tried(seat, &costs[0..count], &unknown[0..0], v)
+}
+
+// The seat of a unit of the stream that tries its values by rising h.
+fn seat_of(stream: &[u8], own: u8) -> Seat
+    ensures { λ r. ⌜ r ≡ seatAt CheapestFirst own (unitsOf (now (stream .entry))) (sizesIn (now (stream .entry))) ⌝ }
+{
+    let n = table::units_of(stream);
+    let sizes = costs::sizes_of(stream);
+    Seat {
         own,
         n,
         sizes,
         order: ValueOrder::CheapestFirst,
-    };
-    let unknown = [0u32; 1];
-    costs::place_tried(seat, &costs[0..count], &unknown[0..0], v)
+    }
 }

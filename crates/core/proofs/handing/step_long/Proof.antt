@@ -1,4 +1,4 @@
--- `core::handing::step` meets its contract: the unit steps with what gathering lent it. Assumes nothing.
+-- `core::handing::step_long` meets its contract: the unit steps with what gathering lent it. Assumes nothing.
 use Prim.Native.Nat.{_-_, _≤_}
 use mathlib.Core.Path.{_≡_, _∙_}
 use lib.ListN.{take, drop}
@@ -6,8 +6,8 @@ use Rattle.rules.specs.Laws.Range.{SizedUnit}
 use Rattle.runs.specs.Calls.{lentOf}
 use Rattle.runs.specs.Code.{gather-within, lent-part}
 use borrow.Author.Needs.{needs}
-use Rattle.core.proofs.handing.step.Statement.{statement}
-use Rattle.core.proofs.handing.step.Tie as tie
+use Rattle.core.proofs.handing.step_long.Statement.{statement}
+use Rattle.core.proofs.handing.step_long.Tie as tie
 
 part-step-by-end : tie.Need-part-step-by-end
 part-step-by-end c =
@@ -31,8 +31,8 @@ returns c =
     let r = c .before .before .step-by in
     (r .ensures .0 ∙ rw (n, sizes, part), r .ensures .1 ∙ rw (n, sizes, part), arrays z)
 
-pub step-spec : {M : Type 1} → statement M
-step-spec =
+pub step-long-spec : {M : Type 1} → statement M
+step-long-spec =
     tie.close
     (tie.spec
     (λ c κs. search needs)

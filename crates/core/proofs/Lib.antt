@@ -1,0 +1,2 @@
+-- What the proofs of the units and counts share.
+pub mod Lent
