@@ -1,5 +1,5 @@
 -- `core::states::place_asked` meets its contract: no value's place is below 1. Assumes nothing.
-use Prim.Native.Nat.{_≤_, pred}
+use Prim.Native.Nat.{pred}
 use mathlib.Core.Path.{sym, ap, _∙_}
 use native.Mathlib.Omega.{arith}
 use lib.Dec.{leb}
