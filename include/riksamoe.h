@@ -80,12 +80,12 @@
  *   riksamoe_network_settle_by      157,696
  *   riksamoe_slots_make              14,336
  *   riksamoe_slots_make_by           14,336
- *   riksamoe_slots_deliver           40,960
- *   riksamoe_slots_deliver_by        38,912
- *   riksamoe_slots_replay            41,216
- *   riksamoe_slots_replay_by         38,912
- *   riksamoe_slots_settle            34,560
- *   riksamoe_slots_settle_by         34,560
+ *   riksamoe_slots_deliver           44,544
+ *   riksamoe_slots_deliver_by        42,240
+ *   riksamoe_slots_replay            44,544
+ *   riksamoe_slots_replay_by         42,240
+ *   riksamoe_slots_settle            37,888
+ *   riksamoe_slots_settle_by         37,888
  *   riksamoe_slot_of                    256
  *   riksamoe_newer                    1,024
  *   riksamoe_newer_refusal            1,024
