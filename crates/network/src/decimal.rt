@@ -1,6 +1,6 @@
 // A count in decimal digits.
 
-ghost use Rattle.core.specs.Prelude.{◌≡◌, ◌+◌, ◌*◌, ◌<◌, ◌≤◌, ◌==◌};
+ghost use Rattle.std.specs.Prelude.{◌≡◌, ◌+◌, ◌*◌, ◌<◌, ◌≤◌, ◌==◌};
 ghost use Rattle.runs.specs.Count.{value_of};
 ghost use Rattle.runs.specs.Digits.{digits_of};
 

@@ -1,6 +1,6 @@
 // A delivery: the checks, the step of the unit that the message is for, and what it leaves in the network and the pool.
 
-ghost use Rattle.core.specs.Prelude.{◌≡◌, ℕ, ◌+◌, ◌-◌, ◌*◌, ◌<◌, ◌≤◌, List, length};
+ghost use Rattle.std.specs.Prelude.{◌≡◌, ℕ, ◌+◌, ◌-◌, ◌*◌, ◌<◌, ◌≤◌, List, length};
 ghost use Rattle.base.specs.Limits.{message_size, pool_cells};
 ghost use Rattle.costs.specs.Order.{default_order};
 ghost use Rattle.runs.specs.Calls.{network_refusal, deliver_refusal, network_after, deliver_by, deliver_of};
@@ -66,7 +66,7 @@ pub(crate) fn network_refusal(order: ValueOrder, net: Network, stream: &[u8], ro
         return 13;
     }
     let core = net.core;
-    let refusal = core::refusal(order, core, stream);
+    let refusal = shed_core::refusal(order, core, stream);
     if refusal != 0 {
         return refusal;
     }
@@ -87,12 +87,12 @@ fn hand_over(order: ValueOrder, net: Network, stream: &[u8], pool: &mut [u8], ce
 {
     let at = MESSAGE_SIZE * cell;
     let end = at + MESSAGE_SIZE;
-    let own = core::receiver(table::units_of(stream), &pool[at..end]);
+    let own = shed_core::receiver(table::units_of(stream), &pool[at..end]);
     let core = net.core;
     let units = core.units;
     let u = units[(own - 1) as usize];
     let mut out = [0u8; base::SENDING_SIZE];
-    let r = core::step(order, u, stream, own, &pool[at..end], &mut out);
+    let r = shed_core::step(order, u, stream, own, &pool[at..end], &mut out);
     let refusal = r.refusal;
     if refusal != 0 {
         return Answer {
@@ -131,7 +131,7 @@ pub(crate) fn advance(net: Network, own: u8, r: Outcome, left: u64) -> Network
 {
     let core = net.core;
     Network {
-        core: core::advance(core, own, r),
+        core: shed_core::advance(core, own, r),
         used: left + r.sent as u64,
     }
 }

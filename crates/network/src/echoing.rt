@@ -1,6 +1,6 @@
 // An echo, 02, job 2: a packet that was sent is heard again. It goes to its unit as in a delivery, but nothing leaves the pool.
 
-ghost use Rattle.core.specs.Prelude.{◌≡◌};
+ghost use Rattle.std.specs.Prelude.{◌≡◌};
 ghost use Rattle.costs.specs.Order.{default_order};
 ghost use Rattle.runs.specs.Calls.{echo_by, echo_of};
 ghost use Rattle.runs.specs.Code.{Passing, Storing, stored_answer, stored_pool};
@@ -48,12 +48,12 @@ fn hear(order: ValueOrder, net: Network, stream: &[u8], pool: &mut [u8], packet:
     requires { Passing order net stream.now pool.old }
     ensures { (result ≡ (echo_by order 0 net stream.now pool.old packet.now).answer) × (pool.new ≡ (echo_by order 0 net stream.now pool.old packet.now).pool) }
 {
-    let own = core::receiver(table::units_of(stream), packet);
+    let own = shed_core::receiver(table::units_of(stream), packet);
     let core = net.core;
     let units = core.units;
     let u = units[(own - 1) as usize];
     let mut out = [0u8; base::SENDING_SIZE];
-    let r = core::step(order, u, stream, own, packet, &mut out);
+    let r = shed_core::step(order, u, stream, own, packet, &mut out);
     let refusal = r.refusal;
     if refusal != 0 {
         return Answer {

@@ -1,6 +1,6 @@
 // The costs of all units of a table, gathered once for a run, and h of their values.
 
-ghost use Rattle.core.specs.Prelude.{◌≤◌, length};
+ghost use Rattle.std.specs.Prelude.{◌≤◌, length};
 ghost use Rattle.table.specs.Stream.{units_of, Accepted};
 ghost use Rattle.runs.specs.Lending.{lent_size, Lent, Looked};
 

@@ -1,6 +1,6 @@
 // Making a network of a stream: unit 1 assigns, the others wait.
 
-ghost use Rattle.core.specs.Prelude.{◌≡◌};
+ghost use Rattle.std.specs.Prelude.{◌≡◌};
 ghost use Rattle.costs.specs.Order.{default_order};
 ghost use Rattle.runs.specs.Calls.{no_network, make_of};
 ghost use Rattle.runs.specs.Code.{begun_answer};
@@ -20,11 +20,11 @@ pub fn make(stream: &[u8], pool: &mut [u8]) -> Answer
 pub fn make_by(order: ValueOrder, stream: &[u8], pool: &mut [u8]) -> Answer
     ensures { (result ≡ (make_of order stream.now pool.old).answer) × (pool.new ≡ (make_of order stream.now pool.old).pool) }
 {
-    let refusal = core::make_refusal(stream, pool.len(), base::POOL_SIZE);
+    let refusal = shed_core::make_refusal(stream, pool.len(), base::POOL_SIZE);
     if refusal != 0 {
         return refused(refusal);
     }
-    let r = core::first_step(order, stream, pool);
+    let r = shed_core::first_step(order, stream, pool);
     begun(r)
 }
 
@@ -35,7 +35,7 @@ fn begun(r: Outcome) -> Answer
     Answer {
         refusal: 0,
         network: Network {
-            core: core::begun(r),
+            core: shed_core::begun(r),
             used: r.sent as u64,
         },
     }
@@ -48,7 +48,7 @@ fn refused(refusal: u8) -> Answer
     Answer {
         refusal,
         network: Network {
-            core: core::no_core(),
+            core: shed_core::no_core(),
             used: 0,
         },
     }

@@ -1,6 +1,6 @@
 // Cells of the pool moved and written.
 
-ghost use Rattle.core.specs.Prelude.{◌≡◌, ◌+◌, ◌≤◌, length};
+ghost use Rattle.std.specs.Prelude.{◌≡◌, ◌+◌, ◌≤◌, length};
 ghost use Rattle.std.proofs.Math.Seq.{paste};
 ghost use Rattle.base.specs.Limits.{message_size};
 ghost use Rattle.runs.specs.Pool.Laws.{close_gap};

@@ -1,6 +1,6 @@
 // Running a network to its end: the table is checked once, when the network is made.
 
-ghost use Rattle.core.specs.Prelude.{◌≡◌};
+ghost use Rattle.std.specs.Prelude.{◌≡◌};
 ghost use Rattle.costs.specs.Order.{default_order};
 ghost use Rattle.runs.specs.Settle.{settle_of};
 ghost use Rattle.runs.specs.Settle.Laws.{Begun, Ended};
@@ -67,13 +67,13 @@ fn run(order: ValueOrder, stream: &[u8], net: Network, pool: &mut [u8]) -> Netwo
                 let w = d.unit;
                 core.units[place] = w;
                 let records = core.records;
-                core.records = core::plus(records, d.records as u64);
+                core.records = shed_core::plus(records, d.records as u64);
                 sent = send_on(seat, d, pool, used as usize);
             }
         }
         used = used - 1 + sent as u64;
         let deliveries = core.deliveries;
-        core.deliveries = core::plus(deliveries, 1);
+        core.deliveries = shed_core::plus(deliveries, 1);
     }
     Network { core, used }
 }

@@ -1,6 +1,6 @@
 // A message of a run: it is heard and taken out of the pool, and what is sent on it is put behind the others.
 
-ghost use Rattle.core.specs.Prelude.{◌≡◌, ◌-◌, ◌*◌, ◌≤◌, length, take, drop};
+ghost use Rattle.std.specs.Prelude.{◌≡◌, ◌-◌, ◌*◌, ◌≤◌, length, take, drop};
 ghost use Rattle.base.specs.Limits.{message_size, pool_cells, pool_size};
 ghost use Rattle.base.specs.Bytes.Laws.{AllBytes};
 ghost use Rattle.table.specs.Stream.{units_of};
@@ -52,7 +52,7 @@ pub(crate) fn seat_of(any: Seat, packet: &[u8]) -> Seat
     ensures { (result ≡ seat_at any.order (receiver_of any.n packet.now) any.n any.sizes) × AllBytes packet.now }
 {
     let mut seat = any;
-    seat.own = core::receiver(any.n, packet);
+    seat.own = shed_core::receiver(any.n, packet);
     seat
 }
 

@@ -1,6 +1,6 @@
 -- The definitions computed: the cells of three units, and a run of 01's table T over this pool, in which two messages are overwritten.
 -- Assumes nothing.
-use Rattle.core.specs.Prelude.{◌≡◌, ℕ, Bool, true, List, [], ◌∷◌, map, length, take}
+use Rattle.std.specs.Prelude.{◌≡◌, ℕ, Bool, true, List, [], ◌∷◌, map, length, take}
 use Rattle.std.specs.Prelude.{refl}
 use Rattle.costs.specs.declared.ValueOrder.TheVariants.{Ascending}
 use Rattle.costs.specs.Bounds.{cost_with, h, estimate}

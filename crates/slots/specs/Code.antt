@@ -4,7 +4,7 @@
 --     stray-..                                   a message that stands in a cell not its own
 --     hand-..                                    the message at a cell goes to its unit
 -- The units and counts, the step and its limits are those of runs/specs/Code. Assumes nothing.
-use Rattle.core.specs.Prelude.{◌≡◌, ℕ, zero, suc, pred, ◌-◌, ◌*◌, ◌<◌, ◌≤◌, true, false, cond, not, List, [], length, take, ◌==◌, ◌≢◌, nat_lt}
+use Rattle.std.specs.Prelude.{◌≡◌, ℕ, zero, suc, pred, ◌-◌, ◌*◌, ◌<◌, ◌≤◌, true, false, cond, not, List, [], length, take, ◌==◌, ◌≢◌, nat_lt}
 use Rattle.std.specs.Prelude.{refl}
 use Rattle.std.proofs.Common.{sym, ◌∙◌, subst, arith}
 use Rattle.std.proofs.Math.Path.{ap}

@@ -1,5 +1,5 @@
 -- A network over 02's pool can be made of every accepted table, in a pool that is long enough (runs/specs/Made). Assumes nothing.
-use Rattle.core.specs.Prelude.{◌≡◌, ℕ, ◌≤◌, List, length}
+use Rattle.std.specs.Prelude.{◌≡◌, ℕ, ◌≤◌, List, length}
 use Rattle.std.specs.Prelude.{refl}
 use Rattle.table.specs.Stream.{units_of, Accepted}
 use Rattle.costs.specs.declared.ValueOrder.{ValueOrder}

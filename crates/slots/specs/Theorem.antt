@@ -1,7 +1,7 @@
 -- DEMAND 3 over 02's pool, proved (`demand3`): the statement is Demand3.antt's. A run keeps the invariant (Proof), and so its parts are read off the machine's theorem.
 -- In order: one run, and that it can be brought to its end (`finishes`); two runs of one table; one over this pool and one over 01's (`two_pools`).
 -- Assumes nothing.
-use Rattle.core.specs.Prelude.{◌≡◌, ℕ, suc, true, false, ◌⊎◌, List, ◌++◌, map, length}
+use Rattle.std.specs.Prelude.{◌≡◌, ℕ, suc, true, false, ◌⊎◌, List, ◌++◌, map, length}
 use Rattle.std.specs.Prelude.{refl}
 use Rattle.std.proofs.Common.{sym, ap, ◌∙◌, subst, arith}
 use Rattle.base.specs.Members.{In}

@@ -1,6 +1,6 @@
 // Cells of the pool, emptied, filled and looked for.
 
-ghost use Rattle.core.specs.Prelude.{◌≡◌, ◌*◌, ◌<◌, ◌≤◌, length};
+ghost use Rattle.std.specs.Prelude.{◌≡◌, ◌*◌, ◌<◌, ◌≤◌, length};
 ghost use Rattle.base.specs.Limits.{message_size, places};
 ghost use Rattle.table.specs.Block.{all_zero};
 ghost use Rattle.runs.specs.Pool.{cell_of};

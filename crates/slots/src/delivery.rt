@@ -1,6 +1,6 @@
 // A delivery over this pool: the checks, the step of the unit that the message is for, and what it leaves in the units, the counts and the cells.
 
-ghost use Rattle.core.specs.Prelude.{◌≡◌, ◌≤◌, length};
+ghost use Rattle.std.specs.Prelude.{◌≡◌, ◌≤◌, length};
 ghost use Rattle.base.specs.Limits.{places};
 ghost use Rattle.table.specs.Stream.{units_of};
 ghost use Rattle.costs.specs.Order.{default_order};
@@ -48,7 +48,7 @@ pub(crate) fn lent_refusal(order: ValueOrder, core: Core, stream: &[u8], pool: &
     if pool.len() < SLOT_POOL_SIZE {
         return 13;
     }
-    core::refusal(order, core, stream)
+    shed_core::refusal(order, core, stream)
 }
 
 // A delivery where that is 0. It stays so, as a step leaves its unit in range: a list of deliveries is checked once.
@@ -94,14 +94,14 @@ fn hand_over(order: ValueOrder, core: Core, stream: &[u8], pool: &mut [u8], cell
     let at = MESSAGE_SIZE * cell;
     let end = at + MESSAGE_SIZE;
     let n = table::units_of(stream);
-    let own = core::receiver(n, &pool[at..end]);
+    let own = shed_core::receiver(n, &pool[at..end]);
     if is_stray(stream, own, &pool[at..end], cell) {
         return Answer { refusal: 9, core };
     }
     let units = core.units;
     let u = units[(own - 1) as usize];
     let mut out = [0u8; base::SENDING_SIZE];
-    let r = core::step(order, u, stream, own, &pool[at..end], &mut out);
+    let r = shed_core::step(order, u, stream, own, &pool[at..end], &mut out);
     let refusal = r.refusal;
     if refusal != 0 {
         return Answer { refusal, core };
@@ -110,7 +110,7 @@ fn hand_over(order: ValueOrder, core: Core, stream: &[u8], pool: &mut [u8], cell
     place_all(n, pool, &out, r.sent as usize);
     Answer {
         refusal: 0,
-        core: core::advance(core, own, r),
+        core: shed_core::advance(core, own, r),
     }
 }
 

@@ -1,6 +1,6 @@
 // A network over this pool made of a stream: unit 1 assigns, the others wait.
 
-ghost use Rattle.core.specs.Prelude.{◌≡◌};
+ghost use Rattle.std.specs.Prelude.{◌≡◌};
 ghost use Rattle.costs.specs.Order.{default_order};
 ghost use Rattle.slots.specs.Calls.{make_of};
 
@@ -19,20 +19,20 @@ pub fn make(stream: &[u8], pool: &mut [u8]) -> Answer
 pub fn make_by(order: ValueOrder, stream: &[u8], pool: &mut [u8]) -> Answer
     ensures { (result ≡ (make_of order stream.now pool.old).answer) × (pool.new ≡ (make_of order stream.now pool.old).pool) }
 {
-    let refusal = core::make_refusal(stream, pool.len(), SLOT_POOL_SIZE);
+    let refusal = shed_core::make_refusal(stream, pool.len(), SLOT_POOL_SIZE);
     if refusal != 0 {
         return Answer {
             refusal,
-            core: core::no_core(),
+            core: shed_core::no_core(),
         };
     }
     let n = table::units_of(stream);
     let mut out = [0u8; base::SENDING_SIZE];
-    let r = core::first_step(order, stream, &mut out);
+    let r = shed_core::first_step(order, stream, &mut out);
     zero_cells(pool, n);
     place_all(n, pool, &out, r.sent as usize);
     Answer {
         refusal: 0,
-        core: core::begun(r),
+        core: shed_core::begun(r),
     }
 }

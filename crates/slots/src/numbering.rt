@@ -1,6 +1,6 @@
 // The cell of a kind, a sender and a receiver.
 
-ghost use Rattle.core.specs.Prelude.{◌≡◌, ◌≤◌};
+ghost use Rattle.std.specs.Prelude.{◌≡◌, ◌≤◌};
 ghost use Rattle.message.specs.declared.Kind.TheVariants.{Cpa, Request, Estimate, Solution, Stop};
 ghost use Rattle.slots.specs.Slot.{used_slots, triangle, slot_or_none};
 ghost use Rattle.slots.specs.Slot.Laws.{Units, slot_if_allowed};

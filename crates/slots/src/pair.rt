@@ -1,6 +1,6 @@
 // The newer of two lent messages that share sender, receiver and kind.
 
-ghost use Rattle.core.specs.Prelude.{◌≡◌};
+ghost use Rattle.std.specs.Prelude.{◌≡◌};
 ghost use Rattle.slots.specs.Newer.{same_slot, later_stamp, second_newer, chosen, choice_of, newer_refusal, which_newer, newer_of};
 
 use crate::Choice;

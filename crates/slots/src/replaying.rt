@@ -1,6 +1,6 @@
 // A recorded run replayed on a lent network.
 
-ghost use Rattle.core.specs.Prelude.{◌≡◌};
+ghost use Rattle.std.specs.Prelude.{◌≡◌};
 ghost use Rattle.costs.specs.Order.{default_order};
 ghost use Rattle.slots.specs.Calls.{lent_refusal};
 ghost use Rattle.slots.specs.Replay.{cells_in, deliver_until, replay_of};

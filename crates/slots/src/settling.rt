@@ -1,6 +1,6 @@
 // A network over this pool run to its end.
 
-ghost use Rattle.core.specs.Prelude.{◌≡◌};
+ghost use Rattle.std.specs.Prelude.{◌≡◌};
 ghost use Rattle.costs.specs.Order.{default_order};
 ghost use Rattle.slots.specs.Settle.{settle_of};
 ghost use Rattle.slots.specs.Settle.Laws.{Begun, Ended};

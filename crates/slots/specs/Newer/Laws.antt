@@ -4,7 +4,7 @@
 --     Tied, first-on-a-tie, either_way             which one
 --     one_cell                                     two messages of one cell are never refused
 -- Assumes nothing.
-use Rattle.core.specs.Prelude.{◌≡◌, ℕ, zero, suc, Bool, true, false, cond, ◌&&◌, ◌⊎◌, List, [], length, ◌==◌, ◌≢◌, nat_lt, slice_index}
+use Rattle.std.specs.Prelude.{◌≡◌, ℕ, zero, suc, Bool, true, false, cond, ◌&&◌, ◌⊎◌, List, [], length, ◌==◌, ◌≢◌, nat_lt, slice_index}
 use Rattle.std.proofs.Math.Path.{refl, ap}
 use Rattle.std.proofs.Common.{sym, ◌∙◌, inl, inr, arith, length-take, length-drop, ext_get_or}
 use Rattle.std.proofs.lemmas.Bool.{false≢true}

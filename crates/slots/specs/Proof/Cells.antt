@@ -1,6 +1,6 @@
 -- Cells with a message or none, as lists: what waits in them, what they hold once others are put in, and what they weigh. For packets and for the machine's messages alike.
 -- By induction on the cells, and on what is put in. Assumes nothing.
-use Rattle.core.specs.Prelude.{◌≡◌, ℕ, zero, suc, ◌+◌, ◌<◌, Bool, true, false, ◌≢◌, ◌⊎◌, List, [], ◌∷◌, ◌++◌, length, replicate, ◌==◌, slice_set}
+use Rattle.std.specs.Prelude.{◌≡◌, ℕ, zero, suc, ◌+◌, ◌<◌, Bool, true, false, ◌≢◌, ◌⊎◌, List, [], ◌∷◌, ◌++◌, length, replicate, ◌==◌, slice_set}
 use Rattle.std.proofs.Math.Path.{refl, sym, ap, subst}
 use Rattle.std.proofs.Common.{◌∙◌, length-set, eqb-true}
 use Rattle.std.proofs.Math.Logic.{inl, inr}

@@ -2,7 +2,7 @@
 -- is its own, the step is the machine's and is accepted, and the pool is left holding what then waits. By the one walk of runs.
 -- In order: packets counted; a delivery refused; a packet at its cell, and its step; the invariant after it; any cell.
 -- Assumes nothing.
-use Rattle.core.specs.Prelude.{◌≡◌, ℕ, suc, ◌+◌, ◌<◌, Bool, true, false, cond, not, List, [], ◌∷◌, ◌++◌, map, length, slice_set}
+use Rattle.std.specs.Prelude.{◌≡◌, ℕ, suc, ◌+◌, ◌<◌, Bool, true, false, cond, not, List, [], ◌∷◌, ◌++◌, map, length, slice_set}
 use Rattle.std.specs.Prelude.{refl}
 use Rattle.std.proofs.Common.{sym, ◌∙◌, subst, inl, inr, append-nil, arith, length-set, length-append, eq-eqb, ne_eqb}
 use Rattle.std.proofs.Math.Path.{ap}

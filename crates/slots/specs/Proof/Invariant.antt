@@ -1,7 +1,7 @@
 -- THE INVARIANT of a run over 02's pool, on bytes, over messages and in the machine at once. Making gives it (Making), and each delivery keeps it, whatever its cell (Delivery). The
 -- machine's pool lists what stands in the cells; a message there is overwritten as its packet is, so the machine's network is no run of its own pool: it is one of the invariant's parts.
 -- Assumes nothing.
-use Rattle.core.specs.Prelude.{◌≡◌, ℕ, ◌+◌, ◌<◌, ◌≤◌, Bool, false, List, map, length}
+use Rattle.std.specs.Prelude.{◌≡◌, ℕ, ◌+◌, ◌<◌, ◌≤◌, Bool, false, List, map, length}
 use Rattle.std.proofs.Common.{sym, ◌∙◌, inl, inr, mod-eq_of_lt}
 use Rattle.std.proofs.Math.Option.{Option}
 use Rattle.base.specs.Members.{In, Every}

@@ -2,7 +2,7 @@
 -- making leaves them is what it sent (`first-placed`).
 -- In order: what stands and what is sent may go where it goes; no two of what is sent share a cell; after a step; after making.
 -- Assumes nothing.
-use Rattle.core.specs.Prelude.{◌≡◌, ℕ, ◌<◌, ◌≤◌, ◌≢◌, ◌⊎◌, List, [], ◌∷◌, length, replicate, slice_set}
+use Rattle.std.specs.Prelude.{◌≡◌, ℕ, ◌<◌, ◌≤◌, ◌≢◌, ◌⊎◌, List, [], ◌∷◌, length, replicate, slice_set}
 use Rattle.std.specs.Prelude.{refl}
 use Rattle.std.proofs.Common.{sym, ap, ◌∙◌, subst, inl, inr, arith, length-set}
 use Rattle.std.proofs.Math.Option.{Option, none, some, some-injective, none-ne-some}

@@ -2,7 +2,7 @@
 -- handed over: whether it is empty, and whether its message is its own.
 -- In order: one cell changed; packets placed; the cells as making zeroes them; an empty cell, and one with a message.
 -- Assumes nothing.
-use Rattle.core.specs.Prelude.{◌≡◌, ℕ, suc, ◌*◌, ◌<◌, ◌≤◌, Bool, true, false, ◌||◌, ◌≢◌, ◌⊎◌, List, [], ◌∷◌, length, replicate, nat_le, slice_set}
+use Rattle.std.specs.Prelude.{◌≡◌, ℕ, suc, ◌*◌, ◌<◌, ◌≤◌, Bool, true, false, ◌||◌, ◌≢◌, ◌⊎◌, List, [], ◌∷◌, length, replicate, nat_le, slice_set}
 use Rattle.std.proofs.Math.Path.{refl, ap}
 use Rattle.std.proofs.Common.{sym, ◌∙◌, subst, inl, inr, arith, length-set, leb-true, leb-false}
 use Rattle.std.proofs.Math.Option.{Option, none, some, some-ne-none}

@@ -1,5 +1,5 @@
 -- `network::decimal::tenth` meets its contract: each partial dividend is below ten times its base. Assumes nothing.
-use Rattle.core.specs.Prelude.{◌^◌, ◌<◌}
+use Rattle.std.specs.Prelude.{◌^◌, ◌<◌}
 use native.Mathlib.Omega.{arith}
 use borrow.Author.Rules.{rules}
 use Rattle.network.proofs.decimal.tenth.Statement.{statement}

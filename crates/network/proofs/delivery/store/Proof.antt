@@ -1,6 +1,6 @@
 -- `network::delivery::store` meets its contract: where what was sent fits, the gap is closed and it is copied in behind.
 -- Assumes nothing.
-use Rattle.core.specs.Prelude.{◌≡◌, ℕ, ◌+◌, ◌-◌, ◌*◌, true, false, leb, List}
+use Rattle.std.specs.Prelude.{◌≡◌, ℕ, ◌+◌, ◌-◌, ◌*◌, true, false, leb, List}
 use mathlib.Core.Path.{ap, ◌∙◌}
 use lib.Seq.{paste}
 use borrow.Author.Tests.{le-leb, lt-leb}

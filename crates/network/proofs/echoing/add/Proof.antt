@@ -1,5 +1,5 @@
 -- `network::echoing::add` meets its contract: where what was sent fits, it is copied in behind. Assumes nothing.
-use Rattle.core.specs.Prelude.{◌≡◌, ◌+◌, true, false, leb}
+use Rattle.std.specs.Prelude.{◌≡◌, ◌+◌, true, false, leb}
 use mathlib.Core.Path.{ap}
 use borrow.Author.Tests.{le-leb, lt-leb}
 use Rattle.runs.specs.declared.Network.{Network}

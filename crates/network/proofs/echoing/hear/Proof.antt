@@ -1,5 +1,5 @@
 -- `network::echoing::hear` meets its contract: the step's refusal, or what it sends added. Assumes nothing.
-use Rattle.core.specs.Prelude.{ℕ, ◌-◌, ◌≤◌, get_or, replicate}
+use Rattle.std.specs.Prelude.{ℕ, ◌-◌, ◌≤◌, get_or, replicate}
 use mathlib.Core.Path.{refl, ◌∙◌}
 use native.Mathlib.Omega.{arith}
 use borrow.Author.Rules.{rules}

@@ -1,5 +1,5 @@
 -- `network::making::make_by` meets its contract: a refusal with all zero, or unit 1's making stored. Assumes nothing.
-use Rattle.core.specs.Prelude.{◌≡◌, length}
+use Rattle.std.specs.Prelude.{◌≡◌, length}
 use mathlib.Core.Path.{sym, ◌∙◌}
 use native.Mathlib.Omega.{arith}
 use Rattle.runs.specs.Calls.{making_refusal}

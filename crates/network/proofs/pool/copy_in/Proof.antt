@@ -1,5 +1,5 @@
 -- `network::pool::copy_in` meets its contract: the bytes fit, and are put. Assumes nothing.
-use Rattle.core.specs.Prelude.{◌-◌}
+use Rattle.std.specs.Prelude.{◌-◌}
 use mathlib.Core.Path.{◌∙◌}
 use native.Mathlib.Omega.{arith}
 use borrow.Author.Rules.{rules}

@@ -1,7 +1,7 @@
 -- `network::settling::run` meets its contract. The loop's invariant: the network and the pool are what as many deliveries of cell 0 as are
 -- counted have left of what was lent. So the next delivery is accepted, and each way of its message does what the delivery says.
 -- The measure is (3n - 1) × N less the accepted deliveries, in the two count words: demand 3 bounds them. Assumes nothing.
-use Rattle.core.specs.Prelude.{◌≡◌, ℕ, ◌+◌, ◌-◌, ◌<◌, ◌≤◌, false, List, length, get_or, take, drop}
+use Rattle.std.specs.Prelude.{◌≡◌, ℕ, ◌+◌, ◌-◌, ◌<◌, ◌≤◌, false, List, length, get_or, take, drop}
 use mathlib.Core.Path.{refl, sym, ap, ◌∙◌}
 use mathlib.Core.Logic.{inl, inr, ⊎_elim}
 use native.Mathlib.Omega.{arith}

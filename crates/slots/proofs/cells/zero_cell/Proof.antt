@@ -1,6 +1,6 @@
 -- `slots::cells::zero_cell` meets its contract: 64 zeros are put in, which fit.
 -- Assumes nothing.
-use Rattle.core.specs.Prelude.{◌*◌, replicate}
+use Rattle.std.specs.Prelude.{◌*◌, replicate}
 use mathlib.Core.Path.{◌∙◌}
 use native.Mathlib.Omega.{arith}
 use Rattle.base.specs.Put.Laws.{put-fits}

@@ -1,6 +1,6 @@
 -- `request_slot` meets its contract: the senders before have no more later units than all have.
 -- Assumes nothing.
-use Rattle.core.specs.Prelude.{◌+◌, ◌-◌}
+use Rattle.std.specs.Prelude.{◌+◌, ◌-◌}
 use native.Mathlib.Omega.{arith}
 use borrow.Author.Tests.{lt-ltb, le-ltb}
 use Rattle.slots.specs.Slot.{slot_number}

@@ -1,6 +1,6 @@
 -- `slot_of` meets its contract: of two units, the number of their kind.
 -- Assumes nothing.
-use Rattle.core.specs.Prelude.{◌≡◌, ◌^◌, ◌<◌, true}
+use Rattle.std.specs.Prelude.{◌≡◌, ◌^◌, ◌<◌, true}
 use mathlib.Core.Path.{sym, ◌∙◌}
 use native.Mathlib.Omega.{arith}
 use borrow.Author.Tests.{not-true, not-false}

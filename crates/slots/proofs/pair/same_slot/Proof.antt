@@ -1,7 +1,7 @@
 -- `same_slot` meets its contract: the three are compared one after the other.
 -- Assumes nothing.
 use borrow.Author.Tests.{eq-eqb, ne_eqb}
-use Rattle.core.specs.Prelude.{◌≡◌}
+use Rattle.std.specs.Prelude.{◌≡◌}
 use mathlib.Core.Path.{sym, ◌∙◌}
 use Rattle.message.specs.Message.{kind_code}
 use borrow.Author.Rules.{rules}

@@ -1,7 +1,7 @@
 -- `slots::settling::run` meets its contract. The loop's invariant: units, counts and pool are what as many deliveries of the lowest cell as are counted have left
 -- of what was lent, and would pass the checks. The measure is (3n - 1) × N less the accepted deliveries: demand 3 bounds them.
 -- Assumes nothing.
-use Rattle.core.specs.Prelude.{◌≡◌, ◌-◌, false, length}
+use Rattle.std.specs.Prelude.{◌≡◌, ◌-◌, false, length}
 use mathlib.Core.Path.{refl, sym, ◌∙◌}
 use native.Mathlib.Omega.{arith}
 use borrow.Author.Rules.{rules}
