@@ -9,14 +9,14 @@ use runs::Core;
 use search::Found;
 
 // What the shed is run over: 01's pool, or 02's of one cell each.
-#[derive(Drop)]
+#[derive(Clone, Copy)]
 pub enum Pool {
     Messages,
     Slots,
 }
 
 // What a call totals of a table: its refusal, or 0 and the total.
-#[derive(Drop)]
+#[derive(Clone, Copy)]
 struct Total {
     refusal: u8,
     total: u32,

@@ -48,14 +48,14 @@ const CHEAPEST_FIRST: u8 = 1;
 
 // A domain size for each of 16 units, zero past n.
 #[repr(C)]
-#[derive(Drop)]
+#[derive(Clone, Copy)]
 pub struct Sizes {
     pub places: [u8; 16],
 }
 
 // `start::Start` as C lends it, and `start::Started`: any number can stand where the stage is.
 #[repr(C)]
-#[derive(Drop)]
+#[derive(Clone, Copy)]
 pub struct LentStart {
     pub own: u8,
     pub stage: u8,
@@ -71,7 +71,7 @@ pub struct LentStart {
 }
 
 #[repr(C)]
-#[derive(Drop)]
+#[derive(Clone, Copy)]
 pub struct LentStarted {
     pub refusal: u8,
     pub length: usize,
@@ -80,7 +80,7 @@ pub struct LentStarted {
 
 // A refusal with all else zero, or 0 with the kind's number and the fields.
 #[repr(C)]
-#[derive(Drop)]
+#[derive(Clone, Copy)]
 pub struct Parsed {
     pub refusal: u8,
     pub kind: u8,
@@ -90,7 +90,7 @@ pub struct Parsed {
 // `unit::Unit` as C lends it: any byte can stand where the flag is. Making, which is lent no state, gives `unit::Outcome`, of the same
 // layout.
 #[repr(C)]
-#[derive(Drop)]
+#[derive(Clone, Copy)]
 pub struct LentUnit {
     pub threshold: [u8; 16],
     pub bound: u32,
@@ -105,7 +105,7 @@ pub struct LentUnit {
 
 // `unit::Outcome` of a lent state.
 #[repr(C)]
-#[derive(Drop)]
+#[derive(Clone, Copy)]
 pub struct LentOutcome {
     pub refusal: u8,
     pub unit: LentUnit,
@@ -115,7 +115,7 @@ pub struct LentOutcome {
 
 // `network::Core`, `Network` and `Answer` with lent states.
 #[repr(C)]
-#[derive(Drop)]
+#[derive(Clone, Copy)]
 pub struct LentCore {
     pub units: [LentUnit; 16],
     pub records: Count,
@@ -123,14 +123,14 @@ pub struct LentCore {
 }
 
 #[repr(C)]
-#[derive(Drop)]
+#[derive(Clone, Copy)]
 pub struct LentNetwork {
     pub core: LentCore,
     pub used: u64,
 }
 
 #[repr(C)]
-#[derive(Drop)]
+#[derive(Clone, Copy)]
 pub struct LentAnswer {
     pub refusal: u8,
     pub network: LentNetwork,
@@ -138,7 +138,7 @@ pub struct LentAnswer {
 
 // `slots::Answer` with lent states.
 #[repr(C)]
-#[derive(Drop)]
+#[derive(Clone, Copy)]
 pub struct LentSlotsAnswer {
     pub refusal: u8,
     pub core: LentCore,

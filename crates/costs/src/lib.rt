@@ -28,7 +28,7 @@ const FORBIDDEN_SUM: u32 = 16777216;
 const AHEAD_LIMIT: u32 = 16711425;
 
 // The order in which a unit tries its values: by number; or by rising h, the lower number first on a tie, values without an h last.
-#[derive(Drop)]
+#[derive(Clone, Copy)]
 pub enum ValueOrder {
     Ascending,
     CheapestFirst,
@@ -37,7 +37,7 @@ pub enum ValueOrder {
 // Where a unit sits: its own number, 1 to n, among n units with these domain sizes; places past n are not looked at; and the order in which it
 // tries its values. The costs that touch it are lent beside it; and with these, as `ahead`, h of its first values where it is known beforehand:
 // value v's at place v - 1, NONE where it has none.
-#[derive(Drop)]
+#[derive(Clone, Copy)]
 pub struct Seat {
     pub own: u8,
     pub n: u8,
@@ -46,7 +46,7 @@ pub struct Seat {
 }
 
 // What looking up a cost gives. 02: "a number or "barred""; a sum is forbidden as soon as one part is.
-#[derive(Drop)]
+#[derive(Clone, Copy)]
 pub enum Cost {
     Of(u32),
     Forbidden,

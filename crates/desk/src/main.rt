@@ -7,7 +7,7 @@ use libc::{STDERR_FILENO, STDIN_FILENO, STDOUT_FILENO};
 use listing::Form;
 
 // What the words ask for: one of what follows, and whether the boxes' rules find the lots.
-#[derive(Drop)]
+#[derive(Clone, Copy)]
 struct Ask {
     what: u8,
     shed: bool,

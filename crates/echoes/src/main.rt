@@ -13,7 +13,7 @@ const TURNS: usize = 10000;
 const KEPT: usize = 6;
 
 // Which packet is delivered each time, and when it is echoed: before, or once `late` more were delivered.
-#[derive(Drop)]
+#[derive(Clone, Copy)]
 struct Schedule {
     newest: bool,
     before: bool,

@@ -17,7 +17,7 @@ use search::Found;
 pub const TEXT_SIZE: usize = 65535;
 
 // What is asked for.
-#[derive(Drop)]
+#[derive(Clone, Copy)]
 pub enum Form {
     Rows,
     Table,

@@ -4,7 +4,7 @@ ghost use Rattle.std.specs.Prelude.{◌+◌, ◌≤◌, ◌<◌};
 use rows::Sheet;
 
 // How many lines a lot has, the sum of their readings, the least and the most of them.
-#[derive(Drop)]
+#[derive(Clone, Copy)]
 pub(crate) struct Tally {
     pub(crate) lines: u32,
     pub(crate) sum: u32,

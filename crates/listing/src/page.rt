@@ -8,7 +8,7 @@ use rows::Sheet;
 use search::Found;
 
 // The axis: its first and last reading, in tenths of a micron, whole microns both.
-#[derive(Drop)]
+#[derive(Clone, Copy)]
 struct Axis {
     from: u32,
     to: u32,

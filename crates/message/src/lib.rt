@@ -30,7 +30,7 @@ const ZERO_BYTE: usize = 60;
 const CHECK_BYTE: usize = 62;
 
 // 01: "1 paper, 2 copy, 3 estimate, 4 news, 5 stop".
-#[derive(Drop)]
+#[derive(Clone, Copy)]
 pub enum Kind {
     Cpa,
     Request,
@@ -40,7 +40,7 @@ pub enum Kind {
 }
 
 // What reading gives: the kind of a good message, or the number of the refusal.
-#[derive(Drop)]
+#[derive(Clone, Copy)]
 pub enum Read {
     Good(Kind),
     Refused(u8),
@@ -48,7 +48,7 @@ pub enum Read {
 
 // The fields of a message beside its kind.
 #[repr(C)]
-#[derive(Drop)]
+#[derive(Clone, Copy)]
 pub struct Message {
     pub sender: u8,
     pub receiver: u8,
@@ -60,7 +60,7 @@ pub struct Message {
 }
 
 // Reading's answer, and the fields beside it: all zero where it refuses. The fields stand first, where a copy of them is quick.
-#[derive(Drop)]
+#[derive(Clone, Copy)]
 pub struct Parsed {
     pub message: Message,
     pub answer: Read,
@@ -68,7 +68,7 @@ pub struct Parsed {
 
 // What a kind carries besides a bound: units 1 to `stamps` have a stamp, 1 to `values` a value, and the cost is at most `cost`, or `none` says
 // that it may be NONE.
-#[derive(Drop)]
+#[derive(Clone, Copy)]
 struct Carried {
     stamps: u8,
     values: u8,

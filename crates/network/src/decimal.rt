@@ -7,7 +7,7 @@ ghost use Rattle.runs.specs.Digits.{digits_of};
 use runs::{Count, Text};
 
 // A count divided by ten.
-#[derive(Drop)]
+#[derive(Clone, Copy)]
 struct Divided {
     quotient: Count,
     digit: u8,

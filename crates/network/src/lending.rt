@@ -11,7 +11,7 @@ use runs::Outlook;
 pub(crate) const LENT_SIZE: usize = base::PLACES * base::COSTS_SIZE;
 
 // What all units are lent in a run: where the costs of each place begin, and the next one's; and h of its values.
-#[derive(Drop)]
+#[derive(Clone, Copy)]
 pub(crate) struct Loans {
     pub starts: [usize; 17],
     pub looks: [Outlook; 16],

@@ -26,7 +26,7 @@ use message::{Kind, Message, Read};
 use unit::{Decided, Unit, Way};
 
 // What was heard: the message as it was read, the way that it goes, and how many messages were sent on it.
-#[derive(Drop)]
+#[derive(Clone, Copy)]
 pub(crate) struct Turn {
     pub message: Message,
     pub read: Read,

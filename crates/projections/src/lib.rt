@@ -27,14 +27,14 @@ pub const COSTS_ROOM: usize = 30976;
 
 // What a move gives: the refusal, or 0, and the floor as the move leaves it.
 #[repr(C)]
-#[derive(Drop)]
+#[derive(Clone, Copy)]
 pub struct Moved {
     pub refusal: u8,
     pub floor: u32,
 }
 
 // What a move of a value's row finds first: the refusal, or 0, the place of the value's own cost, and its costs with the other unit.
-#[derive(Drop)]
+#[derive(Clone, Copy)]
 struct Found {
     refusal: u8,
     own: usize,
@@ -42,7 +42,7 @@ struct Found {
 }
 
 // The costs of `count` values: the first stands at `start`, each next one `step` further.
-#[derive(Drop)]
+#[derive(Clone, Copy)]
 struct Run {
     start: usize,
     step: usize,

@@ -15,21 +15,21 @@ const PART: usize = 4096;
 const PARTS: u64 = 4294967296;
 
 // The order that a word names.
-#[derive(Drop)]
+#[derive(Clone, Copy)]
 enum Named {
     Order(ValueOrder),
     Unknown,
 }
 
 // The bytes of a file.
-#[derive(Drop)]
+#[derive(Clone, Copy)]
 enum Measured {
     Bytes(u64),
     Unread,
 }
 
 // Where a replay ended: the refusal, or 0; the units and counts; the cell that was refused.
-#[derive(Drop)]
+#[derive(Clone, Copy)]
 struct Ended {
     refusal: u8,
     core: Core,

@@ -10,7 +10,7 @@ use network::{Core, Count, Network, ValueOrder};
 use search::Found;
 
 // What is printed of a stream: one of the two searches, or a run, values tried in this order, over 01's pool or over 02's.
-#[derive(Drop)]
+#[derive(Clone, Copy)]
 enum Printed {
     Search,
     BranchAndBound,

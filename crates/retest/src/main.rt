@@ -14,7 +14,7 @@ const FULL: u32 = 99999999;
 const NO_NUMBER: u32 = 4294967295;
 
 // A retest as its words say it, all counted from 1: how many words it took, 0 where they are not understood; a pair or not; the numbers.
-#[derive(Drop)]
+#[derive(Clone, Copy)]
 struct Asked {
     words: usize,
     pair: bool,

@@ -11,7 +11,7 @@ pub use text::{write_line, write_name};
 // A row as far as it was read: its phase, what is wrong with it (0: nothing), whether there was a digit behind the name, whether it is still
 // empty; where in the names its own begins, how far bytes were kept there, and how far without blanks at the end; the micron before and
 // behind its point; the number of lots.
-#[derive(Drop)]
+#[derive(Clone, Copy)]
 pub struct Row {
     pub phase: u8,
     pub fault: u8,
@@ -28,7 +28,7 @@ pub struct Row {
 // The row that is being read, or was refused; whether nothing more is read; whether all rows so far were empty; what is wrong with the row
 // (0: nothing), and its number, from 1; how many lines of wool there are, the lengths of their names, which stand one behind the other, their
 // readings in tenths of a micron, two bytes each, and for how many lots.
-#[derive(Drop)]
+#[derive(Clone, Copy)]
 pub struct Sheet {
     pub row: Row,
     pub stopped: bool,

@@ -5,7 +5,7 @@ use message::Message;
 // 01: "A unit's state keeps its threshold stamp, its best bound and lotting, its estimates, its paper, its own counter and
 // whether it has stopped." The paper out is the cpa in stamp, values and cost; the own value 0 means that none is out.
 #[repr(C)]
-#[derive(Drop)]
+#[derive(Clone, Copy)]
 pub struct Unit {
     pub threshold: [u8; 16],
     pub bound: u32,
@@ -19,7 +19,7 @@ pub struct Unit {
 }
 
 // A unit's state without its estimates, which assigning and backtracking clear. A cpa that comes in is worked on as this, as less is copied.
-#[derive(Drop)]
+#[derive(Clone, Copy)]
 pub struct Held {
     pub threshold: [u8; 16],
     pub bound: u32,
@@ -32,7 +32,7 @@ pub struct Held {
 }
 
 // How two stamps compare.
-#[derive(Drop)]
+#[derive(Clone, Copy)]
 pub enum Ordering {
     Less,
     Equal,
@@ -41,7 +41,7 @@ pub enum Ordering {
 
 // What a step sends: nothing; the cpa to the next unit with a request to every later one; the cpa to the unit before, or
 // from unit 1 a stop to all others, and solutions behind it if unit n improved; an estimate.
-#[derive(Drop)]
+#[derive(Clone, Copy)]
 pub enum Plan {
     Nothing,
     Forward,
@@ -51,7 +51,7 @@ pub enum Plan {
 
 // How a message goes where it changes little: the state stays; the same, and an estimate is sent; the threshold becomes the message's
 // stamp, and an estimate is sent; its cost is stored as an estimate; its bound and best are taken. Or `Whole`: what it does is not said.
-#[derive(Drop)]
+#[derive(Clone, Copy)]
 pub enum Way {
     Quiet,
     Reply,
@@ -62,7 +62,7 @@ pub enum Way {
 }
 
 // The fields that the messages of a plan carry, the plan, and whether unit n improved its bound in this step.
-#[derive(Drop)]
+#[derive(Clone, Copy)]
 pub struct Sending {
     pub message: Message,
     pub plan: Plan,
@@ -71,7 +71,7 @@ pub struct Sending {
 
 // What a unit decides: a refusal with the state as lent, or the new state, what is sent and how many records were written. As in
 // `Sending`, what is large stands first, where a copy of it is quick.
-#[derive(Drop)]
+#[derive(Clone, Copy)]
 pub struct Decided {
     pub unit: Unit,
     pub sending: Sending,
@@ -81,7 +81,7 @@ pub struct Decided {
 
 // What making a unit and a step hand back beside the bytes.
 #[repr(C)]
-#[derive(Drop)]
+#[derive(Clone, Copy)]
 pub struct Outcome {
     pub refusal: u8,
     pub unit: Unit,
@@ -91,7 +91,7 @@ pub struct Outcome {
 
 // What a step in place hands back beside the state and the bytes.
 #[repr(C)]
-#[derive(Drop)]
+#[derive(Clone, Copy)]
 pub struct Report {
     pub refusal: u8,
     pub sent: u8,

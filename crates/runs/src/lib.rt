@@ -5,7 +5,7 @@ use rules::Unit;
 
 // A count in two words, the low one first.
 #[repr(C)]
-#[derive(Drop)]
+#[derive(Clone, Copy)]
 pub struct Count {
     pub low: u64,
     pub high: u64,
@@ -13,7 +13,7 @@ pub struct Count {
 
 // A count in decimal digits, as text: the bytes from `start` on.
 #[repr(C)]
-#[derive(Drop)]
+#[derive(Clone, Copy)]
 pub struct Text {
     pub text: [u8; 40],
     pub start: usize,
@@ -21,7 +21,7 @@ pub struct Text {
 
 // The units, and how many records they wrote and deliveries were accepted.
 #[repr(C)]
-#[derive(Drop)]
+#[derive(Clone, Copy)]
 pub struct Core {
     pub units: [Unit; 16],
     pub records: Count,
@@ -30,7 +30,7 @@ pub struct Core {
 
 // The network, and how many cells of its pool are in use.
 #[repr(C)]
-#[derive(Drop)]
+#[derive(Clone, Copy)]
 pub struct Network {
     pub core: Core,
     pub used: u64,
@@ -38,14 +38,14 @@ pub struct Network {
 
 // What making and a delivery give beside the pool's bytes.
 #[repr(C)]
-#[derive(Drop)]
+#[derive(Clone, Copy)]
 pub struct Answer {
     pub refusal: u8,
     pub network: Network,
 }
 
 // What is known of a unit's values for a whole run: h of each as a number.
-#[derive(Drop)]
+#[derive(Clone, Copy)]
 pub struct Outlook {
     pub ahead: [u32; 16],
 }

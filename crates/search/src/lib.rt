@@ -13,7 +13,7 @@ use costs::Cost;
 
 // What a search gives: the refusal, or 0 with the least total and its first assignment, places past n zero; where there is none, NONE and zeros.
 #[repr(C)]
-#[derive(Drop)]
+#[derive(Clone, Copy)]
 pub struct Found {
     pub refusal: u8,
     pub total: u32,
@@ -21,7 +21,7 @@ pub struct Found {
 }
 
 // The best assignment so far. The values stand first, so that they are copied in one piece.
-#[derive(Drop)]
+#[derive(Clone, Copy)]
 struct Best {
     values: [u8; 16],
     total: u32,

@@ -9,7 +9,7 @@ pub use place::{pair_at, unary_at};
 
 // How far the least total may go: the refusal, or 0 with the lowest and the highest that it can become; NONE for both where there is none.
 #[repr(C)]
-#[derive(Drop)]
+#[derive(Clone, Copy)]
 pub struct Range {
     pub refusal: u8,
     pub lower: u32,

@@ -6,7 +6,7 @@ use libc::STDOUT_FILENO;
 use network::{Core, Count, Network};
 
 // What the network is run over.
-#[derive(Drop)]
+#[derive(Clone, Copy)]
 enum Pool {
     Messages,
     Slots,

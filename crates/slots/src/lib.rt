@@ -25,14 +25,14 @@ pub const SLOT_POOL_SIZE: usize = 19200;
 
 // What making, a delivery and a replay give beside the pool's bytes.
 #[repr(C)]
-#[derive(Drop)]
+#[derive(Clone, Copy)]
 pub struct Answer {
     pub refusal: u8,
     pub core: Core,
 }
 
 // Which of two messages is handed back; or neither, and the refusal.
-#[derive(Drop)]
+#[derive(Clone, Copy)]
 enum Choice {
     First,
     Second,

@@ -14,7 +14,7 @@ const MOST_BLOCKS: u16 = 123;
 
 // What the next byte of the stream is: the first of all; n of a table of form two; a size; the low or the high byte of a cost; none, as the
 // stream is whole; none, and yet there were more; or any, as n or a size is refused by 5.
-#[derive(Drop)]
+#[derive(Clone, Copy)]
 pub enum Stage {
     Opening,
     Units,
@@ -30,7 +30,7 @@ pub enum Stage {
 // Costs come in runs, those of one unit with another; `row` and `unit` are the numbers of the two, and row 0 stands before all units, for a
 // unit's costs alone. Until then `row` is the first row of the table, 0 in form two and 1 in form one, and `unit` counts the sizes that are in.
 // `left` costs of the run are to come; the low byte of the first of them may be in. `refusal` is 7 once a cost was refused by it.
-#[derive(Drop)]
+#[derive(Clone, Copy)]
 pub struct Reader {
     pub stage: Stage,
     pub n: u8,
@@ -43,7 +43,7 @@ pub struct Reader {
 }
 
 // How far a box has come with its table: its own number, how many blocks are in, how many bytes of costs were gathered, and how far the stream is.
-#[derive(Drop)]
+#[derive(Clone, Copy)]
 pub struct Start {
     pub own: u8,
     pub blocks: u16,
@@ -52,7 +52,7 @@ pub struct Start {
 }
 
 // What a block gives: the refusal, or 0 and, with the last one, how many bytes of costs there are; and how far the box is then.
-#[derive(Drop)]
+#[derive(Clone, Copy)]
 pub struct Started {
     pub refusal: u8,
     pub length: usize,

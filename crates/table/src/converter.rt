@@ -17,7 +17,7 @@ use base::{BLOCK_SIZE, FORM_TWO, Length, PAYLOAD_SIZE, STREAM_SIZE};
 
 // How the stream of the result is made of the file's: `front` bytes 200, `head` bytes from byte `from` on, zeros, and all from byte `rest` on.
 // What stands between head and rest is left out: the unary costs, on the way to form one.
-#[derive(Drop)]
+#[derive(Clone, Copy)]
 struct Pieces {
     front: usize,
     from: usize,
@@ -27,7 +27,7 @@ struct Pieces {
 }
 
 // How many units there are, and how many values they have together.
-#[derive(Drop)]
+#[derive(Clone, Copy)]
 struct Shape {
     n: usize,
     values: usize,

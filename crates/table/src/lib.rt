@@ -23,7 +23,7 @@ use base::{
 pub use converter::convert;
 
 // The two forms of a stored table. 02, job 7: form two "opens with byte 200", and has unary costs.
-#[derive(Drop)]
+#[derive(Clone, Copy)]
 pub enum Form {
     One,
     Two,
