@@ -2,6 +2,7 @@
 """Brings the names of this repository's own definitions and lemmas to today's spelling, once, after port.py.
 
 usage: python3 tools/respell.py [--dry]      at the top of the repository
+       python3 tools/respell.py --again      turns imports that an earlier run left, by tools/respelled.tsv
 
 A name of a value or a lemma gets words in snake case: `shapeGood` is `shape_good`, `every-at` is `every_at`. A dash stays where it joins
 two names of definitions. Types, modules and the code's own names stay. A name is turned in the file that defines it and where it is
@@ -94,6 +95,12 @@ def told_apart(new, defined, nouns, texts, own):
     return parts
 
 
+def in_use(piece, at):
+    """Whether a place stands in the braces of a `use`, where an item may have its module before it, as `Limits.block_size`."""
+    start = max((m.end() for m in re.finditer(r"use\s+[^\s;{}]+?\.\{", piece[:at])), default=-1)
+    return start >= 0 and "}" not in piece[start:at]
+
+
 def fields_of(text):
     """The fields of a file's records: what is defined in a record's block, one step further in than its head."""
     out, deep = set(), None
@@ -116,7 +123,8 @@ def imported(text, own):
     for m in USE.finditer(text):
         inside = ".".join(m.group(1).split(".")[:2]) in own
         for item in m.group(2).split(","):
-            (mine if inside else theirs).update(item.split())
+            for word in item.split():
+                (mine if inside else theirs).add(word.split(".")[-1])
     return mine, theirs
 
 
@@ -126,6 +134,7 @@ def turns(name):
 
 def main(argv):
     dry = "--dry" in argv
+    again = "--again" in argv
     own = {f"Rattle.{c}" for c in crates()} | {f"Rattle.{c}" for c in os.listdir("crates")}
     defined, nouns = collections.defaultdict(list), set()
     texts = {}
@@ -153,7 +162,10 @@ def main(argv):
             to = respelled(name, nouns)
             if to != name:
                 new[name] = to
-    parts = told_apart(new, defined, nouns, texts, own)
+    parts = collections.defaultdict(dict) if again else told_apart(new, defined, nouns, texts, own)
+    if again:
+        with open("tools/respelled.tsv", encoding="utf-8") as f:
+            new = dict(line.rstrip("\n").split("\t") for line in f)
     members = {n for path, text in texts.items() if path.endswith(".antt") for n in fields_of(text)}
     told = 0
     for path, text in sorted(texts.items()):
@@ -170,6 +182,8 @@ def main(argv):
             def one(m):
                 w = m.group(0)
                 before = piece[m.start() - 1] if m.start() else " "
+                if before == "." and in_use(piece, m.start()):
+                    return here.get(w, w)
                 if before == ".":
                     head = re.search(IDENT + r"\.$", piece[: m.start()])
                     if head and head.group(0)[:-1] in aliases:
@@ -198,6 +212,8 @@ def main(argv):
         if turned != text and not dry:
             with open(path, "w", encoding="utf-8") as f:
                 f.write(turned)
+    if again:
+        return
     with open("tools/respelled.tsv", "w", encoding="utf-8") as f:
         f.writelines(f"{a}\t{b}\n" for a, b in sorted(new.items()))
     print(f"{len(new)} names, {told} told")

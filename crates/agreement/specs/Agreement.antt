@@ -1,11 +1,11 @@
 -- Whether shed and bench total the same of a table, and of how many tiny tables. Document 02, job 13: "Each goes through shed, full search and branch
 -- and bound, and the three totals agree; a program prints how many did". That all do is in All. Assumes nothing.
 use Rattle.base.specs.Library.{ℕ, Bool, cond, ◌&&◌, List, eqb, replicate}
-use Rattle.base.specs.{Limits.poolSize, Sums.sum_to}
+use Rattle.base.specs.{Limits.pool_size, Sums.sum_to}
 use Rattle.costs.specs.declared.ValueOrder.{ValueOrder}
-use Rattle.search.specs.{declared.Found.Found, Search.searchOf, Search.branchAndBoundOf}
+use Rattle.search.specs.{declared.Found.Found, Search.search_of, Search.branch_and_bound_of}
 use Rattle.rules.specs.Units.{unit_at}
-use Rattle.runs.specs.{declared.Core.Core, Settle.settleOf}
+use Rattle.runs.specs.{declared.Core.Core, Settle.settle_of}
 use Rattle.slots.specs.Slot.{slot_pool_size}
 use Rattle.slots.specs.Settle as S
 use Rattle.tiny.specs.Tiny.{tables_of, tiny_stream}
@@ -20,7 +20,7 @@ first_total refusal core = record { refusal = refusal; total = (unit_at core.uni
 
 -- of a shed, what box 1 holds at the end of the run, in a pool of zeros
 unfoldable pub messages_total : ValueOrder → List ℕ → Total
-messages_total order s = let r = (settleOf order s (replicate poolSize 0)).answer in first_total r.refusal r.network.core
+messages_total order s = let r = (settle_of order s (replicate pool_size 0)).answer in first_total r.refusal r.network.core
 
 unfoldable pub slots_total : ValueOrder → List ℕ → Total
 slots_total order s = let r = (S.settle_of order s (replicate slot_pool_size 0)).answer in first_total r.refusal r.core
@@ -42,8 +42,8 @@ same_total a b = eqb a.refusal 0 && (eqb b.refusal 0 && eqb a.total b.total)
 -- 02: "the three totals agree"
 unfoldable pub agree_of : Pool → ValueOrder → List ℕ → Bool
 agree_of pool order s =
-    let full = found_total (searchOf s) in
-    same_total (shed_total pool order s) full && same_total full (found_total (branchAndBoundOf s))
+    let full = found_total (search_of s) in
+    same_total (shed_total pool order s) full && same_total full (found_total (branch_and_bound_of s))
 
 -- 02: "how many did"
 unfoldable pub agreeing_of : Pool → ValueOrder → ℕ → ℕ

@@ -7,16 +7,16 @@
 use Rattle.base.specs.Library.{ℕ, zero, suc, pred, List, [], ◌∷◌, ◌++◌, map, get_or, set, take, drop, replicate}
 use Rattle.base.specs.Limits.{sending_size}
 use Rattle.table.specs.Stream.{units_of}
-use Rattle.costs.specs.{declared.ValueOrder.ValueOrder, Gather.sizesIn, Gathered.gathered}
-use Rattle.rules.specs.{declared.Unit.Unit, State.noUnit, Step.Decision, Step.refused, Step.accepted, Step.Written, Send.packets, Send.packetBytes, Calls.makeOut, Calls.stepOut, Units.unit_at}
+use Rattle.costs.specs.{declared.ValueOrder.ValueOrder, Gather.sizes_in, Gathered.gathered}
+use Rattle.rules.specs.{declared.Unit.Unit, State.no_unit, Step.Decision, Step.refused, Step.accepted, Step.Written, Send.packets, Send.packet_bytes, Calls.make_out, Calls.step_out, Units.unit_at}
 
 -- ---- the calls of the box at place k, 01's unit k + 1, of the table s. It is lent n, the sizes and the costs that touch it, as `costs::gather` gives them.
 
 abbrev pub make_box : ValueOrder → List ℕ → ℕ → Decision
-make_box order s k = makeOut order (suc k) (units_of s) (sizesIn s) (gathered s (suc k)) sending_size
+make_box order s k = make_out order (suc k) (units_of s) (sizes_in s) (gathered s (suc k)) sending_size
 
 abbrev pub step_box : ValueOrder → List ℕ → ℕ → Unit → List ℕ → Decision
-step_box order s k u bytes = stepOut order u (suc k) (units_of s) (sizesIn s) (gathered s (suc k)) bytes sending_size
+step_box order s k u bytes = step_out order u (suc k) (units_of s) (sizes_in s) (gathered s (suc k)) bytes sending_size
 
 -- the number that a call gives
 abbrev pub number_of : Decision → ℕ
@@ -35,13 +35,13 @@ pub record Boxes : Type 0 where
 -- a refusal changes nothing.
 abbrev pub boxes_after : ℕ → Boxes → ℕ → List (List ℕ) → ℕ → Decision → Boxes
 boxes_after n B k rest count (refused r) = B
-boxes_after n B k rest count (accepted u o ws) = record { units = set B.units k u; air = rest ++ map packetBytes (packets n k o); written = B.written ++ ws; accepted = count }
+boxes_after n B k rest count (accepted u o ws) = record { units = set B.units k u; air = rest ++ map packet_bytes (packets n k o); written = B.written ++ ws; accepted = count }
 
 -- ---- making
 
 -- the first k boxes made
 unfoldable pub made_to : ValueOrder → List ℕ → ℕ → Boxes
-made_to order s zero = record { units = replicate 16 noUnit; air = []; written = []; accepted = 0 }
+made_to order s zero = record { units = replicate 16 no_unit; air = []; written = []; accepted = 0 }
 made_to order s (suc k) = boxes_after (units_of s) (made_to order s k) k (made_to order s k).air 0 (make_box order s k)
 
 abbrev pub all_made : ValueOrder → List ℕ → Boxes

@@ -7,7 +7,7 @@
 use Rattle.base.specs.Library.{ℕ, suc, ◌+◌, ◌*◌, ◌-◌, ◌≤◌, ◌<◌, ◌≡◌, ◌⊎◌, Bool, true, false, cond, List, eqb}
 use Rattle.base.specs.{Every.every, Members.In, Sums.sum_to}
 use Rattle.table.specs.Stream.{units_of}
-use Rattle.costs.specs.{declared.ValueOrder.ValueOrder, Instance.Instance, Instance.instanceOf, Bounds.prefixCount, Least.LeastFirst, Least.Padded}
+use Rattle.costs.specs.{declared.ValueOrder.ValueOrder, Instance.Instance, Instance.instance_of, Bounds.prefix_count, Least.LeastFirst, Least.Padded}
 use Rattle.rules.specs.Units.{unit_at, Distinct}
 use Rattle.boxes.specs.Boxes.{make_box, number_of, Boxes, answer_to, receiver_in, boxes}
 
@@ -26,7 +26,7 @@ most_after n k = cond (eqb (suc (suc k)) n) (n + 3) (2 * (n - k))
 
 -- those of all prefixes, and n - 1 stops. No more than 01's (3n - 1) × N, and n - 1: `most-accepted` in Theorem.antt
 abbrev pub most_accepted : Instance → ℕ
-most_accepted I = sum_to (λ k. most_after I.n k * prefixCount I.dom (suc k)) (I.n - 1) + (I.n - 1)
+most_accepted I = sum_to (λ k. most_after I.n k * prefix_count I.dom (suc k)) (I.n - 1) + (I.n - 1)
 
 -- ---- what holds after every list of events
 
@@ -36,8 +36,8 @@ pub record Promised (order : ValueOrder) (s : List ℕ) (events : List ℕ) : Ty
   -- no prefix is written twice. 01: "beginning"
   pub distinct : Distinct (boxes order s events).written
   -- so many packets are accepted at most, and with that many every box has stopped
-  pub bounded : (boxes order s events).accepted ≤ most_accepted (instanceOf s)
-  pub ends : (boxes order s events).accepted ≡ most_accepted (instanceOf s) → all_stopped (units_of s) (boxes order s events) ≡ true
+  pub bounded : (boxes order s events).accepted ≤ most_accepted (instance_of s)
+  pub ends : (boxes order s events).accepted ≡ most_accepted (instance_of s) → all_stopped (units_of s) (boxes order s events) ≡ true
   -- no box refuses a packet of another but by its own 12, once it has stopped
   pub honest : (bytes : List ℕ) → In bytes (boxes order s events).air
       → (number_of (answer_to order s (boxes order s events) bytes) ≡ 0)
@@ -46,5 +46,5 @@ pub record Promised (order : ValueOrder) (s : List ℕ) (events : List ℕ) : Ty
   pub waits : all_stopped (units_of s) (boxes order s events) ≡ false → (bytes : List ℕ) × In bytes (boxes order s events).air × (number_of (answer_to order s (boxes order s events) bytes) ≡ 0)
   -- EVERY BOX THAT HAS STOPPED holds the least total, and of the assignments with that total the first in the order tried; or none, with best all zero
   pub lotting : (k : ℕ) → k < units_of s → stopped_at (boxes order s events) k ≡ true
-      → LeastFirst order (instanceOf s) (unit_at (boxes order s events).units k).bound (unit_at (boxes order s events).units k).best
+      → LeastFirst order (instance_of s) (unit_at (boxes order s events).units k).bound (unit_at (boxes order s events).units k).best
       × Padded (units_of s) (unit_at (boxes order s events).units k).best

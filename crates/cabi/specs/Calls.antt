@@ -4,12 +4,12 @@
 use Rattle.base.specs.Library.{ℕ, pred, cond, not, List, eqb, length}
 use Rattle.base.specs.Shape.{shape_good}
 use Rattle.costs.specs.{declared.ValueOrder.ValueOrder, declared.ValueOrder.TheVariants.Ascending, declared.ValueOrder.TheVariants.CheapestFirst}
-use Rattle.message.specs.{declared.Message.Message, declared.Parsed.Parsed as Reading, declared.Read.Read, Decode.writeRefusal, Decode.packetInto}
+use Rattle.message.specs.{declared.Message.Message, declared.Parsed.Parsed as Reading, declared.Read.Read, Decode.write_refusal, Decode.packet_into}
 use Rattle.message.specs.declared.Read.TheVariants.{Good, Refused}
 use Rattle.message.specs.Message.{kind_code, refusal_of, address_good}
-use Rattle.rules.specs.{declared.Report.Report, Calls.outcomeOf, Calls.bytes_of, Calls.stepOut}
+use Rattle.rules.specs.{declared.Report.Report, Calls.outcome_of, Calls.bytes_of, Calls.step_out}
 use Rattle.runs.specs.Calls.{deliver_of, echo_of}
-use Rattle.slots.specs.{Slot.slotCells, Slot.slotOrNone, Calls.deliverOf as slotsDeliverOf, Replay.replayOf}
+use Rattle.slots.specs.{Slot.slot_cells, Slot.slot_or_none, Calls.deliver_of as slotsDeliverOf, Replay.replay_of}
 use Rattle.cabi.specs.{declared.LentAnswer.LentAnswer, declared.LentCore.LentCore, declared.LentNetwork.LentNetwork, declared.LentOutcome.LentOutcome, declared.LentSlotsAnswer.LentSlotsAnswer, declared.LentUnit.LentUnit, declared.Parsed.Parsed}
 use Rattle.cabi.specs.Lent.{unit_from, outcome_back, core_from, network_from, answer_back, slots_back}
 pub mod Laws
@@ -36,25 +36,25 @@ order_of code = cond (eqb code 0) Ascending CheapestFirst
 
 -- the cell of a message whose kind is read from its number, or 300, past every cell, where no kind has it
 unfoldable pub slot_as : Read → ℕ → ℕ → ℕ → ℕ
-slot_as (Good k) n sender receiver = slotOrNone n k sender receiver
-slot_as (Refused r) n sender receiver = slotCells
+slot_as (Good k) n sender receiver = slot_or_none n k sender receiver
+slot_as (Refused r) n sender receiver = slot_cells
 
 -- writing a message whose kind is read from its number: the refusal, and what is left in the lent output
 unfoldable pub write_as : Read → ℕ → List ℕ → Message → ℕ → ℕ
-write_as (Good k) n sizes m room = writeRefusal n sizes k m room
+write_as (Good k) n sizes m room = write_refusal n sizes k m room
 write_as (Refused r) n sizes m room = unknown_kind n sizes m
 
 unfoldable pub written_as : Read → ℕ → List ℕ → Message → List ℕ → List ℕ
-written_as (Good k) n sizes m out = packetInto n sizes k m out
+written_as (Good k) n sizes m out = packet_into n sizes k m out
 written_as (Refused r) n sizes m out = out
 
 -- ---- a step on a lent state: unit's, on the state that is read
 
 unfoldable pub step_of : ValueOrder → LentUnit → ℕ → ℕ → List ℕ → List ℕ → List ℕ → ℕ → LentOutcome
-step_of order s own n sizes costs packet room = outcome_back s (outcomeOf n (pred own) (unit_from s) (stepOut order (unit_from s) own n sizes costs packet room))
+step_of order s own n sizes costs packet room = outcome_back s (outcome_of n (pred own) (unit_from s) (step_out order (unit_from s) own n sizes costs packet room))
 
 unfoldable pub stepped_bytes : ValueOrder → LentUnit → ℕ → ℕ → List ℕ → List ℕ → List ℕ → List ℕ → List ℕ
-stepped_bytes order s own n sizes costs packet out = bytes_of n (pred own) out (stepOut order (unit_from s) own n sizes costs packet (length out))
+stepped_bytes order s own n sizes costs packet out = bytes_of n (pred own) out (step_out order (unit_from s) own n sizes costs packet (length out))
 
 -- its numbers, which a step in place hands back
 abbrev pub report_by : LentOutcome → Report
@@ -83,7 +83,7 @@ unfoldable pub slots_delivered_pool : ValueOrder → LentCore → List ℕ → L
 slots_delivered_pool order s stream pool cell = (slotsDeliverOf order (core_from s) stream pool cell).pool
 
 unfoldable pub replayed_to : ValueOrder → LentCore → List ℕ → List ℕ → List ℕ → LentSlotsAnswer
-replayed_to order s stream pool list = slots_back s (replayOf order (core_from s) stream pool list).answer
+replayed_to order s stream pool list = slots_back s (replay_of order (core_from s) stream pool list).answer
 
 unfoldable pub replayed_pool : ValueOrder → LentCore → List ℕ → List ℕ → List ℕ → List ℕ
-replayed_pool order s stream pool list = (replayOf order (core_from s) stream pool list).pool
+replayed_pool order s stream pool list = (replay_of order (core_from s) stream pool list).pool

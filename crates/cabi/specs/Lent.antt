@@ -6,7 +6,7 @@
 --     slots_back                     what stands there after a delivery over 02's pool, which has only units and counts beside it
 -- Lent/Laws shows that such a state is out of range, and that what a call leaves alone comes back as lent. Assumes nothing.
 use Rattle.base.specs.Library.{ℕ, zero, suc, Bool, cond, List, [], ◌∷◌, ◌++◌, leb, eqb, get_or, replicate}
-use Rattle.rules.specs.{declared.Unit.Unit, declared.Outcome.Outcome, State.unit, State.emptyUnit}
+use Rattle.rules.specs.{declared.Unit.Unit, declared.Outcome.Outcome, State.unit, State.empty_unit}
 use Rattle.runs.specs.{declared.Core.Core, declared.Network.Network, declared.Answer.Answer}
 use Rattle.slots.specs.{declared.Answer.Answer as SlotsAnswer}
 use Rattle.cabi.specs.{declared.LentUnit.LentUnit, declared.LentOutcome.LentOutcome, declared.LentCore.LentCore, declared.LentNetwork.LentNetwork, declared.LentAnswer.LentAnswer, declared.LentSlotsAnswer.LentSlotsAnswer}
@@ -53,7 +53,7 @@ abbrev pub units_from : List LentUnit → List Unit
 units_from ss = up_to 16 (λ (k : ℕ). unit_from (get_or ss k empty_lent))
 
 abbrev pub units_back : List LentUnit → List Unit → List LentUnit
-units_back ss us = up_to 16 (λ (k : ℕ). unit_back (get_or ss k empty_lent) (get_or us k emptyUnit))
+units_back ss us = up_to 16 (λ (k : ℕ). unit_back (get_or ss k empty_lent) (get_or us k empty_unit))
 
 abbrev pub core_from : LentCore → Core
 core_from s = record { units = units_from s.units; records = s.records; deliveries = s.deliveries }

@@ -2,7 +2,7 @@
 -- each pair in the stream's order". Nobody has to believe it: that the unit sees in them what the stream says is `gathered-view` of Gather/Laws.
 -- Assumes nothing.
 use Rattle.base.specs.Library.{ℕ, ◌+◌, ◌*◌, pred, cond, List, [], ◌++◌, ltb, eqb, take, drop, replicate}
-use Rattle.base.specs.{Join.joinTo, Sums.sum_to}
+use Rattle.base.specs.{Join.join_to, Sums.sum_to}
 use Rattle.table.specs.Stream.{in_form_two, units_of, unaries_at, pairs_at}
 use Rattle.costs.specs.Instance.{dom_of, pair_start}
 
@@ -20,7 +20,7 @@ with_other s k j = cond (eqb j k) [] (cond (ltb j k) (pair_bytes s j k) (pair_by
 
 -- those of place k, alone and with the first m places
 abbrev pub gather_to : List ℕ → ℕ → ℕ → List ℕ
-gather_to s k m = unary_bytes s k ++ joinTo (with_other s k) m
+gather_to s k m = unary_bytes s k ++ join_to (with_other s k) m
 
 -- the bytes of the costs that touch unit `own`, 1 to n
 unfoldable pub gathered : List ℕ → ℕ → List ℕ

@@ -1,7 +1,7 @@
 -- The instance that a table describes, what one unit sees of it, and where the bytes of a cost stand.
 -- Units count from 0 here: place k is document 01's unit k + 1. Values count from 1, as in document 01. Assumes nothing.
 use Rattle.base.specs.Library.{ℕ, suc, ◌+◌, ◌*◌, ◌-◌, pred, cond, not, ◌&&◌, List, ltb, leb, eqb, length, get_or, take, drop}
-use Rattle.base.specs.{Bytes.u16At, Shape.is_value, Sums.sumFrom, Sums.sum_to}
+use Rattle.base.specs.{Bytes.u16_at, Shape.is_value, Sums.sum_from, Sums.sum_to}
 use Rattle.table.specs.Stream.{in_form_two, units_of, after_units, unaries_at, pairs_at}
 use Rattle.costs.specs.Cost.{Cost, Of, Forbidden, sum_from as sumCosts, least, pair_cost}
 use Rattle.costs.specs.{declared.Seat.Seat, declared.ValueOrder.ValueOrder, declared.ValueOrder.TheVariants.Ascending}
@@ -61,7 +61,7 @@ in_pair d u v = (u - 1) * d + (v - 1)
 
 -- the 16-bit cost number k of a list of costs
 abbrev pub cost_number : List ℕ → ℕ → ℕ
-cost_number costs k = u16At costs (2 * k)
+cost_number costs k = u16_at costs (2 * k)
 
 -- A unary cost of a table, from all its unary costs, 02: "unit by unit"; 0 where there is no such value.
 abbrev pub table_unary : (ℕ → ℕ) → List ℕ → ℕ → ℕ → ℕ

@@ -2,7 +2,7 @@
 -- 16-bit numbers, by the value of the lower unit, then of the higher." Nobody has to believe it: Streamed/Laws shows that it is accepted, and
 -- that its instance is the one it was made of. Assumes nothing.
 use Rattle.base.specs.Library.{ℕ, suc, ◌+◌, ◌-◌, List, [], ◌∷◌, ◌++◌}
-use Rattle.base.specs.{Bytes.le16, Join.joinTo, Limits.forbiddenPair}
+use Rattle.base.specs.{Bytes.le16, Join.join_to, Limits.forbidden_pair}
 use Rattle.costs.specs.Cost.{Cost, Of, Forbidden}
 use Rattle.costs.specs.Instance.{Instance}
 pub mod Laws
@@ -10,22 +10,22 @@ pub mod Laws
 -- the number that a cost stands in a table as
 abbrev pub pair_number : Cost → ℕ
 pair_number (Of x) = x
-pair_number Forbidden = forbiddenPair
+pair_number Forbidden = forbidden_pair
 
 -- the costs of value u + 1 of unit i with each value of unit j
 abbrev pub row_costs : Instance → ℕ → ℕ → ℕ → List ℕ
-row_costs I i j u = joinTo (λ v. le16 (pair_number (I.cost i (suc u) j (suc v)))) (I.dom j)
+row_costs I i j u = join_to (λ v. le16 (pair_number (I.cost i (suc u) j (suc v)))) (I.dom j)
 
 -- of every value of unit i
 abbrev pub pair_costs : Instance → ℕ → ℕ → List ℕ
-pair_costs I i j = joinTo (row_costs I i j) (I.dom i)
+pair_costs I i j = join_to (row_costs I i j) (I.dom i)
 
 -- of unit i with every later unit
 abbrev pub later_costs : Instance → ℕ → List ℕ
-later_costs I i = joinTo (λ k. pair_costs I i (suc i + k)) (I.n - suc i)
+later_costs I i = join_to (λ k. pair_costs I i (suc i + k)) (I.n - suc i)
 
 abbrev pub sizes_for : Instance → List ℕ
-sizes_for I = joinTo (λ k. I.dom k ∷ []) I.n
+sizes_for I = join_to (λ k. I.dom k ∷ []) I.n
 
 unfoldable pub stream_for : Instance → List ℕ
-stream_for I = I.n ∷ (sizes_for I ++ joinTo (later_costs I) I.n)
+stream_for I = I.n ∷ (sizes_for I ++ join_to (later_costs I) I.n)

@@ -1,7 +1,7 @@
 -- A message read from bytes and written into a lent buffer, with the refusals in 01's order. Document 01, 'Refusals':
 -- "Reading a message: 5, 8, 10, 9. Writing one: 5, 10, 9, 13." Assumes nothing.
 use Rattle.base.specs.Library.{ℕ, ◌+◌, Bool, cond, not, ◌&&◌, List, leb, eqb, length, take, drop, get_or}
-use Rattle.base.specs.{Bytes.u16At, Bytes.u32_at, Limits.places, Limits.messageSize, Put.put_at, Shape.shapeGood}
+use Rattle.base.specs.{Bytes.u16_at, Bytes.u32_at, Limits.places, Limits.message_size, Put.put_at, Shape.shape_good}
 use Rattle.checksum.specs.Sum.{sum_of}
 use Rattle.message.specs.{declared.Kind.Kind, declared.Read.Read, declared.Read.TheVariants.Good, declared.Read.TheVariants.Refused, declared.Message.Message, declared.Parsed.Parsed, Written.encode}
 use Rattle.message.specs.Layout.{stamp_byte, values_byte, cost_byte, bound_byte, best_byte, zero_byte, check_byte}
@@ -21,11 +21,11 @@ message_in s = record {
 
 -- 01, refusal 8: "message not 64 bytes, or check wrong"
 unfoldable pub check_good : List ℕ → Bool
-check_good s = eqb (length s) messageSize && eqb (u16At s check_byte) (sum_of (take check_byte s))
+check_good s = eqb (length s) message_size && eqb (u16_at s check_byte) (sum_of (take check_byte s))
 
 -- 01: "3 zero", "60-61 zero"
 unfoldable pub rest_zero : List ℕ → Bool
-rest_zero s = eqb (get_or s 3 0) 0 && eqb (u16At s zero_byte) 0
+rest_zero s = eqb (get_or s 3 0) 0 && eqb (u16_at s zero_byte) 0
 
 -- the answer with a refusal: every field beside the number is zero
 abbrev pub refused : ℕ → Parsed
@@ -39,7 +39,7 @@ parse_kind n sizes s m (Refused r) = refused r
 -- 01: "5, 8, 10, 9", read by unit own; 10: "sender or receiver not 1 to n; in a step, message for another unit"
 unfoldable pub parse_for : ℕ → List ℕ → ℕ → List ℕ → Parsed
 parse_for n sizes own s =
-    cond (not (shapeGood n sizes)) (refused 5)
+    cond (not (shape_good n sizes)) (refused 5)
     (cond (not (check_good s)) (refused 8)
     (cond (not (address_good n (message_in s) && eqb (message_in s).receiver own)) (refused 10)
     (parse_kind n sizes s (message_in s) (kind_of (get_or s 0 0)))))
@@ -50,16 +50,16 @@ parse_of n sizes s = parse_for n sizes (get_or s 2 0) s
 
 -- 01, refusal 13: "lent output too short: .. 64 for a message", from `at` on in `room` bytes; 0 where they fit
 unfoldable pub put_refusal : ℕ → ℕ → ℕ
-put_refusal room at = cond (leb (at + messageSize) room) 0 13
+put_refusal room at = cond (leb (at + message_size) room) 0 13
 
 -- what putting leaves in the lent buffer: the 64 bytes from `at` on where they fit, else all as it was
 unfoldable pub put_into : Kind → Message → List ℕ → ℕ → List ℕ
-put_into k m l at = cond (leb (at + messageSize) (length l)) (put_at l at (encode k m)) l
+put_into k m l at = cond (leb (at + message_size) (length l)) (put_at l at (encode k m)) l
 
 -- 01: "5, 10, 9, 13", the last for a lent output of `room` bytes; 0 where the message is written
 unfoldable pub write_refusal : ℕ → List ℕ → Kind → Message → ℕ → ℕ
 write_refusal n sizes k m room =
-    cond (not (shapeGood n sizes)) 5
+    cond (not (shape_good n sizes)) 5
     (cond (not (address_good n m)) 10
     (cond (not (well_formed n sizes k m)) 9
     (put_refusal room 0)))

@@ -6,7 +6,7 @@
 --     carried_of, cost_fits, bound_fits, direction_good     what each kind carries, from whom to whom
 --     address_good, well_formed           01's checks 10 and 9 on the fields
 use Rattle.base.specs.Library.{ℕ, ◌+◌, ◌-◌, Bool, true, false, cond, not, ◌&&◌, ◌||◌, List, ltb, leb, eqb, get_or, replicate}
-use Rattle.base.specs.{Limits.places, Limits.totalLimit, Limits.estimateLimit, Limits.prefixLimit, Limits.NONE, Shape.is_value, Every.every}
+use Rattle.base.specs.{Limits.places, Limits.total_limit, Limits.estimate_limit, Limits.prefix_limit, Limits.NONE, Shape.is_value, Every.every}
 use Rattle.message.specs.{declared.Kind.Kind, declared.Read.Read, declared.Read.TheVariants.Good, declared.Read.TheVariants.Refused, declared.Message.Message, declared.Carried.Carried}
 use Rattle.message.specs.declared.Kind.TheVariants.{Cpa, Request, Estimate, Solution, Stop}
 
@@ -46,7 +46,7 @@ filled_to k sizes l = every (place_at k sizes l) places
 
 -- 01: "A bound is at most" the limit "with best filled for all n and zero after"; 02, job 7: "The limit on bounds and totals .. becomes 8,160,000"
 unfoldable pub bound_good : ℕ → List ℕ → ℕ → List ℕ → Bool
-bound_good n sizes bound best = leb bound totalLimit && filled_to n sizes best
+bound_good n sizes bound best = leb bound total_limit && filled_to n sizes best
 
 -- 01: "or, on papers and stops only, none with best all zero"
 unfoldable pub none_or_bound : ℕ → List ℕ → ℕ → List ℕ → Bool
@@ -58,7 +58,7 @@ no_bound sizes bound best = eqb bound 0 && filled_to 0 sizes best
 
 -- units 1 to k filled, in stamp and values, at the cost that they can have
 abbrev pub prefix_of : ℕ → Carried
-prefix_of k = record { stamps = k; values = k; cost = prefixLimit k; none = false }
+prefix_of k = record { stamps = k; values = k; cost = prefix_limit k; none = false }
 
 -- what a kind carries besides a bound. 01: paper: "units 1 to receiver - 1, or 1 to receiver going back, are filled"; copy: "units 1 to
 -- sender filled"; estimate: "stamp filled for units 1 to receiver, cost is
@@ -67,7 +67,7 @@ prefix_of k = record { stamps = k; values = k; cost = prefixLimit k; none = fals
 abbrev pub carried_of : Kind → Message → Carried
 carried_of Cpa m = prefix_of (cond (ltb m.sender m.receiver) (m.receiver - 1) m.receiver)
 carried_of Request m = prefix_of m.sender
-carried_of Estimate m = record { stamps = m.receiver; values = 0; cost = estimateLimit; none = true }
+carried_of Estimate m = record { stamps = m.receiver; values = 0; cost = estimate_limit; none = true }
 carried_of Solution m = prefix_of 0
 carried_of Stop m = prefix_of 0
 

@@ -1,7 +1,7 @@
 -- The costs held of a table, from its stream. Document 02, job 8: "own costs before pair costs in form two's order, 4,294,967,295 as barred"; "the floor
 -- starts at 0". That an assignment's total by them is the table's is in Made/Laws. Assumes nothing.
 use Rattle.base.specs.Library.{ℕ, cond, List, [], ◌∷◌, ◌++◌, ltb, eqb, length}
-use Rattle.base.specs.{declared.Length.Length, Join.joinTo, Refusal.or_else, Sums.sum_to}
+use Rattle.base.specs.{declared.Length.Length, Join.join_to, Refusal.or_else, Sums.sum_to}
 use Rattle.table.specs.Stream.{in_form_two, units_of, stream_refusal}
 use Rattle.table.specs.File.{answer, leaves}
 use Rattle.costs.specs.Cost.{pair_cost, as_number}
@@ -17,7 +17,7 @@ pub mod Steps
 
 -- f 0, f 1, .., m of them
 abbrev pub numbers : (ℕ → ℕ) → ℕ → List ℕ
-numbers f m = joinTo (λ k. f k ∷ []) m
+numbers f m = join_to (λ k. f k ∷ []) m
 
 -- own cost number k. "Old files read as own costs all zero."
 abbrev pub own_number : List ℕ → ℕ → ℕ

@@ -2,7 +2,7 @@
 -- projection, unary projection and extension", section 2.2 there. In order: costs changed; the moves; their refusals; the calls.
 -- That they keep what every assignment is worth is in Moves/Worth. Assumes nothing.
 use Rattle.base.specs.Library.{ℕ, zero, suc, pred, ◌+◌, ◌-◌, Bool, true, cond, not, ◌&&◌, List, ltb, leb, eqb, length, get_or, set}
-use Rattle.base.specs.{Every.every, Shape.is_value, Shape.shapeGood, Sums.sum_to}
+use Rattle.base.specs.{Every.every, Shape.is_value, Shape.shape_good, Sums.sum_to}
 use Rattle.costs.specs.declared.Cost.{Cost}
 use Rattle.costs.specs.declared.Cost.TheVariants.{Of, Forbidden}
 use Rattle.costs.specs.Cost.{least}
@@ -102,7 +102,7 @@ extend_fits dom n i u j part h = leb part (get_or h.costs (own_at dom i u) 0) &&
 -- "5 and 6 come first, and 7 isn't used"; 10 "before 19", and 19 "before any cost is moved"
 abbrev pub refusal_by : ℕ → List ℕ → Held → Bool → Bool → ℕ
 refusal_by n sizes h there fits =
-    cond (not (shapeGood n sizes)) 5
+    cond (not (shape_good n sizes)) 5
     (cond (not (eqb (length h.costs) (cost_count (dom_in n sizes) n))) 6
     (cond (not there) 10
     (cond (lent_good (dom_in n sizes) n h && fits) 0 19)))

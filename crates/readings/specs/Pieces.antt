@@ -5,18 +5,18 @@ use Rattle.std.specs.Prelude.{refl}
 use Rattle.std.proofs.Common.{◌∙◌, mul_comm, arith, length-set, length-take-le, eq-eqb, ne_eqb, eqb-true}
 use Rattle.std.proofs.lemmas.List.Edits.{sets-eq}
 use Rattle.std.proofs.lemmas.Bool.{eqb-false}
-use Rattle.base.specs.{Bytes.le16, Join.joinTo, Join.Laws.length-join, Put.put_at, Put.putWithin, Sums.Laws.sumTo-same}
+use Rattle.base.specs.{Bytes.le16, Join.join_to, Join.Laws.length_join, Put.put_at, Put.put_within, Sums.Laws.sum_to_same}
 use Rattle.base.specs.Put.Laws.{put-fits, put_after}
-use Rattle.costs.specs.{Streamed.pairCosts, Lent.Steps.dom-at}
+use Rattle.costs.specs.{Streamed.pair_costs, Lent.Steps.dom_at}
 use Rattle.readings.specs.Readings.{in_lots, gap, gap_cost, reading_at, lines_of}
 
 -- of lot u + 1 of the earlier line with each of e lots
 abbrev pub row_of : ℕ → ℕ → ℕ → List ℕ
-row_of cost e u = joinTo (λ v. le16 (in_lots cost (suc u) (suc v))) e
+row_of cost e u = join_to (λ v. le16 (in_lots cost (suc u) (suc v))) e
 
 -- of d lots
 abbrev pub pair_of : ℕ → ℕ → ℕ → List ℕ
-pair_of cost d e = joinTo (row_of cost e) d
+pair_of cost d e = join_to (row_of cost e) d
 
 -- lots counted from 0 are the same where those counted from 1 are
 pub lots_from_one : (cost u v : ℕ) → in_lots cost u v ≡ in_lots cost (suc u) (suc v)
@@ -27,23 +27,23 @@ lots_from_one cost u v = go (eqb u v) refl
     go false e = let q : suc u ≡ suc v → ⊥ = λ f. eqb-false u v e (omega arith) in rw (ne_eqb (suc u) (suc v) q)
 
 pub row_length : (cost e u : ℕ) → length (row_of cost e u) ≡ 2 * e
-row_length cost e u = length-join (λ v. le16 (in_lots cost (suc u) (suc v))) (λ v. 2) (λ v. refl) e ∙ sumTo-same 2 e ∙ mul_comm e 2
+row_length cost e u = length_join (λ v. le16 (in_lots cost (suc u) (suc v))) (λ v. 2) (λ v. refl) e ∙ sum_to_same 2 e ∙ mul_comm e 2
 
 pub pair_length : (cost d e : ℕ) → length (pair_of cost d e) ≡ 2 * e * d
-pair_length cost d e = length-join (row_of cost e) (λ u. 2 * e) (row_length cost e) d ∙ sumTo-same (2 * e) d ∙ mul_comm d (2 * e)
+pair_length cost d e = length_join (row_of cost e) (λ u. 2 * e) (row_length cost e) d ∙ sum_to_same (2 * e) d ∙ mul_comm d (2 * e)
 
 -- the costs of lines i and j
 abbrev pub lines_pair : List ℕ → List ℕ → ℕ → ℕ → List ℕ
 lines_pair sizes readings i j = pair_of (gap_cost (gap (reading_at readings i) (reading_at readings j))) (get_or sizes i 0) (get_or sizes j 0)
 
 -- are those of the table
-pub pair_is : (n : ℕ) (sizes readings : List ℕ) (i j : ℕ) → i < n → j < n → lines_pair sizes readings i j ≡ pairCosts (lines_of n sizes readings) i j
+pub pair_is : (n : ℕ) (sizes readings : List ℕ) (i j : ℕ) → i < n → j < n → lines_pair sizes readings i j ≡ pair_costs (lines_of n sizes readings) i j
 unfolding lines_of
-pair_is n sizes readings i j a b = rw (← dom-at n sizes i a, ← dom-at n sizes j b)
+pair_is n sizes readings i j a b = rw (← dom_at n sizes i a, ← dom_at n sizes j b)
 
 -- ---- n and the sizes
 
-pub shape_put : (l sizes : List ℕ) (n : ℕ) → 1 + n ≤ length l → n ≤ length sizes → putWithin (set l 0 n) 1 (take n sizes) ≡ put_at l 0 (n ∷ take n sizes)
+pub shape_put : (l sizes : List ℕ) (n : ℕ) → 1 + n ≤ length l → n ≤ length sizes → put_within (set l 0 n) 1 (take n sizes) ≡ put_at l 0 (n ∷ take n sizes)
 shape_put l sizes n room long =
     let count : length (take n sizes) ≡ n = length-take-le n sizes long in
     let there : length (set l 0 n) ≡ length l = length-set l 0 n in

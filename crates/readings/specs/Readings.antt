@@ -1,9 +1,9 @@
 -- The table of lines of wool whose mean fibre diameters were read. Document 02, job 1, "Costs from the readings". Assumes nothing.
 use Rattle.base.specs.Library.{ℕ, suc, ◌*◌, ◌/◌, Bool, cond, not, ◌&&◌, List, [], ◌∷◌, ltb, leb, eqb, length, get_or}
-use Rattle.base.specs.{declared.Length.Length, Bytes.u16At, Every.every, Limits.pairLimit, Limits.streamSize, Shape.shapeGood}
+use Rattle.base.specs.{declared.Length.Length, Bytes.u16_at, Every.every, Limits.pair_limit, Limits.stream_size, Shape.shape_good}
 use Rattle.std.specs.Prelude.{ℤ, pos, negsuc, ◌-ℤ◌}
 use Rattle.table.specs.File.{answer, leaves}
-use Rattle.costs.specs.{declared.Cost.TheVariants.Of, Instance.Instance, Instance.domIn, Streamed.streamFor}
+use Rattle.costs.specs.{declared.Cost.TheVariants.Of, Instance.Instance, Instance.dom_in, Streamed.stream_for}
 
 -- ---- readings
 
@@ -13,7 +13,7 @@ reading_good x = leb 100 x && leb x 400
 
 -- the reading of line k + 1: two bytes each
 abbrev pub reading_at : List ℕ → ℕ → ℕ
-reading_at readings k = u16At readings (2 * k)
+reading_at readings k = u16_at readings (2 * k)
 
 -- ---- what two lines cost
 
@@ -23,7 +23,7 @@ schedule = 0 ∷ 0 ∷ 1 ∷ 2 ∷ 4 ∷ 7 ∷ 11 ∷ 16 ∷ 22 ∷ 29 ∷ 37 �
 
 -- 02: "20 or more costs 60,000"
 unfoldable pub penalty : ℕ → ℕ
-penalty size = cond (ltb size 20) (get_or schedule size 0) pairLimit
+penalty size = cond (ltb size 20) (get_or schedule size 0) pair_limit
 
 -- 02: "the gap is the later line's reading less the earlier line's, below zero when finer"
 abbrev pub gap : ℕ → ℕ → ℤ
@@ -42,19 +42,19 @@ in_lots cost u v = cond (eqb u v) cost 0
 
 -- n lines with their numbers of lots; the cost of lot u of line i with lot v of a later line j, never forbidden
 unfoldable pub lines_of : ℕ → List ℕ → List ℕ → Instance
-lines_of n sizes readings = record { n = n; dom = domIn n sizes; unary = λ k v. 0; cost = λ i u j v. Of (in_lots (gap_cost (gap (reading_at readings i) (reading_at readings j))) u v) }
+lines_of n sizes readings = record { n = n; dom = dom_in n sizes; unary = λ k v. 0; cost = λ i u j v. Of (in_lots (gap_cost (gap (reading_at readings i) (reading_at readings j))) u v) }
 
 -- 02: "Readings other than one a line are 6. A reading out of range is 17, found after 5 and 6 and before any cost is made; 13 comes last."
 unfoldable pub readings_refusal : ℕ → List ℕ → List ℕ → ℕ → ℕ
 readings_refusal n sizes readings room =
-    cond (not (shapeGood n sizes)) 5
+    cond (not (shape_good n sizes)) 5
     (cond (not (eqb (length readings) (2 * n))) 6
     (cond (not (every (λ k. reading_good (reading_at readings k)) n)) 17
-    (cond (ltb room streamSize) 13 0)))
+    (cond (ltb room stream_size) 13 0)))
 
 -- the refusal, or 0 and the stream's length; and the lent buffer with the stream in front
 unfoldable pub table_of : ℕ → List ℕ → List ℕ → ℕ → Length
-table_of n sizes readings room = answer (readings_refusal n sizes readings room) (length (streamFor (lines_of n sizes readings)))
+table_of n sizes readings room = answer (readings_refusal n sizes readings room) (length (stream_for (lines_of n sizes readings)))
 
 unfoldable pub table_into : ℕ → List ℕ → List ℕ → List ℕ → List ℕ
-table_into n sizes readings out = leaves (readings_refusal n sizes readings (length out)) (streamFor (lines_of n sizes readings)) out
+table_into n sizes readings out = leaves (readings_refusal n sizes readings (length out)) (stream_for (lines_of n sizes readings)) out

@@ -1,6 +1,6 @@
 -- Lines of wool: those that a sheet holds, and their text. Assumes nothing.
 use Rattle.base.specs.Library.{ℕ, ◌+◌, ◌*◌, ◌/◌, ◌%◌, Bool, false, cond, ◌&&◌, ◌||◌, List, [], ◌∷◌, ◌++◌, ltb, leb, eqb, length, get_or, take, drop}
-use Rattle.base.specs.{Bytes.u16At, Put.put_at}
+use Rattle.base.specs.{Bytes.u16_at, Put.put_at}
 use Rattle.rows.specs.declared.Sheet.{Sheet}
 use Rattle.rows.specs.Row.{sort_of, digit}
 use Rattle.rows.specs.Sheet.{sheet_of, names_of}
@@ -18,7 +18,7 @@ pub record Line : Type 0 where
 unfoldable pub cut : List ℕ → List ℕ → List ℕ → List ℕ → List Line
 cut [] readings sizes names = []
 cut (n ∷ lengths) readings sizes names =
-    record { name = take n names; reading = u16At readings 0; lots = get_or sizes 0 0 } ∷ cut lengths (drop 2 readings) (drop 1 sizes) (drop n names)
+    record { name = take n names; reading = u16_at readings 0; lots = get_or sizes 0 0 } ∷ cut lengths (drop 2 readings) (drop 1 sizes) (drop n names)
 
 unfoldable pub lines_in : Sheet → List ℕ → List Line
 lines_in s names = cut (take s.count s.lengths) (take (2 * s.count) s.readings) (take s.count s.sizes) names

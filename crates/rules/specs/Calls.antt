@@ -1,9 +1,9 @@
 -- The calls: making a unit and a step, refusals in 01's order; 02, job 9: each names the order in which values are tried.
 -- 01: "Making a unit ..: 5, 10 (unit only), 6, 7, 13." "Step: 13, 5 (n, sizes), 10 (own number), 6, 7, 5 (state), 8, 10, 9, 12, 11." Assumes nothing.
 use Rattle.base.specs.Library.{ℕ, zero, suc, pred, cond, not, List, ltb, length}
-use Rattle.base.specs.{Limits.sendingSize, Refusal.or_else, Shape.shapeGood}
-use Rattle.costs.specs.{declared.ValueOrder.ValueOrder, Instance.View, Instance.lentView, Lent.lentRefusal}
-use Rattle.message.specs.{declared.Message.Message, declared.Read.Read, declared.Read.TheVariants.Good, declared.Read.TheVariants.Refused, Message.is_unit, Decode.parseFor}
+use Rattle.base.specs.{Limits.sending_size, Refusal.or_else, Shape.shape_good}
+use Rattle.costs.specs.{declared.ValueOrder.ValueOrder, Instance.View, Instance.lent_view, Lent.lent_refusal}
+use Rattle.message.specs.{declared.Message.Message, declared.Read.Read, declared.Read.TheVariants.Good, declared.Read.TheVariants.Refused, Message.is_unit, Decode.parse_for}
 use Rattle.rules.specs.{declared.Unit.Unit, declared.Outcome.Outcome, declared.Report.Report, State.fresh, State.in_range, Send.packets, Send.laid}
 use Rattle.rules.specs.Step.{Decision, refused, accepted, quiet, assign, respond}
 
@@ -25,19 +25,19 @@ bytes_of n k out (accepted u s ws) = laid (packets n k s) out
 
 -- of what is lent beside a state: the first of 5, 10, 6, 7 that applies, or 0
 unfoldable pub seat_refusal : ℕ → ℕ → List ℕ → List ℕ → ℕ
-seat_refusal own n sizes costs = cond (not (shapeGood n sizes)) 5 (cond (not (is_unit n own)) 10 (lentRefusal own n sizes costs))
+seat_refusal own n sizes costs = cond (not (shape_good n sizes)) 5 (cond (not (is_unit n own)) 10 (lent_refusal own n sizes costs))
 
 -- of making: the first of 5, 10, 6, 7, 13
 unfoldable pub make_refusal : ℕ → ℕ → List ℕ → List ℕ → ℕ → ℕ
-make_refusal own n sizes costs room = or_else (seat_refusal own n sizes costs) (cond (ltb room sendingSize) 13 0)
+make_refusal own n sizes costs room = or_else (seat_refusal own n sizes costs) (cond (ltb room sending_size) 13 0)
 
 -- of a lent state: the first of 5, 10, 6, 7, 5
 unfoldable pub range_refusal : ValueOrder → Unit → ℕ → ℕ → List ℕ → List ℕ → ℕ
-range_refusal order u own n sizes costs = or_else (seat_refusal own n sizes costs) (cond (in_range sizes (lentView order own n sizes costs) u) 0 5)
+range_refusal order u own n sizes costs = or_else (seat_refusal own n sizes costs) (cond (in_range sizes (lent_view order own n sizes costs) u) 0 5)
 
 -- of a step before its packet is read: the first of 13, 5, 10, 6, 7, 5
 unfoldable pub step_refusal : ValueOrder → Unit → ℕ → ℕ → List ℕ → List ℕ → ℕ → ℕ
-step_refusal order u own n sizes costs room = cond (ltb room sendingSize) 13 (range_refusal order u own n sizes costs)
+step_refusal order u own n sizes costs room = cond (ltb room sending_size) 13 (range_refusal order u own n sizes costs)
 
 abbrev pub unless_refused : ℕ → Decision → Decision
 unless_refused zero o = o
@@ -51,7 +51,7 @@ start w zero = assign w fresh
 start w (suc k) = quiet fresh
 
 unfoldable pub make_out : ValueOrder → ℕ → ℕ → List ℕ → List ℕ → ℕ → Decision
-make_out order own n sizes costs room = unless_refused (make_refusal own n sizes costs room) (start (lentView order own n sizes costs) (pred own))
+make_out order own n sizes costs room = unless_refused (make_refusal own n sizes costs room) (start (lent_view order own n sizes costs) (pred own))
 
 -- ---- a step
 
@@ -62,5 +62,5 @@ on_read w u (Refused r) m = refused r
 
 unfoldable pub step_out : ValueOrder → Unit → ℕ → ℕ → List ℕ → List ℕ → List ℕ → ℕ → Decision
 step_out order u own n sizes costs bytes room =
-    let p = parseFor n sizes own bytes in
-    unless_refused (step_refusal order u own n sizes costs room) (on_read (lentView order own n sizes costs) u p.answer p.message)
+    let p = parse_for n sizes own bytes in
+    unless_refused (step_refusal order u own n sizes costs room) (on_read (lent_view order own n sizes costs) u p.answer p.message)

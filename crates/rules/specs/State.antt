@@ -5,8 +5,8 @@
 --     cpa_out_in_range .. inRange             01: "A lent state is in range when .."
 -- Places count from 0: place k of an array is unit k + 1's; numbers of units (`own`) count from 1. Assumes nothing.
 use Rattle.base.specs.Library.{ℕ, zero, suc, pred, ◌-◌, Bool, true, false, cond, ◌&&◌, List, [], ltb, leb, eqb, get_or, replicate}
-use Rattle.base.specs.{Limits.NONE, Limits.estimateLimit, Limits.prefixLimit, Every.every}
-use Rattle.costs.specs.{Cost.asNumber, Instance.View, Bounds.costWith, Order.placeTried}
+use Rattle.base.specs.{Limits.NONE, Limits.estimate_limit, Limits.prefix_limit, Every.every}
+use Rattle.costs.specs.{Cost.as_number, Instance.View, Bounds.cost_with, Order.place_tried}
 use Rattle.message.specs.Message.{is_unit, filled_to, none_or_bound}
 use Rattle.rules.specs.{declared.Unit.Unit, declared.Ordering.Ordering, declared.Ordering.TheVariants.Less, declared.Ordering.TheVariants.Equal, declared.Ordering.TheVariants.Greater}
 
@@ -58,7 +58,7 @@ own_value w u = get_or u.values w.place 0
 -- 01: "the own value's costs": alone (02, job 7) and with the values of the units before. 02, job 3: "A lent paper whose own value is barred with
 -- a filled one is out of range": what is forbidden counts as NONE, which no paper costs
 abbrev pub own_cost : View → Unit → ℕ
-own_cost w u = asNumber (costWith w u.values w.place (own_value w u))
+own_cost w u = as_number (cost_with w u.values w.place (own_value w u))
 
 -- ---- 01: "Stamps compare from unit 1 on"
 
@@ -102,16 +102,16 @@ cpa_zero sizes u = filled_to 0 sizes u.stamp && filled_to 0 sizes u.values && eq
 -- of unit i, whose own value's costs are `paid`, and its place `place`
 unfoldable pub cpa_out_in_range : List ℕ → ℕ → ℕ → ℕ → Unit → Bool
 cpa_out_in_range sizes i paid place u =
-    filled_to i sizes u.stamp && filled_to i sizes u.values && leb u.cost (prefixLimit i)
+    filled_to i sizes u.stamp && filled_to i sizes u.values && leb u.cost (prefix_limit i)
     && eqb u.counter (get_or u.stamp (pred i) 0) && leb u.counter place
     && not_less (compare_on i u.threshold u.stamp)
-    && leb paid u.cost && leb (u.cost - paid) (prefixLimit (pred i))
+    && leb paid u.cost && leb (u.cost - paid) (prefix_limit (pred i))
 
 -- 01: "A lent state is in range when threshold bytes are at most 17, estimates at most 7,200,000, and bound and paper keep the
 -- message limits; .."
 unfoldable pub paid_in_range : ℕ → List ℕ → ℕ → ℕ → ℕ → Unit → Bool
 paid_in_range n sizes i paid place u =
-    all_at_most 17 u.threshold && all_at_most estimateLimit u.estimates && none_or_bound n sizes u.bound u.best
+    all_at_most 17 u.threshold && all_at_most estimate_limit u.estimates && none_or_bound n sizes u.bound u.best
     && cond (eqb (get_or u.values (pred i) 0) 0) (cpa_zero sizes u) (cpa_out_in_range sizes i paid place u)
 
 -- the same of any number: one that is not 1 to 16 is no unit's, and no state is in range for it
@@ -120,4 +120,4 @@ in_range_paid n sizes own paid place u = is_unit 16 own && paid_in_range n sizes
 
 -- the same with a unit's view, which says what its own value costs, and when it is tried
 unfoldable pub in_range : List ℕ → View → Unit → Bool
-in_range sizes w u = paid_in_range w.n sizes (suc w.place) (own_cost w u) (placeTried w (own_value w u)) u
+in_range sizes w u = paid_in_range w.n sizes (suc w.place) (own_cost w u) (place_tried w (own_value w u)) u

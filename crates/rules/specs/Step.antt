@@ -8,8 +8,8 @@
 -- Places count from 0: the unit at place k is 01's unit i = k + 1. Assumes nothing.
 use Rattle.base.specs.Library.{ℕ, zero, suc, ◌+◌, ◌-◌, Bool, true, false, cond, ◌&&◌, ◌||◌, List, [], ◌∷◌, ltb, leb, eqb, get_or, set, take}
 use Rattle.base.specs.Sums.{sum_from}
-use Rattle.costs.specs.{declared.Cost.TheVariants.Of, Cost.◌⊕◌, Cost.below, Cost.asNumber, Instance.View, Bounds.costWith, Bounds.h, Bounds.estimate, Order.next, Order.left}
-use Rattle.message.specs.{declared.Message.Message, declared.Kind.Kind, Message.noMessage}
+use Rattle.costs.specs.{declared.Cost.TheVariants.Of, Cost.◌⊕◌, Cost.below, Cost.as_number, Instance.View, Bounds.cost_with, Bounds.h, Bounds.estimate, Order.next, Order.left}
+use Rattle.message.specs.{declared.Message.Message, declared.Kind.Kind, Message.no_message}
 use Rattle.message.specs.declared.Kind.TheVariants.{Cpa, Request, Estimate, Solution, Stop}
 use Rattle.rules.specs.{declared.Unit.Unit, declared.Ordering.Ordering, declared.Sending.Sending}
 use Rattle.rules.specs.declared.Ordering.TheVariants.{Less, Equal, Greater}
@@ -36,7 +36,7 @@ recorded r (accepted u s ws) = accepted u s (r ∷ ws)
 
 -- this state, nothing sent and no record written; 01: "A stale message changes nothing and sends nothing."
 abbrev pub quiet : Unit → Decision
-quiet u = accepted u (record { plan = Nothing; improved = false; message = noMessage }) []
+quiet u = accepted u (record { plan = Nothing; improved = false; message = no_message }) []
 
 -- 01: "Take its bound and best if lower."
 abbrev pub take_bound : Message → Unit → Unit
@@ -90,8 +90,8 @@ unfoldable pub try_after : View → ℕ → ℕ → Bool → Unit → Decision
 try_after w zero v improved u = backtrack w improved u
 try_after w (suc m) v improved u =
     let x = next w v in
-    let c = Of u.cost ⊕ costWith w u.values w.place x in
-    cond (below (c ⊕ h w x) u.bound) (after_write w (eqb (suc w.place) w.n) (write w x (asNumber c) u) (λ (b : Bool) (t : Unit). try_after w m x b t)) (try_after w m x improved u)
+    let c = Of u.cost ⊕ cost_with w u.values w.place x in
+    cond (below (c ⊕ h w x) u.bound) (after_write w (eqb (suc w.place) w.n) (write w x (as_number c) u) (λ (b : Bool) (t : Unit). try_after w m x b t)) (try_after w m x improved u)
 
 -- 01: "Clear estimates; if the paper has no own value the counter becomes 0."
 abbrev pub begun : View → Unit → Unit
@@ -139,7 +139,7 @@ abbrev pub reply : View → Message → Sending
 reply w m = record {
   plan = Reply;
   improved = false;
-  message = record { sender = suc w.place; receiver = m.sender; stamp = m.stamp; values = zeros; cost = asNumber (estimate w m.values m.sender); bound = 0; best = zeros };
+  message = record { sender = suc w.place; receiver = m.sender; stamp = m.stamp; values = zeros; cost = as_number (estimate w m.values m.sender); bound = 0; best = zeros };
 }
 
 -- 01: "Smaller: stale; bigger sets the threshold."

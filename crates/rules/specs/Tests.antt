@@ -3,15 +3,15 @@
 -- Assumes nothing.
 use Rattle.base.specs.Library.{ℕ, suc, ◌-◌, Bool, false, cond, List, eqb, get_or, set}
 use Rattle.base.specs.Sums.{sum_from}
-use Rattle.costs.specs.{declared.Cost.Cost, declared.Cost.TheVariants.Of, Cost.◌⊕◌, Instance.View, Bounds.costWith}
-use Rattle.message.specs.{declared.Message.Message, declared.Kind.Kind, Message.noMessage}
+use Rattle.costs.specs.{declared.Cost.Cost, declared.Cost.TheVariants.Of, Cost.◌⊕◌, Instance.View, Bounds.cost_with}
+use Rattle.message.specs.{declared.Message.Message, declared.Kind.Kind, Message.no_message}
 use Rattle.rules.specs.{declared.Unit.Unit, declared.Held.Held, declared.Sending.Sending, declared.Plan.TheVariants.Nothing}
 use Rattle.rules.specs.State.{unit, with_threshold, with_best, with_estimates, with_counter, compare_on}
 use Rattle.rules.specs.Step.{Decision, refused, quiet, take_bound, take_off, backtrack, write, after_write, assign, resume, on_down, on_back, by_kind}
 
 -- nothing is sent
 abbrev pub silent : Sending
-silent = record { plan = Nothing; improved = false; message = noMessage }
+silent = record { plan = Nothing; improved = false; message = no_message }
 
 -- the unit is unit n
 abbrev pub is_last : View → Bool
@@ -19,7 +19,7 @@ is_last w = eqb (suc w.place) w.n
 
 -- the cost with own value v
 abbrev pub cost_at : View → ℕ → Unit → Cost
-cost_at w v u = Of u.cost ⊕ costWith w u.values w.place v
+cost_at w v u = Of u.cost ⊕ cost_with w u.values w.place v
 
 -- the unit with what is held of it and these estimates
 abbrev pub holding : Held → List ℕ → Unit

@@ -3,8 +3,8 @@
 -- Assumes nothing.
 use Rattle.base.specs.Library.{ℕ, pred, ◌*◌, ◌-◌, Bool, cond, ◌&&◌, ◌||◌, List, [], ltb, leb, eqb, get_or, length}
 use Rattle.base.specs.Limits.{sending_size, message_size}
-use Rattle.costs.specs.{declared.Seat.Seat, Instance.viewKnowing}
-use Rattle.message.specs.{declared.Message.Message, declared.Kind.Kind, declared.Read.Read, declared.Read.TheVariants.Good, declared.Read.TheVariants.Refused, Message.is_unit, Message.Packet, Unpack.unpackOf}
+use Rattle.costs.specs.{declared.Seat.Seat, Instance.view_knowing}
+use Rattle.message.specs.{declared.Message.Message, declared.Kind.Kind, declared.Read.Read, declared.Read.TheVariants.Good, declared.Read.TheVariants.Refused, Message.is_unit, Message.Packet, Unpack.unpack_of}
 use Rattle.rules.specs.{declared.Unit.Unit, declared.Sending.Sending, Send.packets, State.fresh, State.in_range, Calls.start}
 use Rattle.rules.specs.Step.{Decision, refused, respond}
 
@@ -21,15 +21,15 @@ can_hear own m = is_unit 16 m.sender && leb (get_or m.stamp (own - 1) 0) 17 && (
 
 -- a message that was read
 unfoldable pub respond_to : Seat → List ℕ → List ℕ → Kind → Unit → Message → Decision
-respond_to seat costs ahead k u m = cond (can_step seat.own seat.n seat.sizes u) (cond (can_hear seat.own m) (respond (viewKnowing seat costs ahead) k u m) (refused 9)) (refused 5)
+respond_to seat costs ahead k u m = cond (can_step seat.own seat.n seat.sizes u) (cond (can_hear seat.own m) (respond (view_knowing seat costs ahead) k u m) (refused 9)) (refused 5)
 
 -- a new unit
 unfoldable pub start_to : Seat → List ℕ → List ℕ → Decision
-start_to seat costs ahead = cond (can_step seat.own seat.n seat.sizes fresh) (start (viewKnowing seat costs ahead) (pred seat.own)) (refused 5)
+start_to seat costs ahead = cond (can_step seat.own seat.n seat.sizes fresh) (start (view_knowing seat costs ahead) (pred seat.own)) (refused 5)
 
 -- a lent state: none is in range for a number that is not 1 to 16
 unfoldable pub in_range_at : Seat → List ℕ → List ℕ → Unit → Bool
-in_range_at seat costs ahead u = is_unit 16 seat.own && in_range seat.sizes (viewKnowing seat costs ahead) u
+in_range_at seat costs ahead u = is_unit 16 seat.own && in_range seat.sizes (view_knowing seat costs ahead) u
 
 abbrev pub on_known : Seat → List ℕ → List ℕ → Unit → Read → Message → Decision
 on_known seat costs ahead u (Good k) m = respond_to seat costs ahead k u m
@@ -37,7 +37,7 @@ on_known seat costs ahead u (Refused r) m = refused r
 
 -- 13; then 8 and 9 of the packet; then 5 and 9, and what a step gives
 unfoldable pub trusted_out : Seat → Unit → List ℕ → List ℕ → List ℕ → ℕ → Decision
-trusted_out seat u costs ahead bytes room = let p = unpackOf bytes in cond (ltb room sending_size) (refused 13) (on_known seat costs ahead u p.answer p.message)
+trusted_out seat u costs ahead bytes room = let p = unpack_of bytes in cond (ltb room sending_size) (refused 13) (on_known seat costs ahead u p.answer p.message)
 
 -- What was decided is sent: by one of at most 16 units, and where all of it fits into the bytes that there are; else nothing.
 abbrev pub can_send : Seat → Sending → ℕ → Bool

@@ -1,13 +1,13 @@
 -- Many units, by place: the one that a packet is for and its step, and the records that they write together. No pool is met here. Assumes nothing.
 use Rattle.base.specs.Library.{ℕ, pred, ◌≡◌, List, [], ◌∷◌, get_or}
 use Rattle.base.specs.Members.{Every}
-use Rattle.costs.specs.{declared.ValueOrder.ValueOrder, Instance.Instance, Instance.viewBy}
+use Rattle.costs.specs.{declared.ValueOrder.ValueOrder, Instance.Instance, Instance.view_by}
 use Rattle.message.specs.Message.{Packet}
-use Rattle.rules.specs.{declared.Unit.Unit as State, State.emptyUnit, Step.Decision, Step.Written, Step.respond}
+use Rattle.rules.specs.{declared.Unit.Unit as State, State.empty_unit, Step.Decision, Step.Written, Step.respond}
 
 -- the unit at a place
 abbrev pub unit_at : List State → ℕ → State
-unit_at us k = get_or us k emptyUnit
+unit_at us k = get_or us k empty_unit
 
 -- the place of the unit that a packet is for
 abbrev pub place_of : Packet → ℕ
@@ -15,7 +15,7 @@ place_of p = pred p.message.receiver
 
 -- the step of that unit
 abbrev pub step_on : ValueOrder → Instance → List State → Packet → Decision
-step_on order I us p = respond (viewBy order I (place_of p)) p.kind (unit_at us (place_of p)) p.message
+step_on order I us p = respond (view_by order I (place_of p)) p.kind (unit_at us (place_of p)) p.message
 
 -- two records are of one unit with the same values, 01: "a beginning: the values of units 1 to i"
 abbrev pub SamePrefix : Written → Written → Type 0

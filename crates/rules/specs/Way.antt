@@ -3,7 +3,7 @@
 use Rattle.base.specs.Library.{ℕ, ◌+◌, ◌-◌, Bool, cond, ◌&&◌, List, [], ltb, leb, get_or, set}
 use Rattle.base.specs.Sums.{sum_from}
 use Rattle.costs.specs.declared.Seat.{Seat}
-use Rattle.costs.specs.{Cost.asNumber, Instance.View, Instance.viewKnowing, Bounds.estimate}
+use Rattle.costs.specs.{Cost.as_number, Instance.View, Instance.view_knowing, Bounds.estimate}
 use Rattle.message.specs.{declared.Message.Message, declared.Read.Read, declared.Read.TheVariants.Good, declared.Read.TheVariants.Refused, Message.is_unit}
 use Rattle.message.specs.declared.Kind.TheVariants.{Cpa, Request, Estimate, Solution, Stop}
 use Rattle.rules.specs.{declared.Unit.Unit, declared.Way.Way, declared.Ordering.Ordering}
@@ -54,7 +54,7 @@ by_way Whole w u m o = o
 
 -- the estimate that answers a request, from a seat
 abbrev pub reply_to : Seat → List ℕ → List ℕ → Message → Message
-reply_to seat costs ahead m = record { sender = seat.own; receiver = m.sender; stamp = m.stamp; values = zeros; cost = asNumber (estimate (viewKnowing seat costs ahead) m.values m.sender); bound = 0; best = zeros }
+reply_to seat costs ahead m = record { sender = seat.own; receiver = m.sender; stamp = m.stamp; values = zeros; cost = as_number (estimate (view_knowing seat costs ahead) m.values m.sender); bound = 0; best = zeros }
 
 -- the state with what a way changes; no estimate is stored but of one of 16 units
 abbrev pub changed_by : Way → Message → Unit → Unit

@@ -7,7 +7,7 @@
 --     written                        the records that a run writes
 use Rattle.base.specs.Library.{ℕ, suc, Bool, cond, List, [], ◌∷◌, ◌++◌, Option, none, some, leb, length, set, take, drop, replicate}
 use Rattle.base.specs.Limits.{pool_cells}
-use Rattle.costs.specs.{declared.ValueOrder.ValueOrder, Instance.Instance, Instance.viewBy, Instance.instanceOf}
+use Rattle.costs.specs.{declared.ValueOrder.ValueOrder, Instance.Instance, Instance.view_by, Instance.instance_of}
 use Rattle.message.specs.Message.{Packet}
 use Rattle.rules.specs.{declared.Unit.Unit, State.fresh, Step.Decision, Step.refused, Step.accepted, Step.Written, Step.assign, Send.packets}
 pub use Rattle.rules.specs.Units.{unit_at, place_of, step_on}
@@ -101,7 +101,7 @@ History = HistoryOf (List Packet)
 
 -- 01: "Making unit 1 assigns"
 unfoldable pub begin : ValueOrder → Instance → History
-begin order I = begun_with cells I (assign (viewBy order I 0) fresh)
+begin order I = begun_with cells I (assign (view_by order I 0) fresh)
 
 abbrev pub hand_over : ValueOrder → Instance → History → ℕ → DeliveryOf (List Packet)
 hand_over order I H cell = deliver_in cells order I H cell
@@ -111,4 +111,4 @@ run order I cs = run_in cells order I (begin order I) cs
 
 -- 01: "Which ones a run writes, those of making included, follows from the rules above, fed only the table and the list."
 abbrev pub written : ValueOrder → List ℕ → List ℕ → List Written
-written order stream cells = (run order (instanceOf stream) cells).written
+written order stream cells = (run order (instance_of stream) cells).written

@@ -3,7 +3,7 @@
 use Rattle.base.specs.Library.{ℕ, zero, suc, List, replicate}
 use Rattle.costs.specs.declared.ValueOrder.{ValueOrder}
 use Rattle.costs.specs.Instance.{instance_of}
-use Rattle.runs.specs.{Calls.Result, Calls.makeOf, Demand3.Shed, Demand3.runBytes, Demand3.most}
+use Rattle.runs.specs.{Calls.Result, Calls.make_of, Demand3.Shed, Demand3.run_bytes, Demand3.most}
 pub mod Laws
 
 -- cell 0, k times
@@ -15,9 +15,9 @@ abbrev pub settled : Shed → Result
 settled S = record { answer = record { refusal = 0; network = S.network }; pool = S.pool }
 
 abbrev pub unless_unmade : ValueOrder → ℕ → List ℕ → List ℕ → Result
-unless_unmade order zero stream pool = settled (runBytes order stream pool (cell_zero (most (instance_of stream))))
-unless_unmade order (suc r) stream pool = makeOf order stream pool
+unless_unmade order zero stream pool = settled (run_bytes order stream pool (cell_zero (most (instance_of stream))))
+unless_unmade order (suc r) stream pool = make_of order stream pool
 
 -- Making's refusal; or none, with what the run of (3n - 1) × N zeros leaves.
 unfoldable pub settle_of : ValueOrder → List ℕ → List ℕ → Result
-settle_of order stream pool = unless_unmade order (makeOf order stream pool).answer.refusal stream pool
+settle_of order stream pool = unless_unmade order (make_of order stream pool).answer.refusal stream pool

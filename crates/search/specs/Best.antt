@@ -5,7 +5,7 @@
 -- Nobody has to believe it: that the answer is the one that costs/specs/Least describes, and no other, is in specs/Laws. Assumes nothing.
 use Rattle.base.specs.Library.{ℕ, zero, suc, cond, List, ltb, set, replicate}
 use Rattle.base.specs.Limits.{NONE}
-use Rattle.costs.specs.{Instance.Instance, Cost.asNumber, Bounds.total}
+use Rattle.costs.specs.{Instance.Instance, Cost.as_number, Bounds.total}
 use Rattle.search.specs.declared.Best.{Best}
 
 -- no assignment yet. 02: "*none* with best all zero"
@@ -25,7 +25,7 @@ in_turn f v (suc d) a = in_turn f (suc v) d (f v a)
 -- each value of unit k, ascending, with the best of the units after it. 02: "A lotting with a barred pair isn't a lotting": its total counts as
 -- NONE, and so is never lower.
 unfoldable pub best_from : Instance → ℕ → ℕ → List ℕ → Best → Best
-best_from I zero k l b = keep b (asNumber (total I l)) l
+best_from I zero k l b = keep b (as_number (total I l)) l
 best_from I (suc left) k l b = in_turn (λ (v : ℕ) (a : Best). best_from I left (suc k) (set l k v) a) 1 (I.dom k) b
 
 -- over all of them

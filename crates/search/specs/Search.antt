@@ -4,8 +4,8 @@
 use Rattle.base.specs.Library.{ℕ, cond, List, ltb, eqb, replicate}
 use Rattle.base.specs.Limits.{search_limit}
 use Rattle.table.specs.Stream.{stream_refusal}
-use Rattle.costs.specs.{Instance.Instance, Instance.instanceOf, Bounds.prefixCount}
-use Rattle.search.specs.{declared.Found.Found, declared.Best.Best, Best.bestOf}
+use Rattle.costs.specs.{Instance.Instance, Instance.instance_of, Bounds.prefix_count}
+use Rattle.search.specs.{declared.Found.Found, declared.Best.Best, Best.best_of}
 
 -- ---- the two answers
 
@@ -17,17 +17,17 @@ found_best b = record { refusal = 0; total = b.total; values = b.values }
 
 -- k is the refusal, or 0
 abbrev pub answer_by : ℕ → List ℕ → Found
-answer_by k s = cond (eqb k 0) (found_best (bestOf (instanceOf s))) (refused_by k)
+answer_by k s = cond (eqb k 0) (found_best (best_of (instance_of s))) (refused_by k)
 
 -- ---- the exhaustive search
 
 -- how many there are by the domain sizes alone. 02: "The bench counts barred lottings among its 1,048,576."
 abbrev pub assignment_count : Instance → ℕ
-assignment_count I = prefixCount I.dom I.n
+assignment_count I = prefix_count I.dom I.n
 
 -- 01: "Bench: 5, 6, 7, 16", and 16 is "more than 1,048,576 lottings"
 unfoldable pub search_refusal : List ℕ → ℕ
-search_refusal s = cond (eqb (stream_refusal s) 0) (cond (ltb search_limit (assignment_count (instanceOf s))) 16 0) (stream_refusal s)
+search_refusal s = cond (eqb (stream_refusal s) 0) (cond (ltb search_limit (assignment_count (instance_of s))) 16 0) (stream_refusal s)
 
 unfoldable pub search_of : List ℕ → Found
 search_of s = answer_by (search_refusal s) s

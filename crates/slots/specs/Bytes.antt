@@ -1,6 +1,6 @@
 -- The pool's bytes. 02, job 4: "The pool is 19,200 bytes"; a cell is 64 of them, as in 01's pool. Assumes nothing.
 use Rattle.base.specs.Library.{ℕ, ◌*◌, Bool, ◌||◌, List, [], ◌∷◌, Option, none, some, leb, replicate}
-use Rattle.base.specs.{Limits.messageSize, Put.put_at}
+use Rattle.base.specs.{Limits.message_size, Put.put_at}
 use Rattle.table.specs.Block.{all_zero}
 use Rattle.message.specs.Message.{Packet}
 use Rattle.rules.specs.Send.{packet_bytes}
@@ -10,12 +10,12 @@ pub mod Laws
 
 -- the bytes of a cell with a message or none
 abbrev pub slot_bytes : Option Packet → List ℕ
-slot_bytes none = replicate messageSize 0
+slot_bytes none = replicate message_size 0
 slot_bytes (some p) = packet_bytes p
 
 -- a cell's bytes put in
 abbrev pub put_cell : List ℕ → ℕ → List ℕ → List ℕ
-put_cell pool cell bytes = put_at pool (messageSize * cell) bytes
+put_cell pool cell bytes = put_at pool (message_size * cell) bytes
 
 -- 02: "taking fills it with zeros"
 abbrev pub take_out : List ℕ → ℕ → List ℕ
@@ -28,7 +28,7 @@ place_bytes n pool (p ∷ ps) = place_bytes n (put_cell pool (slot_of n p) (pack
 
 -- 02: "n units use the first (n-1) × (n+4), which making the shed zeroes before unit 1's messages go in"
 abbrev pub zero_cells : ℕ → List ℕ → List ℕ
-zero_cells n pool = put_at pool 0 (replicate (messageSize * used_slots n) 0)
+zero_cells n pool = put_at pool 0 (replicate (message_size * used_slots n) 0)
 
 -- 02: "15 means that it is all zero or past those used"
 unfoldable pub is_empty : ℕ → List ℕ → ℕ → Bool

@@ -9,12 +9,12 @@
 use Rattle.base.specs.Library.{ℕ, ◌+◌, ◌≤◌, ◌<◌, ◌≡◌, ◌⊎◌, Bool, true, false, List, map, length}
 use Rattle.base.specs.Members.{Every}
 use Rattle.costs.specs.declared.ValueOrder.{ValueOrder}
-use Rattle.costs.specs.{Instance.instanceOf, Gather.sizesIn, Bounds.Reported, Least.LeastFirst, Least.Padded}
+use Rattle.costs.specs.{Instance.instance_of, Gather.sizes_in, Bounds.Reported, Least.LeastFirst, Least.Padded}
 use Rattle.message.specs.Message.{Packet}
-use Rattle.rules.specs.{Send.packetBytes, Units.unit_at, Units.Distinct}
-use Rattle.runs.specs.{declared.Core.Core, Count.value_of, Pool.cell_of, Deliveries.Delivery, Deliveries.deliverAll, Deliveries.acceptedIn, Deliveries.handedIn}
+use Rattle.rules.specs.{Send.packet_bytes, Units.unit_at, Units.Distinct}
+use Rattle.runs.specs.{declared.Core.Core, Count.value_of, Pool.cell_of, Deliveries.Delivery, Deliveries.deliver_all, Deliveries.accepted_in, Deliveries.handed_in}
 use Rattle.runs.specs.Demand3.{ShedReport, most, times}
-use Rattle.slots.specs.{Slot.usedSlots, Newer.newerOf, Run.Lost, Run.History, Run.waitingIn, Run.atCell, Run.run, Run.written, Bytes.slotBytes, Bytes.is_empty, Calls.Result, Calls.makeOf, Calls.deliverOf}
+use Rattle.slots.specs.{Slot.used_slots, Newer.newer_of, Run.Lost, Run.History, Run.waiting_in, Run.at_cell, Run.run, Run.written, Bytes.slot_bytes, Bytes.is_empty, Calls.Result, Calls.make_of, Calls.deliver_of}
 
 -- ---- the run on bytes
 
@@ -28,24 +28,24 @@ shed_of r = record { core = r.answer.core; pool = r.pool }
 
 -- 01: "A table is accepted when making a shed of it isn't refused."
 abbrev pub Made : ValueOrder → List ℕ → List ℕ → Type 0
-Made order stream pool = (makeOf order stream pool).answer.refusal ≡ 0
+Made order stream pool = (make_of order stream pool).answer.refusal ≡ 0
 
 -- as making leaves it
 abbrev pub shed_made : ValueOrder → List ℕ → List ℕ → Shed
-shed_made order stream pool = shed_of (makeOf order stream pool)
+shed_made order stream pool = shed_of (make_of order stream pool)
 
 abbrev pub shed_after : ValueOrder → List ℕ → Shed → ℕ → Shed
-shed_after order stream S cell = shed_of (deliverOf order S.core stream S.pool cell)
+shed_after order stream S cell = shed_of (deliver_of order S.core stream S.pool cell)
 
 -- the refusal of the next delivery, 0 where it is accepted
 abbrev pub refusal_at : ValueOrder → List ℕ → Shed → ℕ → ℕ
-refusal_at order stream S cell = (deliverOf order S.core stream S.pool cell).answer.refusal
+refusal_at order stream S cell = (deliver_of order S.core stream S.pool cell).answer.refusal
 
 abbrev pub delivery : ValueOrder → List ℕ → Delivery Shed
 delivery order stream = record { refusal = refusal_at order stream; after = shed_after order stream; bytes = λ (S : Shed) (cell : ℕ). cell_of S.pool cell }
 
 unfoldable pub run_bytes : ValueOrder → List ℕ → List ℕ → List ℕ → Shed
-run_bytes order stream pool cells = deliverAll (delivery order stream) (shed_made order stream pool) cells
+run_bytes order stream pool cells = deliver_all (delivery order stream) (shed_made order stream pool) cells
 
 -- 01: "Box 1 has stopped"
 abbrev pub over : Shed → Bool
@@ -64,44 +64,44 @@ Honest ended r = ((r ≡ 12) × (ended ≡ true)) ⊎ (r ≡ 15)
 -- the units are the same, and each cell that n units use has the bytes of its message, or zeros
 pub record Follows (n : ℕ) (S : Shed) (H : History) : Type 0 where
   pub units : S.core.units ≡ H.units
-  pub cells : (c : ℕ) → c < usedSlots n → cell_of S.pool c ≡ slotBytes (atCell H.waiting.cells c)
+  pub cells : (c : ℕ) → c < used_slots n → cell_of S.pool c ≡ slot_bytes (at_cell H.waiting.cells c)
 
 -- ---- one run
 
 -- of a message and the one that overwrote it, `newer` hands back the fresh one
 abbrev pub Fresher : ℕ → List ℕ → Lost Packet → Type 0
-Fresher n sizes o = newerOf n sizes (packetBytes o.fresh) (packetBytes o.older) ≡ packetBytes o.fresh
+Fresher n sizes o = newer_of n sizes (packet_bytes o.fresh) (packet_bytes o.older) ≡ packet_bytes o.fresh
 
 pub record Served (order : ValueOrder) (stream pool cells : List ℕ) : Type 0 where
   -- the byte run follows the run over messages, which is fed only the table and the list
-  pub follows : Follows (instanceOf stream).n (run_bytes order stream pool cells) (run order (instanceOf stream) cells)
+  pub follows : Follows (instance_of stream).n (run_bytes order stream pool cells) (run order (instance_of stream) cells)
   -- no beginning is written twice
   pub distinct : Distinct (written order stream cells)
   -- at most (3n - 1) × N deliveries are accepted, and with that many box 1 has stopped
-  pub bounded : acceptedIn (delivery order stream) (shed_made order stream pool) cells ≤ most (instanceOf stream)
-  pub ends : acceptedIn (delivery order stream) (shed_made order stream pool) cells ≡ most (instanceOf stream) → over (run_bytes order stream pool cells) ≡ true
+  pub bounded : accepted_in (delivery order stream) (shed_made order stream pool) cells ≤ most (instance_of stream)
+  pub ends : accepted_in (delivery order stream) (shed_made order stream pool) cells ≡ most (instance_of stream) → over (run_bytes order stream pool cells) ≡ true
   -- until then a message waits; 02: "while its cell isn't all zero"
-  pub waits : over (run_bytes order stream pool cells) ≡ false → (cell : ℕ) × (is_empty (instanceOf stream).n (run_bytes order stream pool cells).pool cell ≡ false)
+  pub waits : over (run_bytes order stream pool cells) ≡ false → (cell : ℕ) × (is_empty (instance_of stream).n (run_bytes order stream pool cells).pool cell ≡ false)
   -- and each that waits can be delivered
-  pub progress : over (run_bytes order stream pool cells) ≡ false → (cell : ℕ) → is_empty (instanceOf stream).n (run_bytes order stream pool cells).pool cell ≡ false
+  pub progress : over (run_bytes order stream pool cells) ≡ false → (cell : ℕ) → is_empty (instance_of stream).n (run_bytes order stream pool cells).pool cell ≡ false
       → refusal_at order stream (run_bytes order stream pool cells) cell ≡ 0
   -- once stopped it reports the least total, with an assignment that totals just that, or none where there is no assignment
-  pub reported : over (run_bytes order stream pool cells) ≡ true → Reported (instanceOf stream) (report_of (run_bytes order stream pool cells)).total (report_of (run_bytes order stream pool cells)).assignment
+  pub reported : over (run_bytes order stream pool cells) ≡ true → Reported (instance_of stream) (report_of (run_bytes order stream pool cells)).total (report_of (run_bytes order stream pool cells)).assignment
   -- which is the first with that total, in the order tried
-  pub lotting : over (run_bytes order stream pool cells) ≡ true → LeastFirst order (instanceOf stream) (report_of (run_bytes order stream pool cells)).total (report_of (run_bytes order stream pool cells)).assignment
-      × Padded (instanceOf stream).n (report_of (run_bytes order stream pool cells)).assignment
+  pub lotting : over (run_bytes order stream pool cells) ≡ true → LeastFirst order (instance_of stream) (report_of (run_bytes order stream pool cells)).total (report_of (run_bytes order stream pool cells)).assignment
+      × Padded (instance_of stream).n (report_of (run_bytes order stream pool cells)).assignment
   -- what accepted deliveries handed over was sent, every message at most once; 02: "overwritten messages never arrive"
   pub handed : (t : Packet → Bool)
-      → times t (run order (instanceOf stream) cells).handed + times t (waitingIn (run order (instanceOf stream) cells).waiting.cells) + times t (map (λ (o : Lost Packet). o.older) (run order (instanceOf stream) cells).waiting.overwritten)
-      ≡ times t (run order (instanceOf stream) cells).sent
+      → times t (run order (instance_of stream) cells).handed + times t (waiting_in (run order (instance_of stream) cells).waiting.cells) + times t (map (λ (o : Lost Packet). o.older) (run order (instance_of stream) cells).waiting.overwritten)
+      ≡ times t (run order (instance_of stream) cells).sent
   -- and what overwrites a message is not older than it
-  pub fresher : Every (Fresher (instanceOf stream).n (sizesIn stream)) (run order (instanceOf stream) cells).waiting.overwritten
+  pub fresher : Every (Fresher (instance_of stream).n (sizes_in stream)) (run order (instance_of stream) cells).waiting.overwritten
   -- these messages, in this order, are the bytes that were handed over
-  pub taken : handedIn (delivery order stream) (shed_made order stream pool) cells ≡ map packetBytes (run order (instanceOf stream) cells).handed
+  pub taken : handed_in (delivery order stream) (shed_made order stream pool) cells ≡ map packet_bytes (run order (instance_of stream) cells).handed
   -- the counts are exact
   pub records : value_of (run_bytes order stream pool cells).core.records ≡ length (written order stream cells)
-  pub deliveries : value_of (run_bytes order stream pool cells).core.deliveries ≡ acceptedIn (delivery order stream) (shed_made order stream pool) cells
-  pub accepted : acceptedIn (delivery order stream) (shed_made order stream pool) cells ≡ length (run order (instanceOf stream) cells).handed
+  pub deliveries : value_of (run_bytes order stream pool cells).core.deliveries ≡ accepted_in (delivery order stream) (shed_made order stream pool) cells
+  pub accepted : accepted_in (delivery order stream) (shed_made order stream pool) cells ≡ length (run order (instance_of stream) cells).handed
   -- no unit refuses another's packet, each stands in its own cell, and 14 never occurs: only 12 (after the stop) and 15 are ever given
   pub honest : (cell : ℕ) → (refusal_at order stream (run_bytes order stream pool cells) cell ≡ 0) ⊎ Honest (over (run_bytes order stream pool cells)) (refusal_at order stream (run_bytes order stream pool cells) cell)
 

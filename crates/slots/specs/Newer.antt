@@ -7,7 +7,7 @@
 -- Assumes nothing.
 use Rattle.base.specs.Library.{ℕ, Bool, true, false, cond, ◌&&◌, List, [], ltb, eqb}
 use Rattle.base.specs.Limits.{places}
-use Rattle.message.specs.{declared.Kind.Kind, declared.Read.Read, declared.Read.TheVariants.Good, declared.Read.TheVariants.Refused, declared.Message.Message, Message.kindCode, Decode.parseOf}
+use Rattle.message.specs.{declared.Kind.Kind, declared.Read.Read, declared.Read.TheVariants.Good, declared.Read.TheVariants.Refused, declared.Message.Message, Message.kind_code, Decode.parse_of}
 use Rattle.message.specs.declared.Kind.TheVariants.{Cpa, Request, Estimate, Solution, Stop}
 use Rattle.rules.specs.{declared.Ordering.Ordering, declared.Ordering.TheVariants.Less, declared.Ordering.TheVariants.Equal, declared.Ordering.TheVariants.Greater, State.compare_on}
 use Rattle.slots.specs.declared.Choice.{Choice}
@@ -16,7 +16,7 @@ pub mod Laws
 
 -- the same kind, sender and receiver
 abbrev pub same_slot : Kind → Message → Kind → Message → Bool
-same_slot k a l b = eqb (kindCode k) (kindCode l) && eqb a.sender b.sender && eqb a.receiver b.receiver
+same_slot k a l b = eqb (kind_code k) (kind_code l) && eqb a.sender b.sender && eqb a.receiver b.receiver
 
 abbrev pub is_less : Ordering → Bool
 is_less Less = true
@@ -47,7 +47,7 @@ choose (Good k) a (Good l) b = chosen k a l b
 
 -- of two lent buffers; refusals 5, 8, 10, 9 of the first, 8, 10, 9 of the second, and 9
 unfoldable pub choice_of : ℕ → List ℕ → List ℕ → List ℕ → Choice
-choice_of n sizes first second = choose (parseOf n sizes first).answer (parseOf n sizes first).message (parseOf n sizes second).answer (parseOf n sizes second).message
+choice_of n sizes first second = choose (parse_of n sizes first).answer (parse_of n sizes first).message (parse_of n sizes second).answer (parse_of n sizes second).message
 
 -- ---- each choice as a refusal, as 1 or 2, and as the bytes handed back
 

@@ -5,7 +5,7 @@
 --     Slots, slots                              the pool
 --     begin, run, written                       making and a run over it
 use Rattle.base.specs.Library.{ℕ, List, [], ◌∷◌, ◌++◌, Option, none, some, get_or, set, replicate}
-use Rattle.costs.specs.{declared.ValueOrder.ValueOrder, Instance.Instance, Instance.viewBy, Instance.instanceOf}
+use Rattle.costs.specs.{declared.ValueOrder.ValueOrder, Instance.Instance, Instance.view_by, Instance.instance_of}
 use Rattle.message.specs.Message.{Packet}
 use Rattle.rules.specs.{State.fresh, Step.Written, Step.assign}
 use Rattle.runs.specs.Run.{Pool, HistoryOf, begun_with, run_in}
@@ -76,11 +76,11 @@ abbrev pub History : Type 0
 History = HistoryOf Slots
 
 unfoldable pub begin : ValueOrder → Instance → History
-begin order I = begun_with (slots I.n) I (assign (viewBy order I 0) fresh)
+begin order I = begun_with (slots I.n) I (assign (view_by order I 0) fresh)
 
 unfoldable pub run : ValueOrder → Instance → List ℕ → History
 run order I cs = run_in (slots I.n) order I (begin order I) cs
 
 -- the records of a run, those of making included
 abbrev pub written : ValueOrder → List ℕ → List ℕ → List Written
-written order stream cells = (run order (instanceOf stream) cells).written
+written order stream cells = (run order (instance_of stream) cells).written

@@ -1,7 +1,7 @@
 -- A box that is handed the blocks of its table one after the other: what each gives, with the lent costs. A block that is refused changes nothing,
 -- so it can be handed over again. Nothing of the costs is to be used before the last block is in. Assumes nothing.
 use Rattle.base.specs.Library.{ℕ, zero, suc, ◌+◌, ◌%◌, Bool, true, false, cond, List, eqb, ltb, length, take, drop}
-use Rattle.base.specs.{Limits.blockSize, Limits.costsSize, Refusal.or_else, Shape.is_value}
+use Rattle.base.specs.{Limits.block_size, Limits.costs_size, Refusal.or_else, Shape.is_value}
 use Rattle.table.specs.Block.{block_refusal, payload_of}
 use Rattle.start.specs.declared.Reader.{Reader}
 use Rattle.start.specs.declared.Start.{Start}
@@ -24,7 +24,7 @@ last_refusal own r = or_else (end_refusal r) (cond (is_value r.n own) 0 10)
 -- 1, that there were as many blocks as a table has at most; and what only the last block tells is told with it
 unfoldable pub start_refusal : Start → List ℕ → Bool → ℕ → ℕ
 start_refusal s block last room =
-    cond (ltb room costsSize) 13
+    cond (ltb room costs_size) 13
     (cond (ltb s.blocks most_blocks) (or_else (block_refusal s.blocks last block) (cond last (last_refusal s.own (after s.reader (payload_of block))) 0)) 1)
 
 -- one block more is in, the stream is so far, and so many bytes of costs were gathered; the count has 32 bits
@@ -52,16 +52,16 @@ start_into s block last costs = cond (eqb (start_refusal s block last (length co
 
 -- what the last call gives
 unfoldable pub starts_of : Start → ℕ → List ℕ → ℕ → Started
-starts_of s zero f room = start_of s (take blockSize f) true room
+starts_of s zero f room = start_of s (take block_size f) true room
 starts_of s (suc m) f room =
-    cond (eqb (start_of s (take blockSize f) false room).refusal 0)
-    (starts_of (start_of s (take blockSize f) false room).start m (drop blockSize f) room)
-    (start_of s (take blockSize f) false room)
+    cond (eqb (start_of s (take block_size f) false room).refusal 0)
+    (starts_of (start_of s (take block_size f) false room).start m (drop block_size f) room)
+    (start_of s (take block_size f) false room)
 
 -- and what the lent costs then are
 unfoldable pub starts_into : Start → ℕ → List ℕ → List ℕ → List ℕ
-starts_into s zero f costs = start_into s (take blockSize f) true costs
+starts_into s zero f costs = start_into s (take block_size f) true costs
 starts_into s (suc m) f costs =
-    cond (eqb (start_of s (take blockSize f) false (length costs)).refusal 0)
-    (starts_into (start_of s (take blockSize f) false (length costs)).start m (drop blockSize f) (start_into s (take blockSize f) false costs))
+    cond (eqb (start_of s (take block_size f) false (length costs)).refusal 0)
+    (starts_into (start_of s (take block_size f) false (length costs)).start m (drop block_size f) (start_into s (take block_size f) false costs))
     costs

@@ -3,7 +3,7 @@
 -- 200, then n, sizes, own costs unit by unit, pair costs". Costs that units have alone are a row before the first, as with a unit of one value.
 -- Assumes nothing.
 use Rattle.base.specs.Library.{ℕ, ◌+◌, ◌*◌, ◌-◌, ◌≤◌, ◌≡◌, Bool, cond, ◌&&◌, ◌||◌, List, [], ◌∷◌, ◌++◌, eqb, leb, ltb, length, get_or, set, replicate}
-use Rattle.base.specs.{Limits.places, Limits.formTwo, Shape.is_value, Put.putWithin}
+use Rattle.base.specs.{Limits.places, Limits.form_two, Shape.is_value, Put.put_within}
 use Rattle.table.specs.Stream.{unary_good, pair_good, costs_good}
 use Rattle.start.specs.declared.Reader.{Reader}
 use Rattle.start.specs.declared.Stage.{Stage}
@@ -75,7 +75,7 @@ with_high r b = cond (ltb 1 r.left) (one_cost r b) (to_run (one_cost r b) r.row 
 
 -- the first byte says the form
 abbrev pub with_opening : Reader → ℕ → Reader
-with_opening r b = cond (eqb b formTwo) (with_stage r Units) (with_units r 1 b)
+with_opening r b = cond (eqb b form_two) (with_stage r Units) (with_units r 1 b)
 
 abbrev pub with_byte : Stage → Reader → ℕ → Reader
 with_byte Opening r b = with_opening r b
@@ -118,7 +118,7 @@ kept_of own r b = kept_by r.stage own r b
 
 -- it is written at a place of what is lent, where it fits; and the place after it, at most 32 bytes further
 abbrev pub Keeps : List ℕ → ℕ → List ℕ → ℕ → List ℕ → Type 0
-Keeps out at w next left = (next ≡ at + length w) × (next ≤ at + 32) × (left ≡ putWithin out at w)
+Keeps out at w next left = (next ≡ at + length w) × (next ≤ at + 32) × (left ≡ put_within out at w)
 
 -- ---- bytes, one after the other
 
@@ -134,7 +134,7 @@ kept own r (b ∷ l) = kept_of own r b ++ kept own (after_byte r b) l
 -- the same written from a place on, each byte's as it comes
 unfoldable pub filled : ℕ → Reader → ℕ → List ℕ → List ℕ → List ℕ
 filled own r at [] out = out
-filled own r at (b ∷ l) out = filled own (after_byte r b) (at + length (kept_of own r b)) l (putWithin out at (kept_of own r b))
+filled own r at (b ∷ l) out = filled own (after_byte r b) (at + length (kept_of own r b)) l (put_within out at (kept_of own r b))
 
 -- what is wrong with the stream where no byte is to come, 01: 5, 6, 7
 abbrev pub end_by : Stage → ℕ → ℕ

@@ -1,12 +1,12 @@
 -- The two forms of a stored table, and converting one into the other. 02, job 7: "A mover turns form one into form two and back". That a table
 -- converted there and back is the first file again is in Form/Laws. Assumes nothing.
 use Rattle.base.specs.Library.{ℕ, ◌+◌, ◌*◌, Bool, true, cond, List, ◌∷◌, ◌++◌, ltb, length, take, drop, replicate}
-use Rattle.base.specs.{declared.Length.Length, Limits.formTwo, Limits.blockSize, Limits.streamSize, Refusal.or_else}
+use Rattle.base.specs.{declared.Length.Length, Limits.form_two, Limits.block_size, Limits.stream_size, Refusal.or_else}
 use Rattle.table.specs.declared.Form.{Form}
 use Rattle.table.specs.declared.Form.TheVariants.{One, Two}
 use Rattle.table.specs.Stream.{in_form_two, units_of, sizes_of, sum_list, unaries_in, unaries_at, pairs_at}
 use Rattle.table.specs.Block.{all_zero, blocks_for}
-use Rattle.table.specs.{Written.fileOf, File.answer, File.leaves, File.streamOf, File.readRefusal}
+use Rattle.table.specs.{Written.file_of, File.answer, File.leaves, File.stream_of, File.read_refusal}
 pub mod Laws
 pub mod Parts
 pub mod Pieces
@@ -17,7 +17,7 @@ form_of s = cond (in_form_two s) Two One
 
 -- form two of a stream of form one, 02: "the stream opens with byte 200, then n, sizes, own costs unit by unit, pair costs", the own costs zero
 unfoldable pub to_two : List ℕ → List ℕ
-to_two s = formTwo ∷ (take (1 + units_of s) s ++ replicate (2 * sum_list (sizes_of s)) 0 ++ drop (1 + units_of s) s)
+to_two s = form_two ∷ (take (1 + units_of s) s ++ replicate (2 * sum_list (sizes_of s)) 0 ++ drop (1 + units_of s) s)
 
 -- form one of a stream of form two: n, sizes, pair costs
 unfoldable pub to_one : List ℕ → List ℕ
@@ -41,12 +41,12 @@ lossless Two s = true
 -- too small.
 unfoldable pub convert_refusal : Form → List ℕ → ℕ → ℕ
 convert_refusal form f room =
-    or_else (readRefusal f streamSize)
-    (or_else (cond (ltb room (blockSize * blocks_for (length (in_form form (streamOf f))))) 13 0) (cond (lossless form (streamOf f)) 0 18))
+    or_else (read_refusal f stream_size)
+    (or_else (cond (ltb room (block_size * blocks_for (length (in_form form (stream_of f))))) 13 0) (cond (lossless form (stream_of f)) 0 18))
 
 -- the file in that form
 abbrev pub converted : Form → List ℕ → List ℕ
-converted form f = fileOf (in_form form (streamOf f))
+converted form f = file_of (in_form form (stream_of f))
 
 unfoldable pub convert_of : Form → List ℕ → ℕ → Length
 convert_of form f room = answer (convert_refusal form f room) (length (converted form f))

@@ -22,7 +22,7 @@ use Rattle.table.specs.Stream.{in_form_two, units_of, sizes_of, sum_list, pairs_
 use Rattle.table.specs.StreamLaws.{unaries_one, accepted-sizes_length}
 use Rattle.table.specs.Block.{all_zero, blocks_for}
 use Rattle.table.specs.BlockLaws.{zeros, zeros_are}
-use Rattle.table.specs.{Written.fileOf, File.streamOf, File.readRefusal, File.read_of, File.readInto}
+use Rattle.table.specs.{Written.file_of, File.stream_of, File.read_refusal, File.read_of, File.read_into}
 use Rattle.table.specs.FileLaws.{read_stream, written_length_lem, gives-accepted}
 use Rattle.table.specs.RoundTrip.{AcceptedFile, front_of, stream_back, accepted_back, file_back, reads_file}
 use Rattle.table.specs.Form.{form_of, to_two, to_one, in_form, no_unary, lossless, convert_refusal, converted, convert_of, convert_into}
@@ -147,7 +147,7 @@ module _ (s : List ℕ) (ok : Accepted s) where
 
 -- the bytes that its blocks need
 abbrev pub space_for : Form → List ℕ → ℕ
-space_for form f = block_size * blocks_for (length (in_form form (streamOf f)))
+space_for form f = block_size * blocks_for (length (in_form form (stream_of f)))
 
 convert_passed : (x : ℕ) (a b : Bool) → ◌≡◌ {A = ℕ} (or_else x (or_else (cond a 13 0) (cond b 0 18))) 0 → (x ≡ 0) × (a ≡ false) × (b ≡ true)
 convert_passed x true b e = absurd (omega (arith, or_right x 13 e))
@@ -155,38 +155,38 @@ convert_passed x false false e = absurd (omega (arith, or_right x 18 e))
 convert_passed x false true e = (or_left x 0 e, refl, refl)
 
 module _ (form : Form) (f : List ℕ) (room : ℕ) (ok : convert_refusal form f room ≡ 0) where
-  convert_tests : (readRefusal f stream_size ≡ 0) × (ltb room (space_for form f) ≡ false) × (lossless form (streamOf f) ≡ true)
+  convert_tests : (read_refusal f stream_size ≡ 0) × (ltb room (space_for form f) ≡ false) × (lossless form (stream_of f) ≡ true)
   unfolding convert_refusal
-  convert_tests = convert_passed (readRefusal f stream_size) (ltb room (space_for form f)) (lossless form (streamOf f)) ok
+  convert_tests = convert_passed (read_refusal f stream_size) (ltb room (space_for form f)) (lossless form (stream_of f)) ok
 
   pub convert_file : AcceptedFile f
   unfolding AcceptedFile
   convert_file = convert_tests.0
 
-  pub convert_lossless : lossless form (streamOf f) ≡ true
+  pub convert_lossless : lossless form (stream_of f) ≡ true
   convert_lossless = convert_tests.2
 
 module _ (form : Form) (f : List ℕ) (room : ℕ) where
-  pub refused_file : (r : ℕ) → r ≡ readRefusal f stream_size → (r ≡ 0 → ⊥) → r ≡ convert_refusal form f room
+  pub refused_file : (r : ℕ) → r ≡ read_refusal f stream_size → (r ≡ 0 → ⊥) → r ≡ convert_refusal form f room
   unfolding convert_refusal
-  refused_file r e n = sym (rw (← e) (or_first r (or_else (cond (ltb room (space_for form f)) 13 0) (cond (lossless form (streamOf f)) 0 18)) n))
+  refused_file r e n = sym (rw (← e) (or_first r (or_else (cond (ltb room (space_for form f)) 13 0) (cond (lossless form (stream_of f)) 0 18)) n))
 
   pub refused_space : AcceptedFile f → room < space_for form f → 13 ≡ convert_refusal form f room
   unfolding AcceptedFile convert_refusal
   refused_space ok h = rw (ok, lt-ltb room (space_for form f) h)
 
-  pub refused_loss : AcceptedFile f → space_for form f ≤ room → lossless form (streamOf f) ≡ false → 18 ≡ convert_refusal form f room
+  pub refused_loss : AcceptedFile f → space_for form f ≤ room → lossless form (stream_of f) ≡ false → 18 ≡ convert_refusal form f room
   unfolding AcceptedFile convert_refusal
   refused_loss ok h l = rw (ok, le-ltb room (space_for form f) h, l)
 
-pub accepted-stream : (f : List ℕ) → AcceptedFile f → Accepted (streamOf f)
+pub accepted-stream : (f : List ℕ) → AcceptedFile f → Accepted (stream_of f)
 unfolding AcceptedFile
 accepted-stream f ok = read_stream f stream_size ok
 
-module _ (form : Form) (f : List ℕ) (ok : AcceptedFile f) (none : lossless form (streamOf f) ≡ true) where
+module _ (form : Form) (f : List ℕ) (ok : AcceptedFile f) (none : lossless form (stream_of f) ≡ true) where
   pub convert_accepts : (room : ℕ) → length (converted form f) ≤ room → convert_refusal form f room ≡ 0
   unfolding AcceptedFile convert_refusal
-  convert_accepts room h = rw (ok, le-ltb room (space_for form f) (rw (← written_length_lem (in_form form (streamOf f))) h), none)
+  convert_accepts room h = rw (ok, le-ltb room (space_for form f) (rw (← written_length_lem (in_form form (stream_of f))) h), none)
 
   -- so the call gives the file in that form, in front of what was there
   pub convert_gives : (out : List ℕ) → length (converted form f) ≤ length out
@@ -204,7 +204,7 @@ convert_fits form f room r e = rw e (go (eqb (convert_refusal form f room) 0) re
     go : (t : Bool) → eqb (convert_refusal form f room) 0 ≡ t → cond t (length (converted form f)) 0 ≤ room
     go true e =
         let space = ltb-false room (space_for form f) (convert_tests form f room (eqb-true (convert_refusal form f room) 0 e)).1 in
-        omega (arith, space, written_length_lem (in_form form (streamOf f)))
+        omega (arith, space, written_length_lem (in_form form (stream_of f)))
     go false e = omega arith
 
 -- ---- 3. a file already in the form wanted
@@ -217,54 +217,54 @@ same_form_lem s = go (in_form_two s) refl
     go false e = rw (e, e)
 
 module _ (f : List ℕ) (ok : AcceptedFile f) (bytes : AllBytes f) where
-  stays : converted (form_of (streamOf f)) f ≡ f
-  stays = ap fileOf (same_form_lem (streamOf f)) ∙ file_back f ok bytes
+  stays : converted (form_of (stream_of f)) f ≡ f
+  stays = ap file_of (same_form_lem (stream_of f)) ∙ file_back f ok bytes
 
   -- 02: "A file already in the form wanted comes out as it went in."
-  pub already_there : (form : Form) → form_of (streamOf f) ≡ form → converted form f ≡ f
+  pub already_there : (form : Form) → form_of (stream_of f) ≡ form → converted form f ≡ f
   already_there form e = rw (← e) stays
 
-  pub comes_out_as_it_went_in : (form : Form) → form_of (streamOf f) ≡ form → (out : List ℕ) → length f ≤ length out
+  pub comes_out_as_it_went_in : (form : Form) → form_of (stream_of f) ≡ form → (out : List ℕ) → length f ≤ length out
       → (convert_of form f (length out) ≡ record { refusal = 0; length = length f }) × (convert_into form f out ≡ f ++ drop (length f) out)
   comes_out_as_it_went_in form e out h =
-      let n : lossless (form_of (streamOf f)) (streamOf f) ≡ true = rw (same_form_lem (streamOf f)) at (back_loses_nothing (streamOf f) (accepted-stream f ok) (form_of (streamOf f))) in
-      let g = convert_gives (form_of (streamOf f)) f ok n out (rw stays h) in
+      let n : lossless (form_of (stream_of f)) (stream_of f) ≡ true = rw (same_form_lem (stream_of f)) at (back_loses_nothing (stream_of f) (accepted-stream f ok) (form_of (stream_of f))) in
+      let g = convert_gives (form_of (stream_of f)) f ok n out (rw stays h) in
       rw (← e) (rw stays at g)
 
 -- ---- 4. there and back
 
 module _ (form : Form) (f : List ℕ) (room : ℕ) (ok : convert_refusal form f room ≡ 0) where
-  accepted : Accepted (streamOf f)
+  accepted : Accepted (stream_of f)
   accepted = accepted-stream f (convert_file form f room ok)
 
   -- the stream of the converted file
-  pub converted-stream : streamOf (converted form f) ≡ in_form form (streamOf f)
-  converted-stream = stream_back (in_form form (streamOf f)) (accepted_in_lem (streamOf f) accepted form)
+  pub converted-stream : stream_of (converted form f) ≡ in_form form (stream_of f)
+  converted-stream = stream_back (in_form form (stream_of f)) (accepted_in_lem (stream_of f) accepted form)
 
   pub converted-accepted : AcceptedFile (converted form f)
-  converted-accepted = accepted_back (in_form form (streamOf f)) (accepted_in_lem (streamOf f) accepted form)
+  converted-accepted = accepted_back (in_form form (stream_of f)) (accepted_in_lem (stream_of f) accepted form)
 
   module _ (bytes : AllBytes f) where
-    back_is_first : converted (form_of (streamOf f)) (converted form f) ≡ f
+    back_is_first : converted (form_of (stream_of f)) (converted form f) ≡ f
     back_is_first =
-        ap (λ (s : List ℕ). fileOf (in_form (form_of (streamOf f)) s)) converted-stream
-        ∙ ap fileOf (stream_and_back (streamOf f) accepted form (convert_lossless form f room ok))
+        ap (λ (s : List ℕ). file_of (in_form (form_of (stream_of f)) s)) converted-stream
+        ∙ ap file_of (stream_and_back (stream_of f) accepted form (convert_lossless form f room ok))
         ∙ file_back f (convert_file form f room ok) bytes
 
-    back_loses : lossless (form_of (streamOf f)) (streamOf (converted form f)) ≡ true
-    back_loses = rw converted-stream (back_loses_nothing (streamOf f) accepted form)
+    back_loses : lossless (form_of (stream_of f)) (stream_of (converted form f)) ≡ true
+    back_loses = rw converted-stream (back_loses_nothing (stream_of f) accepted form)
 
     -- 02: "there and back gives the first file's bytes"
     pub there_and_back : (room' : ℕ) → length f ≤ room'
-        → (convert_refusal (form_of (streamOf f)) (converted form f) room' ≡ 0) × (converted (form_of (streamOf f)) (converted form f) ≡ f)
+        → (convert_refusal (form_of (stream_of f)) (converted form f) room' ≡ 0) × (converted (form_of (stream_of f)) (converted form f) ≡ f)
     there_and_back room' h =
-        (convert_accepts (form_of (streamOf f)) (converted form f) converted-accepted back_loses room' (rw back_is_first h), back_is_first)
+        (convert_accepts (form_of (stream_of f)) (converted form f) converted-accepted back_loses room' (rw back_is_first h), back_is_first)
 
     back_gives : (out : List ℕ) → length f ≤ length out
-        → (convert_of (form_of (streamOf f)) (converted form f) (length out) ≡ record { refusal = 0; length = length f })
-        × (convert_into (form_of (streamOf f)) (converted form f) out ≡ f ++ drop (length f) out)
+        → (convert_of (form_of (stream_of f)) (converted form f) (length out) ≡ record { refusal = 0; length = length f })
+        × (convert_into (form_of (stream_of f)) (converted form f) out ≡ f ++ drop (length f) out)
     back_gives out h =
-        rw back_is_first at (convert_gives (form_of (streamOf f)) (converted form f) converted-accepted back_loses out (rw back_is_first h))
+        rw back_is_first at (convert_gives (form_of (stream_of f)) (converted form f) converted-accepted back_loses out (rw back_is_first h))
 
 -- the file that a converting left in a lent buffer: as many bytes as it said
 abbrev pub converted_left : Form → List ℕ → List ℕ → List ℕ
@@ -272,8 +272,8 @@ converted_left form f out = take (convert_of form f (length out)).length (conver
 
 -- what an accepted converting left in any buffer, converted back into any buffer that is long enough, is the first file
 pub converts_back : (form : Form) (f out out' : List ℕ) → (convert_of form f (length out)).refusal ≡ 0 → AllBytes f → length f ≤ length out'
-    → (convert_of (form_of (streamOf f)) (converted_left form f out) (length out') ≡ record { refusal = 0; length = length f })
-    × (convert_into (form_of (streamOf f)) (converted_left form f out) out' ≡ f ++ drop (length f) out')
+    → (convert_of (form_of (stream_of f)) (converted_left form f out) (length out') ≡ record { refusal = 0; length = length f })
+    × (convert_into (form_of (stream_of f)) (converted_left form f out) out' ≡ f ++ drop (length f) out')
 unfolding convert_of convert_into
 converts_back form f out out' z bytes h =
     rw (front_of (convert_refusal form f (length out)) (converted form f) out z) (back_gives form f (length out) z bytes out' h)
@@ -281,6 +281,6 @@ converts_back form f out out' z bytes h =
 -- ---- 5. the converted file read
 
 pub converted_reads : (form : Form) (f : List ℕ) (room : ℕ) → convert_refusal form f room ≡ 0 → (out : List ℕ) → stream_size ≤ length out
-    → (read_of (converted form f) (length out) ≡ record { refusal = 0; length = length (in_form form (streamOf f)) })
-    × (readInto (converted form f) out ≡ in_form form (streamOf f) ++ drop (length (in_form form (streamOf f))) out)
-converted_reads form f room ok out h = reads_file (in_form form (streamOf f)) (accepted_in_lem (streamOf f) (accepted form f room ok) form) out h
+    → (read_of (converted form f) (length out) ≡ record { refusal = 0; length = length (in_form form (stream_of f)) })
+    × (read_into (converted form f) out ≡ in_form form (stream_of f) ++ drop (length (in_form form (stream_of f))) out)
+converted_reads form f room ok out h = reads_file (in_form form (stream_of f)) (accepted_in_lem (stream_of f) (accepted form f room ok) form) out h
