@@ -14,8 +14,8 @@ pub mod Laws
 -- ---- where a cost stands, of n units with these domain sizes
 
 -- the own cost (costs: unary cost) of value v of unit i: "unit by unit"
-abbrev pub field_own : (ℕ → ℕ) → ℕ → ℕ → ℕ
-field_own dom i v = sum_to dom i + (v - 1)
+abbrev pub own_at : (ℕ → ℕ) → ℕ → ℕ → ℕ
+own_at dom i v = sum_to dom i + (v - 1)
 
 -- the cost of value u of unit i with value v of a later unit j, behind all own costs
 abbrev pub pair_at : (ℕ → ℕ) → ℕ → ℕ → ℕ → ℕ → ℕ → ℕ
@@ -48,7 +48,7 @@ abbrev pub instance_by : (ℕ → ℕ) → ℕ → List ℕ → Instance
 instance_by dom n costs = record {
   n = n;
   dom = dom;
-  unary = λ k v. get_or costs (field_own dom k v) 0;
+  unary = λ k v. get_or costs (own_at dom k v) 0;
   cost = λ i u j v. held_cost (get_or costs (pair_at dom n i u j v) 0);
 }
 

@@ -84,7 +84,7 @@ module _ (order : ValueOrder) (I : Instance) where
       common = record {
         size = length-set s.threshold k _ ∙ b.common.size;
         digits = digits_set s.threshold k (suc (get_or s.threshold k 0)) b.common.size k16 b.common.digits (omega arith);
-        threshold-is =
+        threshold_is =
             omega (
               arith,
               rank_set k k s.threshold (suc (get_or s.threshold k 0)) (omega arith),

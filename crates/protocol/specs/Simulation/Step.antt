@@ -87,7 +87,7 @@ module _ (order : ValueOrder) (I : Instance) (free : FreeWhenUnassigned I) (laws
           prefix_stamp = r.cpa.prefix_stamp o;
           values-filled = r.cpa.values-filled;
           prefix = r.cpa.prefix o;
-          cost-is =
+          cost_is =
               let a : cost_of I (own_value (view_by order I k) s ∷ pre k s.values) ≡ Of s.cost = ap (cost_of I) (out_values o) ∙ sym (r.cpa.cost_is o) in
               let b : cost_of I (pre k s.values) ≡ cost_of I (values_at order I u.prefix) = ap (cost_of I) (r.cpa.prefix o) in
               taken_off s.cost (cost_of I (pre k s.values)) (cost_with (view_by order I k) s.values k (own_value (view_by order I k) s)) (sym a ∙ sym (cost-next order I k s.values (own_value (view_by order I k) s))) ∙ b;
@@ -120,7 +120,7 @@ module _ (order : ValueOrder) (I : Instance) (free : FreeWhenUnassigned I) (laws
           prefix_stamp = st.is;
           values-filled = filled_more m.values k (suc k) (omega arith) vs.filled;
           prefix = vs.are;
-          cost-is =
+          cost_is =
               rw (none, cost_with_prefix order I k m.values k 0 (omega arith), against_unassigned I free k (pre k m.values), sub-zero) ec;
         };
       }

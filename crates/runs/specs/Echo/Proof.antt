@@ -60,8 +60,8 @@ module _ (order : ValueOrder) (s : List ℕ) (ok : Accepted s) where
     pub reads-sent : ReadAll order (instance_of s) H.sent trace.sent
     pub reads-handed : ReadAll order (instance_of s) H.handed trace.handed
     -- what waits and what was handed over was sent, and can be written
-    pub waiting-sent : Every (λ x. In x H.sent) H.waiting
-    pub handed-sent : Every (λ x. In x H.sent) H.handed
+    pub waiting_sent : Every (λ x. In x H.sent) H.waiting
+    pub handed_sent : Every (λ x. In x H.sent) H.handed
     pub sendable : Every (Sendable (instance_of s).n (sizes_in s)) H.sent
 
   module _ (S : Shed) (H : History) (i : Traced S H) where

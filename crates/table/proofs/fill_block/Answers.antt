@@ -1,0 +1,13 @@
+-- `fill_block` meets its contract: the parts are written one behind the other, by the law that they make the block.
+-- Assumes nothing.
+use Rattle.table.specs.BlockLaws.{filled, sum_fits}
+use borrow.Author.Rules.{rules}
+use Rattle.table.proofs.fill_block.Goals as goal
+
+pub put_u16-requires-3 : goal.put_u16-requires-3
+put_u16-requires-3 c = (search rules, sum_fits _ _ c.sum-check.ensures)
+
+pub returns : goal.returns
+returns c =
+    let z = c.args in
+    filled z.number z.payload.now z.block.now c.requires.0 c.requires.1 c.put_u16.ensures c.put_u16-2.ensures c.put.ensures c.put_zeros.ensures c.sum-check.ensures c.put_u16-3.ensures
