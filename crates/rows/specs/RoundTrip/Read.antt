@@ -211,7 +211,7 @@ kept_none s names at e = ap (λ (x : Row). cond (not s.stopped && in_name (next 
 listing_eaten : (room at : ℕ) (s : Sheet) (rest : List ℕ) → s.row ≡ fresh at → s.stopped ≡ false
     → eaten room s (44 ∷ 108 ∷ 111 ∷ 116 ∷ rest) ≡ refused s s.row 0
 unfolding eaten
-listing_eaten room at s rest e free =
+listing_eaten room at s _ e free =
     let P : Sheet → Type 0 = λ t. t ≡ refused s s.row 0 in
     by_test P s.stopped (λ f. absurd (false≢true (sym free ∙ f)))
     (λ _. by_test P (eqb s.row.phase 0 && true) (λ _. refl) (λ f. absurd (false≢true (sym f ∙ ap (λ (x : Row). eqb x.phase 0 && true) e))))
