@@ -1,0 +1,43 @@
+-- `least_cost` meets its contract. The loop's invariant: `best` is the least of the first k, as a number.
+-- Assumes nothing.
+use Prim.Native.Nat.{◌-◌, ◌≤◌}
+use mathlib.Core.Path.{◌≡◌, refl, ◌∙◌}
+use native.Mathlib.Omega.{arith}
+use native.Mathlib.Nat.{mul-le-mul}
+use Rattle.projections.specs.Steps.{least-next}
+use Rattle.projections.proofs.runs.least_cost.Goals as goal
+
+pub loop-k-init : goal.loop-k-init
+loop-k-init c = (omega arith, refl, omega arith)
+
+pub overflow_mul-run : goal.overflow_mul-run
+overflow_mul-run c =
+    let k : c.loop-k.k ≤ 255 = omega (arith, c.requires.few) in
+    omega (arith, c.requires.low, mul-le-mul c.requires.near k)
+
+pub overflow_add-run : goal.overflow_add-run
+overflow_add-run c =
+    let k : c.loop-k.k ≤ 255 = omega (arith, c.requires.few) in
+    omega (arith, c.requires.low, mul-le-mul c.requires.near k)
+
+pub offset_bounds-costs-run : goal.offset_bounds-costs-run
+offset_bounds-costs-run c =
+    let k : c.loop-k.k ≤ 255 = omega (arith, c.requires.few) in
+    omega (arith, c.requires.low, mul-le-mul c.requires.near k)
+
+pub bounds-costs-run : goal.bounds-costs-run
+bounds-costs-run c =
+    omega (arith, c.requires.there c.loop-k.k c.loop-k-test.true)
+
+pub loop-k-preserved : goal.loop-k-preserved
+loop-k-preserved c =
+    let a = c.args in
+    let l = c.loop-k in
+    (omega arith, c.lesser-best.ensures.0 ∙ least-next a.run l.k l.best a.costs.now l.invariant.1 l.invariant.2 c.lesser-best.ensures.1, omega (arith, c.lesser-best.ensures.0, l.invariant.2))
+
+pub returns : goal.returns
+returns c =
+    let a = c.args in
+    let l = c.loop-k in
+    let e : l.k ≡ a.run.count = omega arith in
+    rw (← e) l.invariant.1
