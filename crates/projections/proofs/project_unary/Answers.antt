@@ -53,11 +53,11 @@ pub least_cost-requires : goal.least_cost-requires
 least_cost-requires c =
     let past = goal.at.least_cost-requires c in
     let a = c.args in
-    let u = unit past.After-lent_refusal-refusal in
-    run_inside c.own_run-all.ensures a.costs.now (own-apart a.n a.sizes (pred a.unit) (omega (arith, u.0, u.1)) a.costs.now (ok past.After-lent_refusal-refusal).count (ok past.After-lent_refusal-refusal).own)
+    let u = unit past.Else-refusal-ne0 in
+    run_inside c.own_run-all.ensures a.costs.now (own-apart a.n a.sizes (pred a.unit) (omega (arith, u.0, u.1)) a.costs.now (ok past.Else-refusal-ne0).count (ok past.Else-refusal-ne0).own)
 
 pub overflow_sub-floor : goal.overflow_sub-floor
-overflow_sub-floor c = omega (arith, (ok (goal.at.overflow_sub-floor c).After-lent_refusal-refusal).floor)
+overflow_sub-floor c = omega (arith, (ok (goal.at.overflow_sub-floor c).Else-refusal-ne0).floor)
 
 pub returns-then-floor-least : goal.returns-then-floor-least
 returns-then-floor-least c =
@@ -67,18 +67,18 @@ returns-then-floor-least c =
     let t = own-taken a.n a.sizes h (pred a.unit) c.least_cost.result c.taken-least.result c.own_run-all.ensures c.least_cost.ensures c.taken-least.ensures in
     let β = own_taken (dom_in a.n a.sizes) (pred a.unit) a.costs.now in
     let over : barred - a.floor ≤ β = omega (arith, c.if-floor-least.true, t) in
-    unary_refused a.n a.sizes h a.unit 19 (amount_over a.n a.sizes h (is_value a.n a.unit) (unary_fits (dom_in a.n a.sizes) (pred a.unit) h) (none past.After-lent_refusal-refusal) (over_left a.floor β (ok past.After-lent_refusal-refusal).floor over)) (λ z. omega arith)
+    unary_refused a.n a.sizes h a.unit 19 (amount_over a.n a.sizes h (is_value a.n a.unit) (unary_fits (dom_in a.n a.sizes) (pred a.unit) h) (none past.Else-refusal-ne0) (over_left a.floor β (ok past.Else-refusal-ne0).floor over)) (λ z. omega arith)
 
 pub shift-requires : goal.shift-requires
 shift-requires c =
     let past = goal.at.shift-requires c in
     let a = c.args in
-    let u = unit past.After-lent_refusal-refusal in
-    (run_inside c.own_run-all.ensures a.costs.now (own-apart a.n a.sizes (pred a.unit) (omega (arith, u.0, u.1)) a.costs.now (ok past.After-lent_refusal-refusal).count (ok past.After-lent_refusal-refusal).own), λ t. absurd (false≢true t))
+    let u = unit past.Else-refusal-ne0 in
+    (run_inside c.own_run-all.ensures a.costs.now (own-apart a.n a.sizes (pred a.unit) (omega (arith, u.0, u.1)) a.costs.now (ok past.Else-refusal-ne0).count (ok past.Else-refusal-ne0).own), λ t. absurd (false≢true t))
 
 pub overflow_add-risen : goal.overflow_add-risen
 overflow_add-risen c =
-    omega (arith, c.if-floor-least.false, (ok (goal.at.overflow_add-risen c).After-lent_refusal-refusal).floor)
+    omega (arith, c.if-floor-least.false, (ok (goal.at.overflow_add-risen c).Else-refusal-ne0).floor)
 
 pub returns : goal.returns
 returns c =
@@ -87,4 +87,4 @@ returns c =
     let t = own-taken a.n a.sizes h (pred a.unit) c.least_cost.result c.taken-least.result c.own_run-all.ensures c.least_cost.ensures c.taken-least.ensures in
     let β = own_taken (dom_in a.n a.sizes) (pred a.unit) a.costs.now in
     let under : β < barred - a.floor = omega (arith, c.if-floor-least.false, t) in
-    unary_done a.n a.sizes h a.unit c.taken-least.result c.shift.new.costs c.own_run-all.ensures (amount_fits a.n a.sizes h (is_value a.n a.unit) (unary_fits (dom_in a.n a.sizes) (pred a.unit) h) (none (goal.at.returns c).After-lent_refusal-refusal) (under_left a.floor β under)) t c.shift.ensures
+    unary_done a.n a.sizes h a.unit c.taken-least.result c.shift.new.costs c.own_run-all.ensures (amount_fits a.n a.sizes h (is_value a.n a.unit) (unary_fits (dom_in a.n a.sizes) (pred a.unit) h) (none (goal.at.returns c).Else-refusal-ne0) (under_left a.floor β under)) t c.shift.ensures
