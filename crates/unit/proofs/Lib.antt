@@ -1,4 +1,2 @@
 -- What the proofs of making and of the steps share.
 pub mod Calls
-pub mod InPlace
-mod Steps

@@ -35,7 +35,7 @@ returns-then-cost-part c =
     part_over a.n a.sizes a.unit a.value a.other (held_by a.floor a.costs.now) c.find_row-found.ensures a.part c.if-refusal-ne0.false c.if-cost-part.true
 
 pub raise_fits-requires : goal.raise_fits-requires
-raise_fits-requires c = inside (goal.at.raise_fits-requires c).After-row-1
+raise_fits-requires c = inside (goal.at.raise_fits-requires c).Else-refusal-ne0
 
 pub returns-then-not-raise_fits : goal.returns-then-not-raise_fits
 returns-then-not-raise_fits c =
@@ -45,16 +45,16 @@ returns-then-not-raise_fits c =
 pub shift-requires : goal.shift-requires
 shift-requires c =
     let a = c.args in
-    (inside (goal.at.shift-requires c).After-row-1, λ t. row_raisable a.n a.sizes a.unit a.value a.other (held_by a.floor a.costs.now) c.find_row-found.ensures a.part c.if-refusal-ne0.false (omega (arith, c.if-cost-part.false)) c.raise_fits.result c.raise_fits.ensures (c.if-not-raise_fits.false))
+    (inside (goal.at.shift-requires c).Else-refusal-ne0, λ t. row_raisable a.n a.sizes a.unit a.value a.other (held_by a.floor a.costs.now) c.find_row-found.ensures a.part c.if-refusal-ne0.false (omega (arith, c.if-cost-part.false)) c.raise_fits.result c.raise_fits.ensures (c.if-not-raise_fits.false))
 
 pub offset_bounds-costs-own-2 : goal.offset_bounds-costs-own-2
-offset_bounds-costs-own-2 c = omega (arith, (found (goal.at.offset_bounds-costs-own-2 c).After-row-1).low)
+offset_bounds-costs-own-2 c = omega (arith, (found (goal.at.offset_bounds-costs-own-2 c).Else-refusal-ne0).low)
 
 pub bounds-costs-own-2 : goal.bounds-costs-own-2
 bounds-costs-own-2 c =
     let a = c.args in
     let k : length c.shift.new.costs ≡ length a.costs.now = search rules in
-    omega (arith, (found (goal.at.bounds-costs-own-2 c).After-row-1).there, k)
+    omega (arith, (found (goal.at.bounds-costs-own-2 c).Else-refusal-ne0).there, k)
 
 pub returns : goal.returns
 returns c =

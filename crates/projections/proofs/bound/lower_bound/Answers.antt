@@ -5,7 +5,7 @@ use mathlib.Core.Path.{◌≡◌, ap, ◌∙◌}
 use native.Mathlib.Omega.{arith}
 use lib.ListN.{length}
 use Rattle.projections.specs.Moves.{answer_of}
-use Rattle.projections.specs.Made.Steps.{bound_refused, held-part, bound_left, projected_is}
+use Rattle.projections.specs.Made.Steps.{held_room, bound_refused, held-part, bound_left, projected_is}
 use borrow.Author.Rules.{rules}
 use Rattle.projections.proofs.bound.lower_bound.Goals as goal
 
@@ -23,3 +23,8 @@ returns c =
     let k : length c.hold-held.new.out ≡ length c.args.out.now = search rules in
     let n : c.hold-held.result.length - 0 ≡ length new = search rules in
     bound_left c.args.stream.now c.args.out.now c.hold-held.result c.hold-held.ensures.0 c.if-refusal-ne0.false c.hold-held.new.out c.hold-held.ensures.1 c.project_all.result new (c.hold-held.result.length - 0) m l n (omega arith)
+
+pub slice_bounds-project_all-end : goal.slice_bounds-project_all-end
+slice_bounds-project_all-end c =
+    let k : length c.hold-held.new.out ≡ length c.args.out.now = search rules in
+    omega (arith, k, held_room c.args.stream.now c.args.out.now c.hold-held.result c.hold-held.ensures.0 c.if-refusal-ne0.false)
