@@ -1,0 +1,18 @@
+-- `network::echoing::add` meets its contract: where what was sent fits, it is copied in behind. Assumes nothing.
+use Rattle.std.specs.Prelude.{◌≡◌, ◌+◌, true, false, leb}
+use mathlib.Core.Path.{ap}
+use borrow.Author.Tests.{le-leb, lt-leb}
+use Rattle.runs.specs.declared.Network.{Network}
+use Rattle.network.proofs.echoing.add.Goals as goal
+
+pub returns-then-used-sent-gt-CELLS : goal.returns-then-used-sent-gt-CELLS
+returns-then-used-sent-gt-CELLS c =
+    let a = c.args in
+    let f : leb (a.net.used + a.r.sent) 1024 ≡ false = lt-leb _ 1024 c.if-used-sent-gt-CELLS.true in
+    (rw f, rw f)
+
+pub returns : goal.returns
+returns c =
+    let a = c.args in
+    let t : leb (a.net.used + a.r.sent) 1024 ≡ true = le-leb _ 1024 c.if-used-sent-gt-CELLS.false in
+    (rw t (ap (λ (n : Network). record { refusal = 0; network = n }) c.advance.ensures), rw t c.copy_in.ensures)
