@@ -11,8 +11,8 @@ use Rattle.network.proofs.delivery.hand_over.Goals as goal
 use Rattle.network.proofs.delivery.hand_over.Goals.{Start, After-receiver-own, After-step-r}
 
 -- the message
-abbrev bytes : tie.Start → List ℕ
-bytes z = take (64 * z.args.cell + 64 - 64 * z.args.cell) (drop (64 * z.args.cell) z.args.pool.now)
+abbrev bytes : Start → List ℕ
+bytes c = take (64 * c.args.cell + 64 - 64 * c.args.cell) (drop (64 * c.args.cell) c.args.pool.now)
 
 stands : (c : Start) → bytes c ≡ cell_of c.args.pool.now c.args.cell
 stands c = let m : 64 * c.args.cell + 64 - 64 * c.args.cell ≡ 64 = omega arith in rw m

@@ -56,10 +56,10 @@ returns c =
     rw e at l.invariant.2
 
 pub bounds-starts-place : goal.bounds-starts-place
-bounds-starts-place c = omega (arith, few (goal.at.bounds-starts-place c).In-loop-k-unread)
+bounds-starts-place c = omega (arith, c.loop-k-test.true, (units (goal.at.bounds-starts-place c).After-sizes_of-sizes).1)
 
 pub bounds-starts-place-in-loop-k : goal.bounds-starts-place-in-loop-k
-bounds-starts-place-in-loop-k c = omega (arith, few (goal.at.bounds-starts-place-in-loop-k c).In-loop-k-unread-2)
+bounds-starts-place-in-loop-k c = omega (arith, c.loop-k-test.true, (units (goal.at.bounds-starts-place-in-loop-k c).After-sizes_of-sizes).1)
 
 pub overflow_add-seat : goal.overflow_add-seat
 overflow_add-seat c = record { fits = omega (arith, few (goal.at.overflow_add-seat c).In-loop-k) }

@@ -6,13 +6,9 @@ use mathlib.Core.Path.{refl, sym, ap, ◌∙◌}
 use mathlib.Core.Logic.{inl, inr, ⊎_elim}
 use native.Mathlib.Omega.{arith}
 use lib.ListN.{length-replicate}
-use denote.Enum.Declared.{tag_of}
 use borrow.Author.Rules.{rules}
 use Rattle.table.specs.Stream.{Accepted}
-use Rattle.rules.specs.contracts.Way.{the_type}
 use Rattle.rules.specs.declared.Unit.{Unit as UnitState}
-use Rattle.rules.specs.declared.Way.{Way}
-use Rattle.rules.specs.declared.Way.TheVariants.{Quiet, Reply, Follow, Store, Lower, Whole}
 use Rattle.rules.specs.Units.{unit_at}
 use Rattle.runs.specs.declared.Network.{Network}
 use Rattle.runs.specs.Count.Laws.{Words, plus_words}
@@ -24,7 +20,7 @@ use Rattle.runs.specs.Lending.{no_outlook}
 use Rattle.runs.specs.Settle.Laws.{After, made_table, reached_start, reached_accepted, reached_next, measure_falls}
 use Rattle.runs.specs.Short.{Heard, Turned, way_code, kept-turned, changed_turned, whole_handed, turn-first, turn-place, turn-order, turn_end, turn_long, turn_oldest, turn_delivers}
 use Rattle.network.proofs.settling.run.Goals as goal
-use Rattle.network.proofs.settling.run.Goals.{Start, After-first_seat-first, In-loop-lent, After-seat_of-seat, After-hear-turn, In-Whole, Joined-way, After-plus-core-in-loop-lent}
+use Rattle.network.proofs.settling.run.Goals.{in-Quiet, in-Follow, in-Store, in-Lower, in-Whole, Start, After-first_seat-first, In-loop-lent, After-seat_of-seat, After-hear-turn, In-Whole, Joined-way, After-plus-core-in-loop-lent}
 
 -- the stream is an accepted one
 table : (c : Start) → Accepted c.args.stream.now
@@ -62,22 +58,25 @@ loop-lent-init c =
 pub returns : goal.returns
 returns c = record { stopped = sym c.has_stopped.ensures ∙ c.loop-lent-test.false; after = rw (ordered (goal.at.returns c).After-first_seat-first) at c.loop-lent.invariant.2 }
 
+pub slice_bounds-seat_of-end : goal.slice_bounds-seat_of-end
+slice_bounds-seat_of-end c = let l = (passed (goal.at.slice_bounds-seat_of-end c).In-loop-lent).passed.room in search rules
+
 -- the unit that the message is for, and the costs lent with it
 module _ (c : After-seat_of-seat) where
   first : 1 ≤ c.seat_of-seat.result.own
-  first = turn-first c.args.order c.args.stream.now (net (goal.at.After-seat_of-seat c).After-has_stopped) c.loop-lent.pool (accepted (goal.at.After-seat_of-seat c).After-has_stopped) c.first_seat-first.result c.seat_of-seat.result c.first_seat-first.ensures c.seat_of-seat.ensures.0 c.seat_of-seat.ensures.1 c.lend-loans.result.starts c.lend-loans.new.out c.lend-loans.ensures.0 c.lend-loans.result.looks c.lend-loans.ensures.1
+  first = turn-first c.args.order c.args.stream.now (net (goal.at.After-seat_of-seat c).In-loop-lent) c.loop-lent.pool (accepted (goal.at.After-seat_of-seat c).In-loop-lent) c.first_seat-first.result c.seat_of-seat.result c.first_seat-first.ensures c.seat_of-seat.ensures.0 c.seat_of-seat.ensures.1 c.lend-loans.result.starts c.lend-loans.new.out c.lend-loans.ensures.0 c.lend-loans.result.looks c.lend-loans.ensures.1
 
   place : c.seat_of-seat.result.own - 1 < 16
-  place = turn-place c.args.order c.args.stream.now (net (goal.at.After-seat_of-seat c).After-has_stopped) c.loop-lent.pool (accepted (goal.at.After-seat_of-seat c).After-has_stopped) c.first_seat-first.result c.seat_of-seat.result c.first_seat-first.ensures c.seat_of-seat.ensures.0 c.seat_of-seat.ensures.1 c.lend-loans.result.starts c.lend-loans.new.out c.lend-loans.ensures.0 c.lend-loans.result.looks c.lend-loans.ensures.1
+  place = turn-place c.args.order c.args.stream.now (net (goal.at.After-seat_of-seat c).In-loop-lent) c.loop-lent.pool (accepted (goal.at.After-seat_of-seat c).In-loop-lent) c.first_seat-first.result c.seat_of-seat.result c.first_seat-first.ensures c.seat_of-seat.ensures.0 c.seat_of-seat.ensures.1 c.lend-loans.result.starts c.lend-loans.new.out c.lend-loans.ensures.0 c.lend-loans.result.looks c.lend-loans.ensures.1
 
   following : get_or c.lend-loans.result.starts (c.seat_of-seat.result.own - 1) 0 ≤ get_or c.lend-loans.result.starts (c.seat_of-seat.result.own - 1 + 1) 0
-  following = turn-order c.args.order c.args.stream.now (net (goal.at.After-seat_of-seat c).After-has_stopped) c.loop-lent.pool (accepted (goal.at.After-seat_of-seat c).After-has_stopped) c.first_seat-first.result c.seat_of-seat.result c.first_seat-first.ensures c.seat_of-seat.ensures.0 c.seat_of-seat.ensures.1 c.lend-loans.result.starts c.lend-loans.new.out c.lend-loans.ensures.0 c.lend-loans.result.looks c.lend-loans.ensures.1
+  following = turn-order c.args.order c.args.stream.now (net (goal.at.After-seat_of-seat c).In-loop-lent) c.loop-lent.pool (accepted (goal.at.After-seat_of-seat c).In-loop-lent) c.first_seat-first.result c.seat_of-seat.result c.first_seat-first.ensures c.seat_of-seat.ensures.0 c.seat_of-seat.ensures.1 c.lend-loans.result.starts c.lend-loans.new.out c.lend-loans.ensures.0 c.lend-loans.result.looks c.lend-loans.ensures.1
 
   ends : get_or c.lend-loans.result.starts (c.seat_of-seat.result.own - 1 + 1) 0 ≤ length c.lend-loans.new.out
-  ends = turn_end c.args.order c.args.stream.now (net (goal.at.After-seat_of-seat c).After-has_stopped) c.loop-lent.pool (accepted (goal.at.After-seat_of-seat c).After-has_stopped) c.first_seat-first.result c.seat_of-seat.result c.first_seat-first.ensures c.seat_of-seat.ensures.0 c.seat_of-seat.ensures.1 c.lend-loans.result.starts c.lend-loans.new.out c.lend-loans.ensures.0 c.lend-loans.result.looks c.lend-loans.ensures.1
+  ends = turn_end c.args.order c.args.stream.now (net (goal.at.After-seat_of-seat c).In-loop-lent) c.loop-lent.pool (accepted (goal.at.After-seat_of-seat c).In-loop-lent) c.first_seat-first.result c.seat_of-seat.result c.first_seat-first.ensures c.seat_of-seat.ensures.0 c.seat_of-seat.ensures.1 c.lend-loans.result.starts c.lend-loans.new.out c.lend-loans.ensures.0 c.lend-loans.result.looks c.lend-loans.ensures.1
 
   long : length (get_or c.lend-loans.result.looks (c.seat_of-seat.result.own - 1) no_outlook).ahead ≡ 16
-  long = turn_long c.args.order c.args.stream.now (net (goal.at.After-seat_of-seat c).After-has_stopped) c.loop-lent.pool (accepted (goal.at.After-seat_of-seat c).After-has_stopped) c.first_seat-first.result c.seat_of-seat.result c.first_seat-first.ensures c.seat_of-seat.ensures.0 c.seat_of-seat.ensures.1 c.lend-loans.result.starts c.lend-loans.new.out c.lend-loans.ensures.0 c.lend-loans.result.looks c.lend-loans.ensures.1
+  long = turn_long c.args.order c.args.stream.now (net (goal.at.After-seat_of-seat c).In-loop-lent) c.loop-lent.pool (accepted (goal.at.After-seat_of-seat c).In-loop-lent) c.first_seat-first.result c.seat_of-seat.result c.first_seat-first.ensures c.seat_of-seat.ensures.0 c.seat_of-seat.ensures.1 c.lend-loans.result.starts c.lend-loans.new.out c.lend-loans.ensures.0 c.lend-loans.result.looks c.lend-loans.ensures.1
 
   abbrev costs : List ℕ
   costs = take (get_or c.lend-loans.result.starts (c.seat_of-seat.result.own - 1 + 1) 0 - get_or c.lend-loans.result.starts (c.seat_of-seat.result.own - 1) 0) (drop (get_or c.lend-loans.result.starts (c.seat_of-seat.result.own - 1) 0) c.lend-loans.new.out)
@@ -89,7 +88,7 @@ module _ (c : After-seat_of-seat) where
   unit = unit_at c.loop-lent.core.units (c.seat_of-seat.result.own - 1)
 
   abbrev oldest : Oldest c.seat_of-seat.result.order unit c.seat_of-seat.result.own c.seat_of-seat.result.n c.seat_of-seat.result.sizes costs ahead c.loop-lent.pool c.loop-lent.used
-  oldest = turn_oldest c.args.order c.args.stream.now (net (goal.at.After-seat_of-seat c).After-has_stopped) c.loop-lent.pool (accepted (goal.at.After-seat_of-seat c).After-has_stopped) c.first_seat-first.result c.seat_of-seat.result c.first_seat-first.ensures c.seat_of-seat.ensures.0 c.seat_of-seat.ensures.1 c.lend-loans.result.starts c.lend-loans.new.out c.lend-loans.ensures.0 c.lend-loans.result.looks c.lend-loans.ensures.1
+  oldest = turn_oldest c.args.order c.args.stream.now (net (goal.at.After-seat_of-seat c).In-loop-lent) c.loop-lent.pool (accepted (goal.at.After-seat_of-seat c).In-loop-lent) c.first_seat-first.result c.seat_of-seat.result c.first_seat-first.ensures c.seat_of-seat.ensures.0 c.seat_of-seat.ensures.1 c.lend-loans.result.starts c.lend-loans.new.out c.lend-loans.ensures.0 c.lend-loans.result.looks c.lend-loans.ensures.1
 
 pub overflow_sub-place : goal.overflow_sub-place
 overflow_sub-place c = first (goal.at.overflow_sub-place c).After-seat_of-seat
@@ -97,21 +96,33 @@ overflow_sub-place c = first (goal.at.overflow_sub-place c).After-seat_of-seat
 pub slice_bounds-hear-count : goal.slice_bounds-hear-count
 slice_bounds-hear-count c = following (goal.at.slice_bounds-hear-count c).After-seat_of-seat
 
+pub slice_bounds-hear-start : goal.slice_bounds-hear-start
+slice_bounds-hear-start c = let l = following (goal.at.slice_bounds-hear-start c).After-seat_of-seat in search rules
+
+pub slice_bounds-hear-end : goal.slice_bounds-hear-end
+slice_bounds-hear-end c = let l = ends (goal.at.slice_bounds-hear-end c).After-seat_of-seat in search rules
+
 pub slice_bounds-hear-end-in-loop-lent : goal.slice_bounds-hear-end-in-loop-lent
-slice_bounds-hear-end-in-loop-lent c = let l = long (goal.at.slice_bounds-hear-end-in-loop-lent c).After-seat_of-arg-1 in search rules
+slice_bounds-hear-end-in-loop-lent c = let l = long (goal.at.slice_bounds-hear-end-in-loop-lent c).After-seat_of-seat in search rules
 
 pub hear-turn-requires : goal.hear-turn-requires
-hear-turn-requires c = oldest (goal.at.hear-turn-requires c).After-seat_of-arg-1
+hear-turn-requires c = oldest (goal.at.hear-turn-requires c).After-seat_of-seat
 
 pub slice_bounds-decided-count : goal.slice_bounds-decided-count
-slice_bounds-decided-count c = following (goal.at.slice_bounds-decided-count c).After-seat_of-arg-1
+slice_bounds-decided-count c = following (goal.at.slice_bounds-decided-count c).After-seat_of-seat
+
+pub slice_bounds-decided-start : goal.slice_bounds-decided-start
+slice_bounds-decided-start c = let l = following (goal.at.slice_bounds-decided-start c).After-seat_of-seat in search rules
+
+pub slice_bounds-decided-end : goal.slice_bounds-decided-end
+slice_bounds-decided-end c = let l = ends (goal.at.slice_bounds-decided-end c).After-seat_of-seat in search rules
 
 pub slice_bounds-decided-end-in-Whole : goal.slice_bounds-decided-end-in-Whole
-slice_bounds-decided-end-in-Whole c = let l = long (goal.at.slice_bounds-decided-end-in-Whole c).In-loop-lent in search rules
+slice_bounds-decided-end-in-Whole c = let l = long (goal.at.slice_bounds-decided-end-in-Whole c).After-seat_of-seat in search rules
 
 -- what is known of the message once it was heard
-told : (c : After-hear-turn) → Heard (oldest (goal.at.After-hear-turn c).After-seat_of-arg-1) c.hear-turn.result.way c.hear-turn.result.message c.hear-turn.result.sent c.hear-turn.new.pool
-told c = c.hear-turn.ensures.0 (oldest (goal.at.After-hear-turn c).After-seat_of-arg-1)
+told : (c : After-hear-turn) → Heard (oldest (goal.at.After-hear-turn c).After-seat_of-seat) c.hear-turn.result.way c.hear-turn.result.message c.hear-turn.result.sent c.hear-turn.new.pool
+told c = c.hear-turn.ensures.0 (oldest (goal.at.After-hear-turn c).After-seat_of-seat)
 
 -- the whole way finds the pool as it was
 unmoved : (c : In-Whole) → c.hear-turn.new.pool ≡ c.loop-lent.pool
@@ -120,61 +131,49 @@ unmoved c = rw c.in-Whole.is at (told (goal.at.In-Whole c).After-hear-turn)
 pub send_on-sent-requires : goal.send_on-sent-requires
 send_on-sent-requires c =
     let past = goal.at.send_on-sent-requires c in
-    let p = passed past.At-loop-lent in
+    let p = passed past.In-loop-lent in
     (p.here, p.passed.few, rw (unmoved past.In-Whole) p.passed.room)
 
--- the number of a way
-coded : (way : Way) → tag_of the_type way ≡ way_code way
-coded Quiet = refl
-coded Reply = refl
-coded Follow = refl
-coded Store = refl
-coded Lower = refl
-coded Whole = refl
-
 -- whichever way it goes, the message was handed over
-turned : (c : Joined-way) → Turned (oldest (goal.at.Joined-way c).After-seat_of-arg-1) c.loop-lent.core (c.seat_of-seat.result.own - 1) c.match-way.pool c.match-way.core c.match-way.sent
+turned : (c : Joined-way) → Turned (oldest (goal.at.Joined-way c).After-seat_of-seat) c.loop-lent.core (c.seat_of-seat.result.own - 1) c.match-way.pool c.match-way.core c.match-way.sent
 turned c =
     let h = c.hear-turn in
-    let t = oldest (goal.at.Joined-way c).After-seat_of-arg-1 in
+    let t = oldest (goal.at.Joined-way c).After-seat_of-seat in
     let k = c.seat_of-seat.result.own - 1 in
     let l = c.loop-lent in
     let q = told (goal.at.Joined-way c).After-hear-turn in
     let m = h.result.message in
     let p = h.new.pool in
-    ⊎_elim
-    (λ w. rw (w.1, w.2, w.3) (kept-turned l.core k t l.invariant.1 m h.result.sent p h.result.way (rw (coded h.result.way) at w.0.keys1) q))
-    (λ w.
-    ⊎_elim
-    (λ v. rw (v.4, v.5, v.6) (changed_turned l.core k t l.invariant.1 m h.result.sent p v.3.result h.result.way (inl (ap way_code v.1.given.1)) q v.3.ensures))
-    (λ w.
-    ⊎_elim
-    (λ v. rw (v.4, v.5, v.6) (changed_turned l.core k t l.invariant.1 m h.result.sent p v.3.result h.result.way (inr (inl (ap way_code v.1.given.1))) q v.3.ensures))
-    (λ w.
-    ⊎_elim
-    (λ v. rw (v.4, v.5, v.6) (changed_turned l.core k t l.invariant.1 m h.result.sent p v.3.result h.result.way (inr (inr (ap way_code v.1.given.1))) q v.3.ensures))
-    (λ v.
-    let stays : p ≡ l.pool = rw v.1.given.1 at q in
-    rw (v.15, v.16, v.17)
-    (record {
-      outcome = record { refusal = 0; unit = v.6.result.unit; sent = v.12.result; records = v.6.result.records };
-      handed = whole_handed t h.ensures.2 (record { message = m; answer = h.result.read }) h.ensures.1 v.6.result v.6.ensures v.12.result v.12.last.1.1.0 (rw stays at v.12.ensures);
-      state = rw v.10.ensures;
-      count = refl;
-    }))
-    w)
-    w)
-    w)
-    c.match-way.branch
+    elim c.match-way.branch [
+      in-Quiet w ↦ rw (w.pool-is, w.core-is, w.sent-is) (kept-turned l.core k t l.invariant.1 m h.result.sent p h.result.way (⊎_elim (λ e. inl (ap way_code e)) (λ e. inr (ap way_code e)) w.in-Quiet.is) q)
+      | in-Follow w ↦ rw (w.pool-is, w.core-is, w.sent-is) (changed_turned l.core k t l.invariant.1 m h.result.sent p w.changed.result h.result.way (inl (ap way_code w.in-Follow.is)) q w.changed.ensures)
+      | in-Store w ↦ rw (w.pool-is, w.core-is, w.sent-is) (changed_turned l.core k t l.invariant.1 m h.result.sent p w.changed-in-Store.result h.result.way (inr (inl (ap way_code w.in-Store.is))) q w.changed-in-Store.ensures)
+      | in-Lower w ↦ rw (w.pool-is, w.core-is, w.sent-is) (changed_turned l.core k t l.invariant.1 m h.result.sent p w.changed-in-Lower.result h.result.way (inr (inr (ap way_code w.in-Lower.is))) q w.changed-in-Lower.ensures)
+      | in-Whole w ↦
+        let stays : p ≡ l.pool = rw w.in-Whole.is at q in
+        rw (w.pool-is, w.core-is, w.sent-is)
+        (record {
+          outcome = record { refusal = 0; unit = w.decided-d.result.unit; sent = w.send_on-sent.result; records = w.decided-d.result.records };
+          handed = whole_handed t h.ensures.2 (record { message = m; answer = h.result.read }) h.ensures.1 w.decided-d.result w.decided-d.ensures w.send_on-sent.result w.send_on-sent.new.pool (rw stays at w.send_on-sent.ensures);
+          state = rw w.plus-core.ensures;
+          count = refl;
+        })
+    ]
 
 -- the pool is as long as it was
-long-pool : (c : Joined-way) → length c.match-way.pool ≡ length c.args.pool.now
-long-pool c =
-    let h : length c.hear-turn.new.pool ≡ length c.args.pool.now = omega (arith, c.pool-in-Whole-1.given, c.loop-lent.invariant.0) in
-    ⊎_elim (λ w. rw w.1 h) (λ w. ⊎_elim (λ v. rw v.4 h) (λ w. ⊎_elim (λ v. rw v.4 h) (λ w. ⊎_elim (λ v. rw v.4 h) (λ v. rw v.15 (omega (arith, v.13.given, h))) w) w) w) c.match-way.branch
+pool_stays : (c : Joined-way) → length c.match-way.pool ≡ length c.args.pool.now
+pool_stays c =
+    let h : length c.hear-turn.new.pool ≡ length c.args.pool.now = search rules in
+    elim c.match-way.branch [
+      in-Quiet w ↦ rw w.pool-is h
+      | in-Follow w ↦ rw w.pool-is h
+      | in-Store w ↦ rw w.pool-is h
+      | in-Lower w ↦ rw w.pool-is h
+      | in-Whole w ↦ rw w.pool-is (let s : length w.send_on-sent.new.pool ≡ length c.hear-turn.new.pool = search rules in omega (arith, s, h))
+    ]
 
 pub overflow_sub-used : goal.overflow_sub-used
-overflow_sub-used c = (passed (goal.at.overflow_sub-used c).After-has_stopped-arg-1).here
+overflow_sub-used c = (passed (goal.at.overflow_sub-used c).In-loop-lent).here
 
 pub overflow_add-used : goal.overflow_add-used
 overflow_add-used c = let t = turned (goal.at.overflow_add-used c).Joined-way in record { fits = omega (arith, t.handed.2, t.count) }
@@ -184,22 +183,22 @@ module _ (c : After-plus-core-in-loop-lent) where
   abbrev next : Network
   next = record { core = record { units = c.match-way.core.units; records = c.match-way.core.records; deliveries = c.plus-core-in-loop-lent.result }; used = c.loop-lent.used - 1 + c.match-way.sent }
 
-  delivered : (record { refusal = 0; network = next } ≡ (deliver_of c.args.order (net (goal.at.After-plus-core-in-loop-lent c).After-has_stopped-arg-1) c.args.stream.now c.loop-lent.pool 0).answer) × (c.match-way.pool ≡ (deliver_of c.args.order (net (goal.at.After-plus-core-in-loop-lent c).After-has_stopped-arg-1) c.args.stream.now c.loop-lent.pool 0).pool)
-  delivered = turn_delivers c.args.order c.args.stream.now (net (goal.at.After-plus-core-in-loop-lent c).After-has_stopped-arg-1) c.loop-lent.pool (accepted (goal.at.After-plus-core-in-loop-lent c).After-has_stopped-arg-1) c.first_seat-first.result c.seat_of-seat.result c.first_seat-first.ensures c.seat_of-seat.ensures.0 c.seat_of-seat.ensures.1 c.lend-loans.result.starts c.lend-loans.new.out c.lend-loans.ensures.0 c.lend-loans.result.looks c.lend-loans.ensures.1 c.match-way.core c.match-way.sent c.match-way.pool (turned (goal.at.After-plus-core-in-loop-lent c).Joined-way) c.plus-core-in-loop-lent.result c.plus-core-in-loop-lent.ensures
+  delivered : (record { refusal = 0; network = next } ≡ (deliver_of c.args.order (net (goal.at.After-plus-core-in-loop-lent c).In-loop-lent) c.args.stream.now c.loop-lent.pool 0).answer) × (c.match-way.pool ≡ (deliver_of c.args.order (net (goal.at.After-plus-core-in-loop-lent c).In-loop-lent) c.args.stream.now c.loop-lent.pool 0).pool)
+  delivered = turn_delivers c.args.order c.args.stream.now (net (goal.at.After-plus-core-in-loop-lent c).In-loop-lent) c.loop-lent.pool (accepted (goal.at.After-plus-core-in-loop-lent c).In-loop-lent) c.first_seat-first.result c.seat_of-seat.result c.first_seat-first.ensures c.seat_of-seat.ensures.0 c.seat_of-seat.ensures.1 c.lend-loans.result.starts c.lend-loans.new.out c.lend-loans.ensures.0 c.lend-loans.result.looks c.lend-loans.ensures.1 c.match-way.core c.match-way.sent c.match-way.pool (turned (goal.at.After-plus-core-in-loop-lent c).Joined-way) c.plus-core-in-loop-lent.result c.plus-core-in-loop-lent.ensures
 
 pub loop-lent-smaller : goal.loop-lent-smaller
 loop-lent-smaller c =
     let past = goal.at.loop-lent-smaller c in
-    measure_falls c.args.order c.args.stream.now c.requires.pool (record { refusal = 0; network = c.args.net }) c.args.pool.now c.requires.gave refl (net past.After-has_stopped-arg-1) c.loop-lent.pool (reached past.After-has_stopped-arg-1) (record { refusal = 0; network = next past.After-plus-core-in-loop-lent }) c.match-way.pool (delivered past.After-plus-core-in-loop-lent) (goes_on past.After-has_stopped-arg-1)
+    measure_falls c.args.order c.args.stream.now c.requires.pool (record { refusal = 0; network = c.args.net }) c.args.pool.now c.requires.gave refl (net past.In-loop-lent) c.loop-lent.pool (reached past.In-loop-lent) (record { refusal = 0; network = next past.After-plus-core-in-loop-lent }) c.match-way.pool (delivered past.After-plus-core-in-loop-lent) (goes_on past.In-loop-lent)
 
 pub loop-lent-preserved : goal.loop-lent-preserved
 loop-lent-preserved c =
     let past = goal.at.loop-lent-preserved c in
     let t = turned past.Joined-way in
     (
-      long-pool past.Joined-way,
+      pool_stays past.Joined-way,
       rw t.state (plus_words t.outcome.records c.loop-lent.core.records),
-      rw (ordered past.After-lend-loans) (reached_next c.args.order c.args.stream.now c.requires.pool (record { refusal = 0; network = c.args.net }) c.args.pool.now c.requires.gave refl (net past.After-has_stopped-arg-1) c.loop-lent.pool (reached past.After-has_stopped-arg-1) (record { refusal = 0; network = next past.After-plus-core-in-loop-lent }) c.match-way.pool (delivered past.After-plus-core-in-loop-lent) (goes_on past.After-has_stopped-arg-1)),
+      rw (ordered past.After-first_seat-first) (reached_next c.args.order c.args.stream.now c.requires.pool (record { refusal = 0; network = c.args.net }) c.args.pool.now c.requires.gave refl (net past.In-loop-lent) c.loop-lent.pool (reached past.In-loop-lent) (record { refusal = 0; network = next past.After-plus-core-in-loop-lent }) c.match-way.pool (delivered past.After-plus-core-in-loop-lent) (goes_on past.In-loop-lent)),
     )
 
 pub bounds-loans-place : goal.bounds-loans-place
@@ -212,13 +211,31 @@ pub bounds-loans-place-in-loop-lent-2 : goal.bounds-loans-place-in-loop-lent-2
 bounds-loans-place-in-loop-lent-2 c = omega (arith, place (goal.at.bounds-loans-place-in-loop-lent-2 c).After-seat_of-seat)
 
 pub bounds-core-place : goal.bounds-core-place
-bounds-core-place c = omega (arith, place (goal.at.bounds-core-place c).After-seat_of-arg-1)
+bounds-core-place c = omega (arith, place (goal.at.bounds-core-place c).After-seat_of-seat)
 
 pub bounds-core-place-in-Whole : goal.bounds-core-place-in-Whole
-bounds-core-place-in-Whole c = omega (arith, place (goal.at.bounds-core-place-in-Whole c).In-loop-lent)
+bounds-core-place-in-Whole c = omega (arith, place (goal.at.bounds-core-place-in-Whole c).After-seat_of-seat)
 
 pub offset_bounds-core-place-in-Whole-2 : goal.offset_bounds-core-place-in-Whole-2
-offset_bounds-core-place-in-Whole-2 c = record { fits = omega (arith, place (goal.at.offset_bounds-core-place-in-Whole-2 c).In-loop-lent) }
+offset_bounds-core-place-in-Whole-2 c = record { fits = omega (arith, place (goal.at.offset_bounds-core-place-in-Whole-2 c).After-seat_of-seat) }
 
 pub bounds-core-place-in-Whole-2 : goal.bounds-core-place-in-Whole-2
-bounds-core-place-in-Whole-2 c = omega (arith, place (goal.at.bounds-core-place-in-Whole-2 c).In-loop-lent)
+bounds-core-place-in-Whole-2 c = omega (arith, place (goal.at.bounds-core-place-in-Whole-2 c).After-seat_of-seat)
+
+pub bounds-core-place-in-Follow : goal.bounds-core-place-in-Follow
+bounds-core-place-in-Follow c = omega (arith, place (goal.at.bounds-core-place-in-Follow c).After-seat_of-seat)
+
+pub bounds-core-place-in-Follow-2 : goal.bounds-core-place-in-Follow-2
+bounds-core-place-in-Follow-2 c = omega (arith, place (goal.at.bounds-core-place-in-Follow-2 c).After-seat_of-seat)
+
+pub bounds-core-place-in-Store : goal.bounds-core-place-in-Store
+bounds-core-place-in-Store c = omega (arith, place (goal.at.bounds-core-place-in-Store c).After-seat_of-seat)
+
+pub bounds-core-place-in-Store-2 : goal.bounds-core-place-in-Store-2
+bounds-core-place-in-Store-2 c = omega (arith, place (goal.at.bounds-core-place-in-Store-2 c).After-seat_of-seat)
+
+pub bounds-core-place-in-Lower : goal.bounds-core-place-in-Lower
+bounds-core-place-in-Lower c = omega (arith, place (goal.at.bounds-core-place-in-Lower c).After-seat_of-seat)
+
+pub bounds-core-place-in-Lower-2 : goal.bounds-core-place-in-Lower-2
+bounds-core-place-in-Lower-2 c = omega (arith, place (goal.at.bounds-core-place-in-Lower-2 c).After-seat_of-seat)
