@@ -36,11 +36,13 @@ use Rattle.rules.specs.Laws.Calls.{step_of_packet}
 use Rattle.rules.specs.Laws.Units.{AllInRange, Leaves, receiver_unit, place_in, step_in_range}
 use Rattle.protocol.specs.Machine as M
 use Rattle.protocol.specs.Machine.{to, Network}
-use Rattle.protocol.specs.Air.Theorem.{KeptOnAir, accept_kept}
+use Rattle.protocol.specs.Air.Theorem.{KeptOnAir}
+use Rattle.protocol.proofs.Air.Theorem.{accept_kept}
 use Rattle.protocol.specs.Simulation.Relations.{ReadAll, read_append}
-use Rattle.protocol.specs.Simulation.Units as X
-use Rattle.protocol.specs.Simulation.Units.{read_to, read_cut, Matches, Simulated, StepsTo, step_simulated}
-use Rattle.protocol.specs.Simulation.Table.{stream-free, laws, views}
+use Rattle.protocol.proofs.Simulation.Units as X
+use Rattle.protocol.specs.Simulation.Units.{Matches, Simulated, StepsTo}
+use Rattle.protocol.proofs.Simulation.Units.{read_to, read_cut, step_simulated}
+use Rattle.protocol.proofs.Simulation.Table.{stream-free, laws, views}
 use Rattle.boxes.specs.Boxes.{step_box, Boxes, boxes_after, receiver_in, answer_to, hear_at, hear}
 
 -- ---- the air as packets

@@ -33,9 +33,11 @@ use Rattle.rules.specs.Laws.Calls.{make_starts}
 use Rattle.rules.specs.Laws.Units.{set_unit, AllInRange, Leaves, start_in_range}
 use Rattle.protocol.specs.Machine as M
 use Rattle.protocol.specs.Machine.{Agent, Result}
-use Rattle.protocol.specs.Air.Theorem.{KeptOnAir, make_on_air}
-use Rattle.protocol.specs.Simulation.Units.{Matches, Simulated, start_simulated}
-use Rattle.protocol.specs.Simulation.Table.{stream-free, laws, views}
+use Rattle.protocol.specs.Air.Theorem.{KeptOnAir}
+use Rattle.protocol.proofs.Air.Theorem.{make_on_air}
+use Rattle.protocol.specs.Simulation.Units.{Matches, Simulated}
+use Rattle.protocol.proofs.Simulation.Units.{start_simulated}
+use Rattle.protocol.proofs.Simulation.Table.{stream-free, laws, views}
 use Rattle.boxes.specs.Boxes.{make_box, number_of, Boxes, boxes_after, made_to, all_made}
 use Rattle.boxes.specs.Invariant.{Invariant}
 

@@ -33,10 +33,10 @@ use Rattle.rules.specs.Laws.Units.{place_in, best_padded}
 use Rattle.protocol.specs.Machine.{Msg, to}
 use Rattle.protocol.specs.Tests.{true_not_false}
 use Rattle.protocol.specs.Air.Run.{OnAir}
-use Rattle.protocol.specs.Air.Theorem.{kept_on_air, most_on_air_le}
-use Rattle.protocol.specs.Simulation.Units.{read_to, read_as}
+use Rattle.protocol.proofs.Air.Theorem.{kept_on_air, most_on_air_le}
+use Rattle.protocol.proofs.Simulation.Units.{read_to, read_as}
 use Rattle.protocol.specs.Simulation.First.{reports_first}
-use Rattle.protocol.specs.Simulation.Table.{laws}
+use Rattle.protocol.proofs.Simulation.Table.{laws}
 use Rattle.boxes.specs.Boxes.{number_of, Boxes, boxes_after, receiver_in, answer_to, hear_at, hear, hear_all, all_made, boxes}
 use Rattle.boxes.specs.Promise.{stopped_at, all_stopped, most_accepted, Promised}
 use Rattle.boxes.specs.Invariant.{CutMap, cut_map, Invariant, answer_is, place_is, Heard, heard, hear-kept}

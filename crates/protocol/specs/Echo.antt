@@ -1,4 +1,4 @@
--- Packets heard twice (02, job 2): any message that was ever sent may be handed over again, any number of times. Theorem.antt proves, of every list of
+-- Packets heard twice (02, job 2): any message that was ever sent may be handed over again, any number of times. proofs/Echo/Theorem.antt proves, of every list of
 -- events in which every echoed message was sent before it (`Echoes`):
 --
 --     heard-twice             Laws P → 0 < P.n → (room : ℕ) (es : List Event) → Echoes P room (start P) es → HeardTwice P (hearAll P room (start P) es)
@@ -7,7 +7,7 @@
 --     deliveries-only         a list without echoes is a run of Machine.antt,
 --     demand3-without-echoes  of which demand 3 holds, limit included
 --
--- Read first: Events, the events and the statement. The rest is proof:
+-- Read first: Events, the events and the statement. The rest is proof, in proofs/Echo:
 -- Behind                    a CPA that was given back stays behind its sender: so a CPA that is sent was never sent before
 -- Run                       what an event keeps: over all that was ever sent what a delivery keeps, and the live chain's CPA was never handed over
 -- Theorem                   the statement read off it
@@ -15,5 +15,3 @@
 pub mod Events
 pub mod Behind
 pub mod Run
-pub mod Theorem
-pub mod Packets

@@ -25,11 +25,11 @@ use Rattle.protocol.specs.Machine as M
 use Rattle.protocol.specs.Machine.{Network}
 use Rattle.protocol.specs.Problem.{Problem}
 use Rattle.protocol.specs.Demand3 as D
-use Rattle.protocol.specs.Theorem as T
-use Rattle.protocol.specs.Oldest.Run as O
-use Rattle.protocol.specs.Simulation.Units.{read_length}
+use Rattle.protocol.proofs.Theorem as T
+use Rattle.protocol.proofs.Oldest.Run as O
+use Rattle.protocol.proofs.Simulation.Units.{read_length}
 use Rattle.protocol.specs.Simulation.First.{reports_first}
-use Rattle.protocol.specs.Simulation.Table.{laws}
+use Rattle.protocol.proofs.Simulation.Table.{laws}
 use Rattle.runs.specs.Count.{value_of}
 use Rattle.runs.specs.Run as R
 use Rattle.runs.specs.Run.{DeliveryOf, cells, hand_over, run_in, run}

@@ -18,9 +18,9 @@ use Rattle.rules.specs.Units.{unit_at}
 use Rattle.rules.specs.Laws.Units.{best_padded}
 use Rattle.protocol.specs.Machine.{Msg}
 use Rattle.protocol.specs.Demand3 as P
-use Rattle.protocol.specs.Theorem as T
+use Rattle.protocol.proofs.Theorem as T
 use Rattle.protocol.specs.Simulation.First.{reports_first}
-use Rattle.protocol.specs.Simulation.Table.{laws}
+use Rattle.protocol.proofs.Simulation.Table.{laws}
 use Rattle.runs.specs.Count.{value_of}
 use Rattle.runs.specs.Run.{stopped}
 use Rattle.runs.specs.Deliveries.{accepted_in, handed_in}

@@ -29,13 +29,15 @@ use Rattle.protocol.specs.Machine as M
 use Rattle.protocol.specs.Machine.{Msg, to}
 use Rattle.protocol.specs.Echo.Events as E
 use Rattle.protocol.specs.Echo.Events.{Trace, handed_over}
-use Rattle.protocol.specs.Echo.Run.{Beside, beside_taken, beside_heard, Kept, handed_over_kept, start-kept}
-use Rattle.protocol.specs.Echo.Theorem.{kept-heard-twice}
-use Rattle.protocol.specs.Echo.Packets.{read_in}
+use Rattle.protocol.specs.Echo.Run.{Beside, Kept}
+use Rattle.protocol.proofs.Echo.Run.{beside_taken, beside_heard, handed_over_kept, start-kept}
+use Rattle.protocol.proofs.Echo.Theorem.{kept-heard-twice}
+use Rattle.protocol.proofs.Echo.Packets.{read_in}
 use Rattle.protocol.specs.Simulation.Relations.{Reads, ReadAll, read_append}
-use Rattle.protocol.specs.Simulation.Units as X
-use Rattle.protocol.specs.Simulation.Units.{read_cut, Simulated, StepsTo, step_simulated}
-use Rattle.protocol.specs.Simulation.Table.{stream-free, laws, views}
+use Rattle.protocol.proofs.Simulation.Units as X
+use Rattle.protocol.specs.Simulation.Units.{Simulated, StepsTo}
+use Rattle.protocol.proofs.Simulation.Units.{read_cut, step_simulated}
+use Rattle.protocol.proofs.Simulation.Table.{stream-free, laws, views}
 use Rattle.runs.specs.Pool.{pool_after, pool_with}
 use Rattle.runs.specs.Pool.Stored.{AllSized, StandsAt, Stored, none_at, no_room, some_room, cell_bytes, put-stored, added_stored}
 use Rattle.runs.specs.Run as R

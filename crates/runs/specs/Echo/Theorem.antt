@@ -33,10 +33,10 @@ use Rattle.rules.specs.Laws.Packets.{Sendable}
 use Rattle.rules.specs.Laws.Units.{best_padded}
 use Rattle.protocol.specs.Machine.{Msg}
 use Rattle.protocol.specs.Echo.Events as E
-use Rattle.protocol.specs.Echo.Theorem.{kept-heard-twice}
-use Rattle.protocol.specs.Echo.Packets.{unheard_packet}
+use Rattle.protocol.proofs.Echo.Theorem.{kept-heard-twice}
+use Rattle.protocol.proofs.Echo.Packets.{unheard_packet}
 use Rattle.protocol.specs.Simulation.First.{reports_first}
-use Rattle.protocol.specs.Simulation.Table.{laws}
+use Rattle.protocol.proofs.Simulation.Table.{laws}
 use Rattle.runs.specs.Pool.{cell_of}
 use Rattle.runs.specs.Pool.Stored.{cell_in_use, cell_bytes}
 use Rattle.runs.specs.Run as R

@@ -30,10 +30,11 @@ use Rattle.rules.specs.Laws.Assign.{Whenever}
 use Rattle.protocol.specs.Machine as M
 use Rattle.protocol.specs.Machine.{Msg, to, Agent, Result}
 use Rattle.protocol.specs.Safety.Logs.{Safe}
-use Rattle.protocol.specs.Count.Width.{records_fit}
+use Rattle.protocol.proofs.Count.Width.{records_fit}
 use Rattle.protocol.specs.Simulation.Relations.{Reads}
-use Rattle.protocol.specs.Simulation.Units.{read_to, Matches, StepsTo, Simulated, start_simulated}
-use Rattle.protocol.specs.Simulation.Table.{stream-free, laws, views}
+use Rattle.protocol.specs.Simulation.Units.{Matches, StepsTo, Simulated}
+use Rattle.protocol.proofs.Simulation.Units.{read_to, start_simulated}
+use Rattle.protocol.proofs.Simulation.Table.{stream-free, laws, views}
 use Rattle.runs.specs.declared.Core.{Core}
 use Rattle.runs.specs.Count.{zero_count, value_of}
 use Rattle.runs.specs.Count.Laws.{plus_exact, plus_one}

@@ -28,11 +28,13 @@ use Rattle.rules.specs.Laws.Units.{Leaves, step_in_range}
 use Rattle.protocol.specs.Machine as M
 use Rattle.protocol.specs.Machine.{to, Network}
 use Rattle.protocol.specs.Walk.{deliver-stopped, deliver_none, deliver_at}
-use Rattle.protocol.specs.Theorem.{Kept, deliver-kept}
+use Rattle.protocol.specs.Theorem.{Kept}
+use Rattle.protocol.proofs.Theorem.{deliver-kept}
 use Rattle.protocol.specs.Simulation.Relations.{ReadAll, read_append}
-use Rattle.protocol.specs.Simulation.Units as X
-use Rattle.protocol.specs.Simulation.Units.{read_length, Simulated, StepsTo}
-use Rattle.protocol.specs.Simulation.Table.{laws, views}
+use Rattle.protocol.proofs.Simulation.Units as X
+use Rattle.protocol.specs.Simulation.Units.{Simulated, StepsTo}
+use Rattle.protocol.proofs.Simulation.Units.{read_length}
+use Rattle.protocol.proofs.Simulation.Table.{laws, views}
 use Rattle.runs.specs.Pool.{cell_of, pool_after}
 use Rattle.runs.specs.Pool.Stored.{AllSized, StandsAt, none_at, no_room, some_room, cell_bytes, put-stored}
 use Rattle.runs.specs.Run as R

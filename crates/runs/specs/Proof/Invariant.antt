@@ -17,12 +17,14 @@ use Rattle.protocol.specs.Machine as M
 use Rattle.protocol.specs.Machine.{to, Network}
 use Rattle.protocol.specs.Tests.{true_not_false}
 use Rattle.protocol.specs.Count.Tally.{Stops}
-use Rattle.protocol.specs.Count.Width.{most-fits}
-use Rattle.protocol.specs.Theorem.{Kept, kept_demand3}
+use Rattle.protocol.proofs.Count.Width.{most-fits}
+use Rattle.protocol.specs.Theorem.{Kept}
+use Rattle.protocol.proofs.Theorem.{kept_demand3}
 use Rattle.protocol.specs.Simulation.Relations.{ReadAll}
-use Rattle.protocol.specs.Simulation.Units as X
-use Rattle.protocol.specs.Simulation.Units.{read_cut, Simulated, step_simulated}
-use Rattle.protocol.specs.Simulation.Table.{stream-free, laws}
+use Rattle.protocol.proofs.Simulation.Units as X
+use Rattle.protocol.specs.Simulation.Units.{Simulated}
+use Rattle.protocol.proofs.Simulation.Units.{read_cut, step_simulated}
+use Rattle.protocol.proofs.Simulation.Table.{stream-free, laws}
 use Rattle.runs.specs.Count.{value_of}
 use Rattle.runs.specs.Run.{History, stopped}
 use Rattle.runs.specs.Demand3.{Shed, times}

@@ -20,8 +20,9 @@ use Rattle.rules.specs.Send.{packets}
 use Rattle.rules.specs.Calls.{unless_refused}
 use Rattle.protocol.specs.Machine as M
 use Rattle.protocol.specs.Safety.Logs.{Safe}
-use Rattle.protocol.specs.Theorem.{Kept, make-kept}
-use Rattle.protocol.specs.Simulation.Table.{laws}
+use Rattle.protocol.specs.Theorem.{Kept}
+use Rattle.protocol.proofs.Theorem.{make-kept}
+use Rattle.protocol.proofs.Simulation.Table.{laws}
 use Rattle.runs.specs.Run as R
 use Rattle.runs.specs.Run.{History}
 use Rattle.runs.specs.Calls as C

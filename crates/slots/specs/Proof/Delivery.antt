@@ -34,8 +34,9 @@ use Rattle.protocol.specs.Machine.{Msg, to}
 use Rattle.protocol.specs.Tests.{true_not_false}
 use Rattle.protocol.specs.Totals.{total, total_append}
 use Rattle.protocol.specs.Simulation.Units.{Simulated, StepsTo}
-use Rattle.protocol.specs.Simulation.Table.{laws, views}
-use Rattle.protocol.specs.Slots.Run.{KeptSlots, slot_sends, slot_allowed, overwritten_not_newer, accept_slots}
+use Rattle.protocol.proofs.Simulation.Table.{laws, views}
+use Rattle.protocol.specs.Slots.Run.{KeptSlots}
+use Rattle.protocol.proofs.Slots.Run.{slot_sends, slot_allowed, overwritten_not_newer, accept_slots}
 use Rattle.runs.specs.Pool.{cell_of}
 use Rattle.runs.specs.Run as R
 use Rattle.runs.specs.Run.{DeliveryOf, stopped, deliver_in, history_after}

@@ -18,8 +18,9 @@ use Rattle.protocol.specs.Machine.{Msg, to, Agent, Network}
 use Rattle.protocol.specs.Tests.{true_not_false}
 use Rattle.protocol.specs.Count.Tally.{Stops}
 use Rattle.protocol.specs.Simulation.Relations.{Reads}
-use Rattle.protocol.specs.Simulation.Units.{Simulated, step_simulated}
-use Rattle.protocol.specs.Simulation.Table.{stream-free}
+use Rattle.protocol.specs.Simulation.Units.{Simulated}
+use Rattle.protocol.proofs.Simulation.Units.{step_simulated}
+use Rattle.protocol.proofs.Simulation.Table.{stream-free}
 use Rattle.protocol.specs.Slots.Run.{KeptSlots}
 use Rattle.runs.specs.Count.{value_of}
 use Rattle.runs.specs.Pool.{cell_of}

@@ -24,10 +24,11 @@ use Rattle.rules.specs.Calls.{unless_refused}
 use Rattle.protocol.specs.Machine as M
 use Rattle.protocol.specs.Machine.{Msg}
 use Rattle.protocol.specs.Totals.{total}
-use Rattle.protocol.specs.Simulation.Table.{laws}
+use Rattle.protocol.proofs.Simulation.Table.{laws}
 use Rattle.protocol.specs.Slots.Slot.{Apart}
 use Rattle.protocol.specs.Slots.Sends.{Sends}
-use Rattle.protocol.specs.Slots.Run.{KeptSlots, make_sends, make-slots, relisted}
+use Rattle.protocol.specs.Slots.Run.{KeptSlots}
+use Rattle.protocol.proofs.Slots.Run.{make_sends, make-slots, relisted}
 use Rattle.runs.specs.Run as R
 use Rattle.runs.specs.Demand3.{times}
 use Rattle.runs.specs.Proof.Core.{Begun, unit-made, core_starts}

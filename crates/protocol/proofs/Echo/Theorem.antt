@@ -7,13 +7,15 @@ use Rattle.protocol.specs.Problem.{Problem, Laws, closed-least, least_le}
 use Rattle.protocol.specs.Machine.{Msg, to, Result, refused, done, step, make, fits, settle, hand_over, admit, deliver, run}
 use Rattle.protocol.specs.Demand3.{written, Demand3}
 use Rattle.protocol.specs.Tests.{true_not_false}
-use Rattle.protocol.specs.Safety.Run.{never_refused}
-use Rattle.protocol.specs.Liveness.Chain.{Live, live_waits}
+use Rattle.protocol.proofs.Safety.Run.{never_refused}
+use Rattle.protocol.specs.Liveness.Chain.{Live}
+use Rattle.protocol.proofs.Liveness.Chain.{live_waits}
 use Rattle.protocol.specs.Count.Tally.{Stops}
-use Rattle.protocol.specs.Count.Width.{records_fit, length_written}
-use Rattle.protocol.specs.Theorem.{demand3}
+use Rattle.protocol.proofs.Count.Width.{records_fit, length_written}
+use Rattle.protocol.proofs.Theorem.{demand3}
 use Rattle.protocol.specs.Echo.Events.{Event, cell, Trace, handed_over, answered, start, from_cell, unless_stopped, hear, hear_all, Echoes, Unheard, HeardTwice}
-use Rattle.protocol.specs.Echo.Run.{all_sent, Kept, hear_all_kept, start-kept}
+use Rattle.protocol.specs.Echo.Run.{all_sent, Kept}
+use Rattle.protocol.proofs.Echo.Run.{hear_all_kept, start-kept}
 
 module _ (P : Problem) (laws : Laws P) (n1 : 0 < P.n) where
   pub kept-heard-twice : (T : Trace) → Kept P T → HeardTwice P T

@@ -24,7 +24,7 @@ use Rattle.protocol.specs.Machine as M
 use Rattle.protocol.specs.Machine.{Agent}
 use Rattle.protocol.specs.Simulation.Stamps.{rank_set, digits_set, filled_off}
 use Rattle.protocol.specs.Simulation.Relations.{BestIs, own-place, InHand, OwnOff, Agrees}
-use Rattle.protocol.specs.Simulation.Assign.{less_test, most_test, backtrack_agrees, try_agrees}
+use Rattle.protocol.proofs.Simulation.Assign.{less_test, most_test, backtrack_agrees, try_agrees}
 
 module _ (order : ValueOrder) (I : Instance) (k : ℕ) (k16 : k < 16) where
   -- what assigning needs: the threshold is the CPA's stamp, the counter has room for the values left, the bound is at most NONE, and the own value has a place

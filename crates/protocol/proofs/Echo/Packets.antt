@@ -20,10 +20,11 @@ use Rattle.protocol.specs.Problem.{ValidBound, NONE}
 use Rattle.protocol.specs.Machine.{Msg, down, back, request, estimate, solution, stop, Agent}
 use Rattle.protocol.specs.Safety.Facts.{ValidMsg}
 use Rattle.protocol.specs.Safety.Logs.{logs, Recorded, Safe}
-use Rattle.protocol.specs.Safety.Network.{before}
+use Rattle.protocol.proofs.Safety.Network.{before}
 use Rattle.protocol.specs.Simulation.Stamps.{rank}
 use Rattle.protocol.specs.Simulation.Relations.{ValuesAre, BestIs, Reads, ReadAll}
-use Rattle.protocol.specs.Simulation.Units.{ReadAs, read_as}
+use Rattle.protocol.specs.Simulation.Units.{ReadAs}
+use Rattle.protocol.proofs.Simulation.Units.{read_as}
 use Rattle.protocol.specs.Simulation.Report.{full_read}
 use Rattle.protocol.specs.Echo.Events.{Trace, Unheard}
 use Rattle.protocol.specs.Echo.Run.{Kept}

@@ -1,0 +1,4 @@
+-- See specs/Air.antt.
+pub mod Stops
+pub mod Tally
+pub mod Theorem

@@ -1,0 +1,4 @@
+-- See specs/Best.antt.
+pub mod First
+pub mod Pairs
+pub mod Told
