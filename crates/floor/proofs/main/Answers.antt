@@ -1,5 +1,5 @@
 -- `main` meets its contract: what was read fits the buffer, so the front of it can be handed on.
--- Assumes nothing.
+use Rattle.std.proofs.Common.{rules}
 use Prim.Native.Nat.{ℕ, ◌≤◌}
 use mathlib.Core.Path.{◌≡◌, sym, ap, ◌∙◌}
 use mathlib.Core.List.{List}
@@ -10,9 +10,7 @@ use Rattle.base.specs.declared.Length.{Length}
 use Rattle.base.specs.Limits.{stream_size}
 use Rattle.table.specs.File.{stream_of, read_refusal, read_of}
 use Rattle.table.specs.FileLaws.{read_most}
-use borrow.Author.Rules.{rules}
-use Rattle.floor.proofs.main.Statement.{statement}
-use Rattle.floor.proofs.main.Tie as tie
+use Rattle.floor.proofs.main.Goals as goal
 
 read_fits : (f : List ℕ) (room : ℕ) (r : Length) → r ≡ read_of f room → r.refusal ≡ 0 → r.length ≤ stream_size
 unfolding read_of
@@ -21,27 +19,7 @@ read_fits f room r e h =
     let n : r.length ≡ length (stream_of f) = ap (λ (x : Length). x.length) e ∙ rw (eq-eqb (read_refusal f room) 0 z) in
     omega (arith, n, read_most f room z)
 
-part-print-floor-end : tie.Need-slice-bounds-print-floor-end
-part-print-floor-end c =
-    let p = read_fits _ _ c.before.before.before.read.result c.before.before.before.read.ensures.0 c.before.if1.false in
+pub slice_bounds-print_floor-end : goal.slice_bounds-print_floor-end
+slice_bounds-print_floor-end c =
+    let p = read_fits _ _ c.read-read.result c.read-read.ensures.0 c.if-refusal-ne0.false in
     search rules
-
-pub main_spec : {M : Type 1} → statement M
-main_spec =
-    tie.close
-    (tie.spec
-    (λ c. search rules)
-    (λ c κs. search rules)
-    (λ c. search rules)
-    (λ c. search rules)
-    (λ c. search rules)
-    (λ c κs. search rules)
-    (λ c. search rules)
-    (λ c. search rules)
-    (λ c κs. search rules)
-    (λ c. search rules)
-    (λ c. search rules)
-    (λ c. search rules)
-    part-print-floor-end
-    (λ c κs. search rules)
-    (λ c. search rules))
