@@ -1,4 +1,4 @@
-//! With the feature `linked`: links target/staticlib/libcabi.a of this repository, which `rt staticlib cabi` makes.
+//! With the feature `linked`: links target/staticlib/libcabi.a of this repository, which `scripts/library` makes.
 
 fn main() {
     println!("cargo:rerun-if-changed=build.rs");

@@ -1,6 +1,6 @@
 /* Riksamoe for firmware: units that agree by forward bounding on the cheapest lotting, from C (C99 or later) and C++.
  *
- * Link target/staticlib/libcabi.a, which `rt staticlib cabi` makes for x86-64 with SSE and System V calls; of a C library it
+ * Link target/staticlib/libcabi.a, which `scripts/library` makes for x86-64 with SSE and System V calls; of a C library it
  * needs memcpy, memmove and memset alone. Each function below is a proved one of crates/cabi: what it promises stands there
  * beside it, for all inputs. This header is kept by hand; its layouts are held by the assertions at the end, and scripts/differential
  * compares every call with a second implementation. examples/ has a shed of such boxes in C and in Rust, and one box as a process.

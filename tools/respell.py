@@ -3,6 +3,7 @@
 
 usage: python3 tools/respell.py [--dry]      at the top of the repository
        python3 tools/respell.py --again      turns imports that an earlier run left, by tools/respelled.tsv
+       python3 tools/respell.py --told       takes the new names from tools/respelled.tsv, as to lay another commit beside this one
 
 A name of a value or a lemma gets words in snake case: `shapeGood` is `shape_good`, `every-at` is `every_at`. A dash stays where it joins
 two names of definitions. Types, modules and the code's own names stay. A name is turned in the file that defines it and where it is
@@ -162,6 +163,10 @@ def main(argv):
             to = respelled(name, nouns)
             if to != name:
                 new[name] = to
+    if "--told" in argv:
+        with open("tools/respelled.tsv", encoding="utf-8") as f:
+            told_names = dict(line.rstrip("\n").split("\t") for line in f)
+        new = {n: told_names[n] for n in new if n in told_names}
     parts = collections.defaultdict(dict) if again else told_apart(new, defined, nouns, texts, own)
     if again:
         with open("tools/respelled.tsv", encoding="utf-8") as f:
@@ -212,7 +217,7 @@ def main(argv):
         if turned != text and not dry:
             with open(path, "w", encoding="utf-8") as f:
                 f.write(turned)
-    if again:
+    if again or "--told" in argv:
         return
     with open("tools/respelled.tsv", "w", encoding="utf-8") as f:
         f.writelines(f"{a}\t{b}\n" for a, b in sorted(new.items()))

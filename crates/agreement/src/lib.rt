@@ -1,4 +1,5 @@
 // Whether shed and bench total the same, and of how many tiny tables. Document 02, job 13.
+#![tactic(auto)]
 
 ghost use Rattle.std.specs.Prelude.{◌≡◌, ◌<◌};
 ghost use Rattle.tiny.specs.Tiny.{tables_of, tiny_stream};

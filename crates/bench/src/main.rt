@@ -1,30 +1,45 @@
 // Reads a stored table on standard input and prints the least total, then each unit's value in the first assignment that has it, or
 // `refused` and the number. Every assignment is tried; with the word `bound` the search is by branch and bound, which takes a table of any
 // number of them.
+#![tactic(auto)]
+
 ghost use Rattle.std.specs.Prelude.{◌≤◌, length};
 
 use base::FILE_ROOM;
-use libc::{STDERR_FILENO, STDIN_FILENO};
+use std::env::{Env, FillError};
 
-fn main() {
-    if os::arg_count() > 2 {
+const STDIN_FILENO: i32 = 0;
+
+const STDERR_FILENO: i32 = 2;
+
+fn main(rt: HostRuntime) {
+    if is_arg(&rt, 2) {
         usage();
         return;
     }
     let mut text = [0u8; 6];
-    let n = word(&mut text);
+    let n = word(&rt, &mut text);
     run(&text[0..n]);
 }
 
 // The argument at the start of buf; one that is longer is cut, and so is not the word that is known.
-fn word(buf: &mut [u8]) -> usize
+fn word(rt: &impl Env, buf: &mut [u8]) -> usize
     ensures { result ≤ length buf.new }
 {
-    let n = os::arg(1, buf);
-    if os::errno() == libc::ENAMETOOLONG {
-        return buf.len();
+    match rt.arg(1, buf) {
+        Ok(n) => n,
+        Err(FillError::TooLong) => buf.len(),
+        Err(FillError::NotPresent) => 0,
     }
-    n
+}
+
+// Whether there is an argument i.
+fn is_arg(rt: &impl Env, i: usize) -> bool {
+    let mut text = [0u8; 1];
+    match rt.arg(i, &mut text) {
+        Err(FillError::NotPresent) => false,
+        _ => true,
+    }
 }
 
 // What the word asks for of the table on standard input: every assignment if it is empty.

@@ -1,5 +1,6 @@
 // The calls of documents 01 and 02 for C and Rust, as include/riksamoe.h declares them. Each hands on to the call that it names, and promises
 // what that one does.
+#![tactic(auto)]
 
 mod begun; // how far a box is with its blocks, as C lends it
 mod lent; // a state, and a network over either pool, as C lends them

@@ -1,1 +1,3 @@
+#![tactic(auto)]
+
 // Document 01's small sheds, as one table that the prover computes: specs/Cases.antt. No code.

@@ -1,4 +1,5 @@
 // The check of blocks and packets.
+#![tactic(auto)]
 
 ghost use Rattle.std.specs.Prelude.{◌≡◌, ◌≤◌, length};
 ghost use Rattle.base.specs.Limits.{checked_size};

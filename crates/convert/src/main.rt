@@ -1,12 +1,22 @@
 // Reads a stored table on standard input, and writes it to standard output in the form that its argument names, `one` or `two`. Where it is
 // refused it writes nothing there, and `refused` and the number to standard error.
+#![tactic(auto)]
+
+ghost use Rattle.std.specs.Prelude.{◌≤◌, length};
+
 use base::{FILE_ROOM, FILE_SIZE};
-use libc::{STDERR_FILENO, STDIN_FILENO, STDOUT_FILENO};
+use std::env::Env;
 use table::Form;
 
-fn main() {
+const STDIN_FILENO: i32 = 0;
+
+const STDOUT_FILENO: i32 = 1;
+
+const STDERR_FILENO: i32 = 2;
+
+fn main(rt: HostRuntime) {
     let mut word = [0u8; 4];
-    let n = os::arg(1, &mut word);
+    let n = arg(&rt, 1, &mut word);
     if check::same(&word[..n], b"one") {
         write_converted(Form::One);
         return;
@@ -16,6 +26,16 @@ fn main() {
         return;
     }
     io::write_all(STDERR_FILENO, b"convert: say one or two, the form wanted\n");
+}
+
+// Argument i at the start of buf; nothing where there is none, or it is longer.
+fn arg(rt: &impl Env, i: usize, buf: &mut [u8]) -> usize
+    ensures { result ≤ length buf.new }
+{
+    match rt.arg(i, buf) {
+        Ok(n) => n,
+        Err(_) => 0,
+    }
 }
 
 // The table on standard input, in that form.

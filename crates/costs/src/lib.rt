@@ -1,4 +1,5 @@
 // Unary costs, pair costs, which may be forbidden, and what is worked out from both: the costs lent with one unit, as bytes.
+#![tactic(auto)]
 
 mod order; // the place of a value in the order tried
 mod prefix; // the cost of a value with those before it, straight from a stream

@@ -1,4 +1,5 @@
 // What a unit decides: whether a lent state is in range, how a new unit begins, and what a message that was read makes a unit do.
+#![tactic(auto)]
 
 mod assign; // assigning: values tried, the first below the bound written
 mod backtrack; // backtracking: the own value off, the cpa handed back

@@ -1,10 +1,18 @@
 // Reads comma separated text on standard input, one line of wool a row: its name, its mean fibre diameter in microns with at most one
 // decimal, and the number of lots that it may go to. Prints the lot of each line, the lots and the total cost; or what is wrong with the first
 // row that can't be used. Words ask for something else: see `help`.
+#![tactic(auto)]
+
 ghost use Rattle.std.specs.Prelude.{◌≤◌, length};
 
-use libc::{STDERR_FILENO, STDIN_FILENO, STDOUT_FILENO};
 use listing::Form;
+use std::env::{Env, FillError};
+
+const STDIN_FILENO: i32 = 0;
+
+const STDOUT_FILENO: i32 = 1;
+
+const STDERR_FILENO: i32 = 2;
 
 // What the words ask for: one of what follows, and whether the boxes' rules find the lots.
 #[derive(Clone, Copy)]
@@ -23,14 +31,14 @@ const HELP: u8 = 3;
 
 const UNKNOWN: u8 = 4;
 
-fn main() {
+fn main(rt: HostRuntime) {
     let none = Ask {
         what: ROWS,
         shed: false,
     };
-    let one = with_word(none, 1);
-    let two = with_word(one, 2);
-    if os::arg_count() > 3 {
+    let one = with_word(&rt, none, 1);
+    let two = with_word(&rt, one, 2);
+    if is_arg(&rt, 3) {
         usage(STDERR_FILENO);
         return;
     }
@@ -38,21 +46,30 @@ fn main() {
 }
 
 // What is asked for with the word at k in it.
-fn with_word(ask: Ask, k: usize) -> Ask {
+fn with_word(rt: &impl Env, ask: Ask, k: usize) -> Ask {
     let mut text = [0u8; 6];
-    let n = word(k, &mut text);
+    let n = word(rt, k, &mut text);
     with(ask, &text[0..n])
 }
 
 // The argument at the start of buf; one that is longer is cut, and so is no word that is known.
-fn word(k: usize, buf: &mut [u8]) -> usize
+fn word(rt: &impl Env, k: usize, buf: &mut [u8]) -> usize
     ensures { result ≤ length buf.new }
 {
-    let n = os::arg(k, buf);
-    if os::errno() == libc::ENAMETOOLONG {
-        return buf.len();
+    match rt.arg(k, buf) {
+        Ok(n) => n,
+        Err(FillError::TooLong) => buf.len(),
+        Err(FillError::NotPresent) => 0,
     }
-    n
+}
+
+// Whether there is an argument i.
+fn is_arg(rt: &impl Env, i: usize) -> bool {
+    let mut text = [0u8; 1];
+    match rt.arg(i, &mut text) {
+        Err(FillError::NotPresent) => false,
+        _ => true,
+    }
 }
 
 fn with(ask: Ask, word: &[u8]) -> Ask {

@@ -1,11 +1,19 @@
 // Runs T and a network of five units with every packet echoed, 02, job 2, and prints the listing of each run after its name: values tried
 // in both orders; the oldest or the newest packet delivered each time; each echoed before it is delivered, at once, or late. A refusal is
 // printed too, unless it is 12 once unit 1 has stopped.
+#![tactic(auto)]
+
 ghost use Rattle.std.specs.Prelude.{◌≡◌, ◌<◌, length};
 
 use base::{FILE_ROOM, MESSAGE_SIZE, POOL_CELLS};
-use libc::STDOUT_FILENO;
 use network::{Answer, Network, ValueOrder};
+use std::fs::File;
+use std::os::fd::AsRawFd;
+use std::rt::Files;
+
+const STDOUT_FILENO: i32 = 1;
+
+const STDERR_FILENO: i32 = 2;
 
 // The most turns of a run, each with a delivery and an echo.
 const TURNS: usize = 10000;
@@ -20,22 +28,32 @@ struct Schedule {
     late: usize,
 }
 
-fn main() {
-    show(b"t.table");
-    show(b"five.table");
+fn main(rt: HostRuntime) {
+    show(&rt, "t.table");
+    show(&rt, "five.table");
 }
 
 // The runs of the stored table with this name.
-fn show(name: &[u8]) {
+fn show(rt: &(impl Files<File = File> + Eprint), name: &str) {
     let mut file = [0u8; FILE_ROOM];
-    let fd = os::open_read(name);
-    if fd < 0 {
-        os::fail(name);
+    let Some(input) = open(rt, name) else {
         return;
+    };
+    let n = io::read_full(input.as_raw_fd(), &mut file);
+    show_table(name.as_bytes(), &file[..n]);
+}
+
+// The named file, open for reading; where it can't be opened, its name and why are told on standard error.
+fn open(rt: &(impl Files<File = File> + Eprint), name: &str) -> Option<File> {
+    match File::open(rt, name) {
+        Ok(file) => Some(file),
+        Err(error) => {
+            io::write_all(STDERR_FILENO, name.as_bytes());
+            io::write_all(STDERR_FILENO, b": ");
+            let _ = rt.eprintln(error);
+            None
+        }
     }
-    let n = io::read_full(fd, &mut file);
-    libc::close(fd);
-    show_table(name, &file[..n]);
 }
 
 fn show_table(name: &[u8], file: &[u8]) {

@@ -1,8 +1,13 @@
 // Reads a stored table on standard input and prints a floor under its totals: what is left on the floor once every cost is projected. No assignment costs
 // less. Prints `refused` and the number where the table is refused.
+#![tactic(auto)]
+
 use base::{FILE_ROOM, STREAM_SIZE};
-use libc::{STDIN_FILENO, STDOUT_FILENO};
 use projections::COSTS_ROOM;
+
+const STDIN_FILENO: i32 = 0;
+
+const STDOUT_FILENO: i32 = 1;
 
 fn main() {
     let mut file = [0u8; FILE_ROOM];

@@ -1,4 +1,6 @@
 // What `desk` prints of a text: the lots of its lines of wool, its stored table, or a page; or what is wrong with its first bad row.
+#![tactic(auto)]
+
 mod lines;
 mod lots;
 mod page;
@@ -8,10 +10,13 @@ ghost use Rattle.std.specs.Prelude.{◌≡◌};
 ghost use Rattle.rows.specs.Sheet.{sheet_of};
 
 use base::{FILE_SIZE, STREAM_SIZE};
-use libc::{STDERR_FILENO, STDOUT_FILENO};
 use network::ValueOrder;
 use rows::Sheet;
 use search::Found;
+
+pub(crate) const STDOUT_FILENO: i32 = 1;
+
+const STDERR_FILENO: i32 = 2;
 
 // The longest text, which is the room for names too.
 pub const TEXT_SIZE: usize = 65535;

@@ -2,9 +2,8 @@
 // shows them one column further on, and the rows read back without them.
 ghost use Rattle.std.specs.Prelude.{◌<◌};
 
-use crate::lines;
 use crate::lines::Tally;
-use libc::STDOUT_FILENO;
+use crate::{STDOUT_FILENO, lines};
 use rows::Sheet;
 use search::Found;
 

@@ -2,8 +2,7 @@
 ghost use Rattle.std.specs.Prelude.{◌+◌, ◌≤◌, ◌<◌};
 
 use crate::lines::Tally;
-use crate::{lines, lots};
-use libc::STDOUT_FILENO;
+use crate::{STDOUT_FILENO, lines, lots};
 use rows::Sheet;
 use search::Found;
 

@@ -1,4 +1,5 @@
 // The radio message: 64 bytes, read and written.
+#![tactic(auto)]
 
 ghost use Rattle.std.specs.Prelude.{◌≡◌, length};
 ghost use Rattle.message.specs.Message.{kind_code, kind_of, refusal_of};

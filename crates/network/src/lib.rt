@@ -1,4 +1,5 @@
 // A network of units with a pool of waiting messages: making, delivery, and running to the end.
+#![tactic(auto)]
 
 mod decimal; // a count in decimal digits
 mod delivery; // the message at a cell delivered

@@ -1,23 +1,41 @@
 // Reads the packets of data/packets for 4 units of 2, 3, 4 and 5 values, and says of each what reading it gives. A record of the
 // file has 96 bytes: 31 of name, a unit number (0: read by no unit, for any receiver), and the 64 bytes of a message. The last is a
 // byte short. A message that is read is written again, into 65 bytes, for 3 units and for none, and into 63 bytes; and read for none.
+#![tactic(auto)]
+
 use base::MESSAGE_SIZE;
-use libc::STDOUT_FILENO;
 use message::{Kind, Message, Parsed, Read};
+use std::fs::File;
+use std::os::fd::AsRawFd;
+use std::rt::Files;
+
+const STDOUT_FILENO: i32 = 1;
+
+const STDERR_FILENO: i32 = 2;
 
 // 4 units' domain sizes.
 const SIZES: [u8; 16] = [2, 3, 4, 5, 0, 0, 0, 0, 0, 0, 0, 0, 0, 0, 0, 0];
 
-fn main() {
+fn main(rt: HostRuntime) {
     let mut file = [0u8; 16384];
-    let fd = os::open_read(b"packets");
-    if fd < 0 {
-        os::fail(b"packets");
+    let Some(input) = open(&rt, "packets") else {
         return;
-    }
-    let n = io::read_full(fd, &mut file);
-    libc::close(fd);
+    };
+    let n = io::read_full(input.as_raw_fd(), &mut file);
     show_all(&file[..n]);
+}
+
+// The named file, open for reading; where it can't be opened, its name and why are told on standard error.
+fn open(rt: &(impl Files<File = File> + Eprint), name: &str) -> Option<File> {
+    match File::open(rt, name) {
+        Ok(file) => Some(file),
+        Err(error) => {
+            io::write_all(STDERR_FILENO, name.as_bytes());
+            io::write_all(STDERR_FILENO, b": ");
+            let _ = rt.eprintln(error);
+            None
+        }
+    }
 }
 
 // Each record, one to a line.

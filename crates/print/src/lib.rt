@@ -1,9 +1,12 @@
 // Messages and their parts as the sample programs print them, in 01's words. What is printed no contract can say; each call gives back
 // what it was handed to print.
+#![tactic(auto)]
+
 ghost use Rattle.std.specs.Prelude.{◌≡◌};
 
-use libc::STDOUT_FILENO;
 use message::{Kind, Message};
+
+const STDOUT_FILENO: i32 = 1;
 
 // A message's kind, sender, receiver and fields; ends the line.
 pub fn print_message(kind: Kind, m: Message) -> Message

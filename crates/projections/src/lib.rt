@@ -1,5 +1,6 @@
 // Costs pushed forward: the three equivalence-preserving transformations of soft arc consistency, over costs held in 32 bits: own costs (unary costs)
 // unit by unit, then pair costs as in a stream. Document 02, job 8.
+#![tactic(auto)]
 
 mod all; // everything projected once
 mod bound; // a lower bound of its least total

@@ -1,32 +1,40 @@
 // Makes tables of sample readings, and says of each what is made of it; then what the bench and the shed print of that table.
+#![tactic(auto)]
+
 use base::{FILE_ROOM, FILE_SIZE, Length, STREAM_SIZE};
 use costs::ValueOrder;
-use libc::STDOUT_FILENO;
+use std::fs::File;
+use std::os::fd::AsRawFd;
+use std::rt::Files;
 
-fn main() {
+const STDOUT_FILENO: i32 = 1;
+
+const STDERR_FILENO: i32 = 2;
+
+fn main(rt: HostRuntime) {
     // two lines of one lot: gaps of -20, -19, -1, 0, 1, 19 and 20
-    pair(200, 180);
-    pair(200, 181);
-    pair(200, 199);
-    pair(200, 200);
-    pair(200, 201);
-    pair(200, 219);
-    pair(200, 220);
+    pair(&rt, 200, 180);
+    pair(&rt, 200, 181);
+    pair(&rt, 200, 199);
+    pair(&rt, 200, 200);
+    pair(&rt, 200, 201);
+    pair(&rt, 200, 219);
+    pair(&rt, 200, 220);
     // both ends of the range
-    pair(100, 400);
-    pair(400, 100);
+    pair(&rt, 100, 400);
+    pair(&rt, 400, 100);
     // 17: a tenth of a micron past either end
-    pair(99, 400);
-    pair(100, 401);
-    lots();
-    sixteen();
-    refusals();
+    pair(&rt, 99, 400);
+    pair(&rt, 100, 401);
+    lots(&rt);
+    sixteen(&rt);
+    refusals(&rt);
 }
 
 // ---- samples
 
 // Two lines that can only go into the same lot.
-fn pair(earlier: u16, later: u16) {
+fn pair(rt: &(impl Files<File = File> + Eprint), earlier: u16, later: u16) {
     say(b"readings ", earlier as u64);
     say(b" and ", later as u64);
     let readings = [
@@ -35,43 +43,43 @@ fn pair(earlier: u16, later: u16) {
         (later % 256) as u8,
         (later / 256) as u8,
     ];
-    show(2, [1; 16], &readings, false);
+    show(rt, 2, [1; 16], &readings, false);
 }
 
 // Three lines, 19.0, 19.3 and 18.8 microns, of two, three and two lots.
-fn lots() {
+fn lots(rt: &(impl Files<File = File> + Eprint)) {
     io::write_all(STDOUT_FILENO, b"lots 2, 3 and 2");
     let mut sizes = [2u8; 16];
     sizes[1] = 3;
-    show(3, sizes, &[190, 0, 193, 0, 188, 0], false);
+    show(rt, 3, sizes, &[190, 0, 193, 0, 188, 0], false);
 }
 
 // Sixteen lines of three lots: just the sample table `readings-sixteen`.
-fn sixteen() {
+fn sixteen(rt: &(impl Files<File = File> + Eprint)) {
     io::write_all(STDOUT_FILENO, b"sixteen lines");
     let readings = [
         200, 0, 175, 0, 187, 0, 184, 0, 186, 0, 200, 0, 197, 0, 167, 0, 199, 0, 182, 0, 178, 0,
         203, 0, 180, 0, 182, 0, 199, 0, 182, 0,
     ];
-    show(16, [3; 16], &readings, true);
+    show(rt, 16, [3; 16], &readings, true);
 }
 
 // Each refusal, found before those that come after it.
-fn refusals() {
+fn refusals(rt: &(impl Files<File = File> + Eprint)) {
     // 5: no line; 17 lines; a line of no lot, of 17; before 6
     io::write_all(STDOUT_FILENO, b"no line");
-    show(0, [1; 16], &[], false);
+    show(rt, 0, [1; 16], &[], false);
     io::write_all(STDOUT_FILENO, b"17 lines");
-    show(17, [1; 16], &[], false);
+    show(rt, 17, [1; 16], &[], false);
     io::write_all(STDOUT_FILENO, b"no lot");
-    show(2, [0; 16], &[0, 0, 0], false);
+    show(rt, 2, [0; 16], &[0, 0, 0], false);
     io::write_all(STDOUT_FILENO, b"17 lots");
-    show(2, [17; 16], &[200, 0, 200, 0], false);
+    show(rt, 2, [17; 16], &[200, 0, 200, 0], false);
     // 6: a byte short; a reading more; before 17
     io::write_all(STDOUT_FILENO, b"three bytes");
-    show(2, [1; 16], &[99, 0, 200], false);
+    show(rt, 2, [1; 16], &[99, 0, 200], false);
     io::write_all(STDOUT_FILENO, b"three readings");
-    show(2, [1; 16], &[200, 0, 200, 0, 99, 0], false);
+    show(rt, 2, [1; 16], &[200, 0, 200, 0, 99, 0], false);
     // 17 before 13, and 13
     cramped(99);
     cramped(200);
@@ -89,7 +97,13 @@ fn cramped(reading: u8) {
 
 // The stream that is made, and, unless it is refused, what the bench and the shed print of its table; whether it is the sample table, where
 // it should be.
-fn show(n: u8, sizes: [u8; 16], readings: &[u8], sample: bool) {
+fn show(
+    rt: &(impl Files<File = File> + Eprint),
+    n: u8,
+    sizes: [u8; 16],
+    readings: &[u8],
+    sample: bool,
+) {
     let mut stream = [0u8; STREAM_SIZE];
     let made = readings::write_stream(n, sizes, readings, &mut stream);
     tell(made, &stream);
@@ -99,7 +113,7 @@ fn show(n: u8, sizes: [u8; 16], readings: &[u8], sample: bool) {
     let mut file = [0u8; FILE_SIZE];
     let written = table::write(front(&stream, made.length), &mut file);
     if sample {
-        compare(front(&file, written.length));
+        compare(rt, front(&file, written.length));
     }
     report::print_search(front(&file, written.length));
     report::print_settled_by(ValueOrder::Ascending, front(&file, written.length));
@@ -114,17 +128,27 @@ fn tell(made: Length, stream: &[u8]) {
 }
 
 // Whether these are the bytes of the sample table.
-fn compare(file: &[u8]) {
+fn compare(rt: &(impl Files<File = File> + Eprint), file: &[u8]) {
     let mut sample = [0u8; FILE_ROOM];
-    let fd = os::open_read(b"readings-sixteen.table");
-    if fd < 0 {
-        os::fail(b"readings-sixteen.table");
+    let Some(input) = open(rt, "readings-sixteen.table") else {
         return;
-    }
-    let n = io::read_full(fd, &mut sample);
-    libc::close(fd);
+    };
+    let n = io::read_full(input.as_raw_fd(), &mut sample);
     if check::same(front(&sample, n), file) {
         io::write_all(STDOUT_FILENO, b"the sample table\n");
+    }
+}
+
+// The named file, open for reading; where it can't be opened, its name and why are told on standard error.
+fn open(rt: &(impl Files<File = File> + Eprint), name: &str) -> Option<File> {
+    match File::open(rt, name) {
+        Ok(file) => Some(file),
+        Err(error) => {
+            io::write_all(STDERR_FILENO, name.as_bytes());
+            io::write_all(STDERR_FILENO, b": ");
+            let _ = rt.eprintln(error);
+            None
+        }
     }
 }
 

@@ -1,4 +1,5 @@
 // Costs from readings: the stream of a table, made of the mean fibre diameters of its lines. Document 02, job 1.
+#![tactic(auto)]
 
 mod gap;
 

@@ -2,12 +2,22 @@
 // stored table; the file with the list of its cells. Prints what unit 1 then reports, records and deliveries, as the shed does, and how many of
 // the list's deliveries stand; where the next was refused, its cell and the number too. Where the table or the whole list is refused it prints only
 // `refused` and the number. A list is replayed in parts, as it is read, which comes to the same as the whole, so it may be of any length.
-ghost use Rattle.std.specs.Prelude.{◌≤◌};
+#![tactic(auto)]
+
+ghost use Rattle.std.specs.Prelude.{◌≤◌, length};
 
 use base::FILE_ROOM;
 use costs::ValueOrder;
-use libc::{STDERR_FILENO, STDOUT_FILENO};
 use slots::Core;
+use std::env::{Env, FillError};
+use std::fs::File;
+use std::io::{Error, ErrorKind};
+use std::os::fd::AsRawFd;
+use std::rt::Files;
+
+const STDOUT_FILENO: i32 = 1;
+
+const STDERR_FILENO: i32 = 2;
 
 // The bytes of a part, whole pairs, and the most parts.
 const PART: usize = 4096;
@@ -36,8 +46,8 @@ struct Ended {
     cell: u32,
 }
 
-fn main() {
-    let count = os::arg_count();
+fn main(rt: HostRuntime) {
+    let count = arg_count(&rt);
     if count < 4 {
         usage();
         return;
@@ -49,27 +59,27 @@ fn main() {
     let runs = count / 3;
     let mut k = 0;
     while k < runs {
-        show(3 * k + 1);
+        show(&rt, 3 * k + 1);
         k += 1;
     }
 }
 
 // The run that the arguments from i on name.
-fn show(i: usize)
+fn show(rt: &(impl Files<File = File> + Env + Eprint), i: usize)
     requires { i ≤ 18446744073709551613 }
 {
     let mut word = [0u8; 10];
-    let n = os::arg(i, &mut word);
+    let n = arg(rt, i, &mut word);
     let named = order_named(&word[..n]);
     let Named::Order(order) = named else {
         usage();
         return;
     };
     let mut table = io::buffer();
-    let n = os::arg(i + 1, &mut table);
+    let n = arg(rt, i + 1, &mut table);
     let mut list = io::buffer();
-    let m = os::arg(i + 2, &mut list);
-    show_files(order, &table[..n], &list[..m]);
+    let m = arg(rt, i + 2, &mut list);
+    show_files(rt, order, &table[..n], &list[..m]);
 }
 
 fn order_named(word: &[u8]) -> Named {
@@ -83,33 +93,34 @@ fn order_named(word: &[u8]) -> Named {
 }
 
 // The list's length is looked at first: 22 comes before any other check.
-fn show_files(order: ValueOrder, table: &[u8], list: &[u8]) {
-    let measured = measure(list);
+fn show_files(
+    rt: &(impl Files<File = File> + Eprint),
+    order: ValueOrder,
+    table: &[u8],
+    list: &[u8],
+) {
+    let measured = measure(rt, list);
     let Measured::Bytes(length) = measured else {
-        os::fail(list);
         return;
     };
     if length % 2 != 0 {
         refuse(22);
         return;
     }
-    let fd = os::open_read(table);
-    if fd < 0 {
-        os::fail(table);
+    let Some(input) = open(rt, table) else {
         return;
-    }
+    };
     let mut file = [0u8; FILE_ROOM];
-    let n = io::read_full(fd, &mut file);
-    libc::close(fd);
-    show_table(order, &file[..n], list, length / 2);
+    let n = io::read_full(input.as_raw_fd(), &mut file);
+    show_table(rt, order, &file[..n], list, length / 2);
 }
 
 // How many bytes the file has.
-fn measure(name: &[u8]) -> Measured {
-    let fd = os::open_read(name);
-    if fd < 0 {
+fn measure(rt: &(impl Files<File = File> + Eprint), name: &[u8]) -> Measured {
+    let Some(input) = open(rt, name) else {
         return Measured::Unread;
-    }
+    };
+    let fd = input.as_raw_fd();
     let mut part = [0u8; PART];
     let mut total: u64 = 0;
     let mut k: u64 = 0;
@@ -121,11 +132,16 @@ fn measure(name: &[u8]) -> Measured {
         }
         k += 1;
     }
-    libc::close(fd);
     Measured::Bytes(total)
 }
 
-fn show_table(order: ValueOrder, file: &[u8], list: &[u8], pairs: u64) {
+fn show_table(
+    rt: &(impl Files<File = File> + Eprint),
+    order: ValueOrder,
+    file: &[u8],
+    list: &[u8],
+    pairs: u64,
+) {
     let mut stream = [0u8; base::STREAM_SIZE];
     let r = table::read(file, &mut stream);
     let refusal = r.refusal;
@@ -134,10 +150,16 @@ fn show_table(order: ValueOrder, file: &[u8], list: &[u8], pairs: u64) {
         return;
     }
     let length = r.length;
-    show_stream(order, &stream[0..length], list, pairs);
+    show_stream(rt, order, &stream[0..length], list, pairs);
 }
 
-fn show_stream(order: ValueOrder, stream: &[u8], list: &[u8], pairs: u64) {
+fn show_stream(
+    rt: &(impl Files<File = File> + Eprint),
+    order: ValueOrder,
+    stream: &[u8],
+    list: &[u8],
+    pairs: u64,
+) {
     let mut pool = [0u8; slots::SLOT_POOL_SIZE];
     let made = slots::make_by(order, stream, &mut pool);
     let refusal = made.refusal;
@@ -145,14 +167,11 @@ fn show_stream(order: ValueOrder, stream: &[u8], list: &[u8], pairs: u64) {
         refuse(refusal);
         return;
     }
-    let fd = os::open_read(list);
-    if fd < 0 {
-        os::fail(list);
+    let Some(input) = open(rt, list) else {
         return;
-    }
+    };
     let begun = made.core;
-    let ended = replay_parts(order, begun, stream, &mut pool, fd);
-    libc::close(fd);
+    let ended = replay_parts(order, begun, stream, &mut pool, input.as_raw_fd());
     let core = ended.core;
     report::print_core(table::units_of(stream), core);
     print_end(ended, pairs);
@@ -225,4 +244,56 @@ fn usage() {
         STDERR_FILENO,
         b"replay: for each run say ascending or cheapest, the order of values, then the file of its table, then that of its cells\n",
     );
+}
+
+// ---- arguments and files
+
+// How many arguments there are, the program's name with them.
+fn arg_count(rt: &impl Env) -> usize {
+    for i in 0..usize::MAX {
+        if !is_arg(rt, i) {
+            return i;
+        }
+    }
+    usize::MAX
+}
+
+// Whether there is an argument i.
+fn is_arg(rt: &impl Env, i: usize) -> bool {
+    let mut text = [0u8; 1];
+    match rt.arg(i, &mut text) {
+        Err(FillError::NotPresent) => false,
+        _ => true,
+    }
+}
+
+// Argument i at the start of buf; nothing where there is none, or it is longer.
+fn arg(rt: &impl Env, i: usize, buf: &mut [u8]) -> usize
+    ensures { result ≤ length buf.new }
+{
+    match rt.arg(i, buf) {
+        Ok(n) => n,
+        Err(_) => 0,
+    }
+}
+
+// The named file, open for reading; where it can't be opened, its name and why are told on standard error.
+fn open(rt: &(impl Files<File = File> + Eprint), name: &[u8]) -> Option<File> {
+    match open_text(rt, name) {
+        Ok(file) => Some(file),
+        Err(error) => {
+            io::write_all(STDERR_FILENO, name);
+            io::write_all(STDERR_FILENO, b": ");
+            let _ = rt.eprintln(error);
+            None
+        }
+    }
+}
+
+// The same; a file's name is text.
+fn open_text(rt: &impl Files<File = File>, name: &[u8]) -> Result<File, Error> {
+    match std::str::from_utf8(name) {
+        Ok(path) => File::open(rt, path),
+        Err(_) => Err(Error::from(ErrorKind::InvalidInput)),
+    }
 }

@@ -1,13 +1,16 @@
 // What the bench and the shed print of a stored table.
+#![tactic(auto)]
+
 ghost use Rattle.std.specs.Prelude.{◌≡◌};
 ghost use Rattle.table.specs.Stream.{stream_refusal};
 ghost use Rattle.search.specs.Search.{search_refusal};
 ghost use Rattle.runs.specs.Run.{unit_at};
 ghost use Rattle.report.specs.Report.{file_refusal, settle_refusal, slots_refusal, refusal_by};
 
-use libc::STDOUT_FILENO;
 use network::{Core, Count, Network, ValueOrder};
 use search::Found;
+
+const STDOUT_FILENO: i32 = 1;
 
 // What is printed of a stream: one of the two searches, or a run, values tried in this order, over 01's pool or over 02's.
 #[derive(Clone, Copy)]

@@ -2,11 +2,23 @@
 // `pair`, a unit, its value, another unit, its value and the new number. Its table is read on standard input; or, with the word `table` and a name in
 // front, from that file, so that several can be said one behind the other. Prints the least total, the ends between which the new one lies, and the
 // new one, each by branch and bound; or `refused` and the number. What is no retest, and a cost that the table hasn't, are told on standard error.
-ghost use Rattle.std.specs.Prelude.{◌+◌, ◌≤◌, ◌<◌, ◌≡◌};
+#![tactic(auto)]
+
+ghost use Rattle.std.specs.Prelude.{◌+◌, ◌≤◌, ◌<◌, ◌≡◌, length};
 
 use base::{FILE_ROOM, FILE_SIZE};
-use libc::{STDERR_FILENO, STDIN_FILENO, STDOUT_FILENO};
+use std::env::{Env, FillError};
+use std::fs::File;
+use std::io::{Error, ErrorKind};
+use std::os::fd::AsRawFd;
+use std::rt::Files;
 use table::Form;
+
+const STDIN_FILENO: i32 = 0;
+
+const STDOUT_FILENO: i32 = 1;
+
+const STDERR_FILENO: i32 = 2;
 
 // What has no digit more to come, and what stands for no number: one has nine digits at most.
 const FULL: u32 = 99999999;
@@ -21,15 +33,15 @@ struct Asked {
     numbers: [u32; 5],
 }
 
-fn main() {
-    let count = os::arg_count();
+fn main(rt: HostRuntime) {
+    let count = arg_count(&rt);
     if count < 2 {
         usage();
         return;
     }
     let mut i = 1;
     while i < count {
-        let used = retest(i, count - i);
+        let used = retest(&rt, i, count - i);
         if used == 0 {
             usage();
             return;
@@ -39,15 +51,15 @@ fn main() {
 }
 
 // The retest that the arguments from i on say, `left` of them: how many it took, 0 where they say none.
-fn retest(i: usize, left: usize) -> usize
+fn retest(rt: &(impl Files<File = File> + Env + Eprint), i: usize, left: usize) -> usize
     requires { i + left < 18446744073709551616 }
     ensures { result ≤ left }
 {
-    let skipped = named(i);
+    let skipped = named(rt, i);
     if left <= skipped {
         return 0;
     }
-    let asked = parse(i + skipped, left - skipped);
+    let asked = parse(rt, i + skipped, left - skipped);
     let words = asked.words;
     if words == 0 {
         return 0;
@@ -56,35 +68,35 @@ fn retest(i: usize, left: usize) -> usize
         show_file(STDIN_FILENO, asked);
         return words;
     }
-    show_named(i + 1, asked);
+    show_named(rt, i + 1, asked);
     skipped + words
 }
 
 // How many words stand before a retest that name its table.
-fn named(i: usize) -> usize
+fn named(rt: &impl Env, i: usize) -> usize
     ensures { result ≤ 2 }
 {
-    if is_word(i, b"table") {
+    if is_word(rt, i, b"table") {
         return 2;
     }
     0
 }
 
-fn parse(i: usize, left: usize) -> Asked
+fn parse(rt: &impl Env, i: usize, left: usize) -> Asked
     requires { i + left < 18446744073709551616 }
     ensures { result.words ≤ left }
 {
-    if is_word(i, b"own") {
-        return numbers(i, left, false, 3);
+    if is_word(rt, i, b"own") {
+        return numbers(rt, i, left, false, 3);
     }
-    if is_word(i, b"pair") {
-        return numbers(i, left, true, 5);
+    if is_word(rt, i, b"pair") {
+        return numbers(rt, i, left, true, 5);
     }
     not_understood()
 }
 
 // The m numbers behind the word at i.
-fn numbers(i: usize, left: usize, pair: bool, m: usize) -> Asked
+fn numbers(rt: &impl Env, i: usize, left: usize, pair: bool, m: usize) -> Asked
     requires { (i + left < 18446744073709551616) × (m ≤ 5) }
     ensures { result.words ≤ left }
 {
@@ -94,7 +106,7 @@ fn numbers(i: usize, left: usize, pair: bool, m: usize) -> Asked
     let mut numbers = [0u32; 5];
     let mut k = 0;
     while k < m {
-        let x = number(i + 1 + k);
+        let x = number(rt, i + 1 + k);
         if x == NO_NUMBER {
             return not_understood();
         }
@@ -120,22 +132,18 @@ fn not_understood() -> Asked
 }
 
 // Whether argument i is that word; a longer one is cut, and so is none that is known.
-fn is_word(i: usize, word: &[u8]) -> bool {
+fn is_word(rt: &impl Env, i: usize, word: &[u8]) -> bool {
     let mut text = [0u8; 6];
-    let n = os::arg(i, &mut text);
-    if os::errno() == libc::ENAMETOOLONG {
-        return false;
+    match rt.arg(i, &mut text) {
+        Ok(n) => check::same(&text[..n], word),
+        Err(_) => false,
     }
-    check::same(&text[..n], word)
 }
 
 // Argument i as a decimal number.
-fn number(i: usize) -> u32 {
+fn number(rt: &impl Env, i: usize) -> u32 {
     let mut text = [0u8; 10];
-    let n = os::arg(i, &mut text);
-    if os::errno() == libc::ENAMETOOLONG {
-        return NO_NUMBER;
-    }
+    let n = arg(rt, i, &mut text);
     if n == 0 {
         return NO_NUMBER;
     }
@@ -168,16 +176,13 @@ fn with_digit(sum: u32, digit: u8) -> u32 {
 }
 
 // Of the table in the file that argument i names.
-fn show_named(i: usize, asked: Asked) {
+fn show_named(rt: &(impl Files<File = File> + Env + Eprint), i: usize, asked: Asked) {
     let mut name = io::buffer();
-    let n = os::arg(i, &mut name);
-    let fd = os::open_read(&name[..n]);
-    if fd < 0 {
-        os::fail(&name[..n]);
+    let n = arg(rt, i, &mut name);
+    let Some(input) = open(rt, &name[..n]) else {
         return;
-    }
-    show_file(fd, asked);
-    libc::close(fd);
+    };
+    show_file(input.as_raw_fd(), asked);
 }
 
 // Form two has a number for each unary cost, so the table is taken in that form.
@@ -289,4 +294,56 @@ fn usage() {
         STDERR_FILENO,
         b"retest: say own UNIT VALUE NEW, or pair UNIT VALUE UNIT VALUE NEW; before it, unless the table is standard input, table FILE\n",
     );
+}
+
+// ---- arguments and files
+
+// How many arguments there are, the program's name with them.
+fn arg_count(rt: &impl Env) -> usize {
+    for i in 0..usize::MAX {
+        if !is_arg(rt, i) {
+            return i;
+        }
+    }
+    usize::MAX
+}
+
+// Whether there is an argument i.
+fn is_arg(rt: &impl Env, i: usize) -> bool {
+    let mut text = [0u8; 1];
+    match rt.arg(i, &mut text) {
+        Err(FillError::NotPresent) => false,
+        _ => true,
+    }
+}
+
+// Argument i at the start of buf; nothing where there is none, or it is longer.
+fn arg(rt: &impl Env, i: usize, buf: &mut [u8]) -> usize
+    ensures { result ≤ length buf.new }
+{
+    match rt.arg(i, buf) {
+        Ok(n) => n,
+        Err(_) => 0,
+    }
+}
+
+// The named file, open for reading; where it can't be opened, its name and why are told on standard error.
+fn open(rt: &(impl Files<File = File> + Eprint), name: &[u8]) -> Option<File> {
+    match open_text(rt, name) {
+        Ok(file) => Some(file),
+        Err(error) => {
+            io::write_all(STDERR_FILENO, name);
+            io::write_all(STDERR_FILENO, b": ");
+            let _ = rt.eprintln(error);
+            None
+        }
+    }
+}
+
+// The same; a file's name is text.
+fn open_text(rt: &impl Files<File = File>, name: &[u8]) -> Result<File, Error> {
+    match std::str::from_utf8(name) {
+        Ok(path) => File::open(rt, path),
+        Err(_) => Err(Error::from(ErrorKind::InvalidInput)),
+    }
 }

@@ -1,5 +1,6 @@
 // Lines of wool in comma separated text: read from any bytes, and written again. A row is a name, its mean fibre diameter in microns with at
 // most one decimal, and the number of lots that the line may go to.
+#![tactic(auto)]
 
 mod reading;
 mod scan;

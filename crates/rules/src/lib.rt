@@ -1,4 +1,5 @@
 // What a unit is: its state, what it decides on a message and what a call hands back. What it does is defined in specs/; decide and unit do it.
+#![tactic(auto)]
 
 use message::Message;
 

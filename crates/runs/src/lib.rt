@@ -1,5 +1,6 @@
 // What a network of units is: its units and counts, and what its calls hand back. What these do, and what every run of them comes to, stands in
 // specs/; network does it.
+#![tactic(auto)]
 
 use rules::Unit;
 

@@ -1,4 +1,5 @@
 // The bench's two searches over the assignments of a stream's table: exhaustive, and synchronous branch and bound.
+#![tactic(auto)]
 
 ghost use Rattle.std.specs.Prelude.{◌≡◌, ◌+◌, ◌*◌, ◌-◌, ◌≤◌, ◌<◌, false, cond, ltb, leb, get_or, length, replicate};
 ghost use Rattle.base.specs.Limits.{pair_limit, unary_limit, search_limit};

@@ -1,4 +1,5 @@
 // What a change of one cost can do to the least total: document 02's retest, the field's sensitivity.
+#![tactic(auto)]
 
 mod place; // where the number of a cost stands in a stream
 

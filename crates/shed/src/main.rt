@@ -2,33 +2,48 @@
 // then records and accepted deliveries; or `refused` and the number. Values are tried ascending, as for the listing of document 01, or with the
 // word `cheapest` the cheapest first. With `slots` as the last word the run is over the pool of document 02, job 4, the lowest cell in use
 // delivered each time.
+#![tactic(auto)]
+
 ghost use Rattle.std.specs.Prelude.{◌≤◌, length};
 
 use base::FILE_ROOM;
 use costs::ValueOrder;
-use libc::{STDERR_FILENO, STDIN_FILENO};
+use std::env::{Env, FillError};
 
-fn main() {
-    if os::arg_count() > 3 {
+const STDIN_FILENO: i32 = 0;
+
+const STDERR_FILENO: i32 = 2;
+
+fn main(rt: HostRuntime) {
+    if is_arg(&rt, 3) {
         usage();
         return;
     }
     let mut first = [0u8; 10];
-    let n = word(1, &mut first);
+    let n = word(&rt, 1, &mut first);
     let mut second = [0u8; 10];
-    let m = word(2, &mut second);
+    let m = word(&rt, 2, &mut second);
     run(&first[0..n], &second[0..m]);
 }
 
 // Argument i at the start of buf; one that is longer is cut, and so is none of the words that are known.
-fn word(i: usize, buf: &mut [u8]) -> usize
+fn word(rt: &impl Env, i: usize, buf: &mut [u8]) -> usize
     ensures { result ≤ length buf.new }
 {
-    let n = os::arg(i, buf);
-    if os::errno() == libc::ENAMETOOLONG {
-        return buf.len();
+    match rt.arg(i, buf) {
+        Ok(n) => n,
+        Err(FillError::TooLong) => buf.len(),
+        Err(FillError::NotPresent) => 0,
     }
-    n
+}
+
+// Whether there is an argument i.
+fn is_arg(rt: &impl Env, i: usize) -> bool {
+    let mut text = [0u8; 1];
+    match rt.arg(i, &mut text) {
+        Err(FillError::NotPresent) => false,
+        _ => true,
+    }
 }
 
 // What the two words ask for, either empty where it isn't there. A word alone may name the pool.

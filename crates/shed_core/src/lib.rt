@@ -1,4 +1,5 @@
 // The units and counts of a network, whatever pool their messages wait in: made, checked, and changed by a step.
+#![tactic(auto)]
 
 mod counting; // a count in two words
 mod handing; // a packet handed to its unit

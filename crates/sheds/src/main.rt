@@ -1,9 +1,17 @@
 // Prints the listings of the sample sheds of data/, each after its name, values tried ascending; that of T with the newest message delivered
 // each time, and with counts past one word; then listings with the cheapest value tried first; then listings over the pool of 02, job 4.
+#![tactic(auto)]
+
 use base::FILE_ROOM;
 use costs::ValueOrder;
-use libc::STDOUT_FILENO;
 use network::{Core, Count, Network};
+use std::fs::File;
+use std::os::fd::AsRawFd;
+use std::rt::Files;
+
+const STDOUT_FILENO: i32 = 1;
+
+const STDERR_FILENO: i32 = 2;
 
 // What the network is run over.
 #[derive(Clone, Copy)]
@@ -12,90 +20,87 @@ enum Pool {
     Slots,
 }
 
-fn main() {
-    ascending(Pool::Messages);
+fn main(rt: HostRuntime) {
+    ascending(&rt, Pool::Messages);
     // 01's case 9: 5 records, 10 deliveries, the most allowed
     io::write_all(STDOUT_FILENO, b"T, newest first\n");
     let net = newest_first();
     report::print_network(2, net);
     io::write_all(STDOUT_FILENO, b"the same, counted past one word\n");
     report::print_network(2, recounted(net));
-    cheapest();
-    slots();
+    cheapest(&rt);
+    slots(&rt);
 }
 
 // Over 01's pool these are document 01's listings.
-fn ascending(pool: Pool) {
+fn ascending(rt: &(impl Files<File = File> + Eprint), pool: Pool) {
     let order = ValueOrder::Ascending;
     // 1 to 6 units; equal totals; no costs; all costs equal; 16 values; 8, 12 and 16 units
-    show(pool, order, b"one-unit.table");
-    show(pool, order, b"t.table");
-    show(pool, order, b"three.table");
-    show(pool, order, b"three-zero.table");
-    show(pool, order, b"four-ties.table");
-    show(pool, order, b"equal.table");
-    show(pool, order, b"five.table");
-    show(pool, order, b"six.table");
-    show(pool, order, b"two-by-sixteen.table");
-    show(pool, order, b"eight.table");
-    show(pool, order, b"sparse-twelve.table");
-    show(pool, order, b"readings-sixteen.table");
+    show(rt, pool, order, "one-unit.table");
+    show(rt, pool, order, "t.table");
+    show(rt, pool, order, "three.table");
+    show(rt, pool, order, "three-zero.table");
+    show(rt, pool, order, "four-ties.table");
+    show(rt, pool, order, "equal.table");
+    show(rt, pool, order, "five.table");
+    show(rt, pool, order, "six.table");
+    show(rt, pool, order, "two-by-sixteen.table");
+    show(rt, pool, order, "eight.table");
+    show(rt, pool, order, "sparse-twelve.table");
+    show(rt, pool, order, "readings-sixteen.table");
     // barred pairs; no assignment without one, found after some deliveries, and when unit 1 is made
-    show(pool, order, b"barred-five.table");
-    show(pool, order, b"none-three.table");
-    show(pool, order, b"none-at-once.table");
+    show(rt, pool, order, "barred-five.table");
+    show(rt, pool, order, "none-three.table");
+    show(rt, pool, order, "none-at-once.table");
     // unary costs, with barred pairs in the first; one unit, whose lots cost 7, 2 and 5
-    show(pool, order, b"priced-five.table");
-    show(pool, order, b"priced-three.table");
-    show(pool, order, b"priced-one.table");
+    show(rt, pool, order, "priced-five.table");
+    show(rt, pool, order, "priced-three.table");
+    show(rt, pool, order, "priced-one.table");
     // a size of 17
-    show(pool, order, b"bad.table");
+    show(rt, pool, order, "bad.table");
 }
 
 // 02, job 9: by rising h.
-fn cheapest() {
+fn cheapest(rt: &(impl Files<File = File> + Eprint)) {
     io::write_all(STDOUT_FILENO, b"cheapest first\n");
     let pool = Pool::Messages;
     let order = ValueOrder::CheapestFirst;
-    show(pool, order, b"one-unit.table");
-    show(pool, order, b"t.table");
-    show(pool, order, b"three.table");
-    show(pool, order, b"four-ties.table");
-    show(pool, order, b"six.table");
-    show(pool, order, b"two-by-sixteen.table");
-    show(pool, order, b"eight.table");
-    show(pool, order, b"sparse-twelve.table");
-    show(pool, order, b"readings-sixteen.table");
-    show(pool, order, b"barred-five.table");
-    show(pool, order, b"none-three.table");
-    show(pool, order, b"none-at-once.table");
-    show(pool, order, b"priced-five.table");
-    show(pool, order, b"priced-three.table");
-    show(pool, order, b"bad.table");
+    show(rt, pool, order, "one-unit.table");
+    show(rt, pool, order, "t.table");
+    show(rt, pool, order, "three.table");
+    show(rt, pool, order, "four-ties.table");
+    show(rt, pool, order, "six.table");
+    show(rt, pool, order, "two-by-sixteen.table");
+    show(rt, pool, order, "eight.table");
+    show(rt, pool, order, "sparse-twelve.table");
+    show(rt, pool, order, "readings-sixteen.table");
+    show(rt, pool, order, "barred-five.table");
+    show(rt, pool, order, "none-three.table");
+    show(rt, pool, order, "none-at-once.table");
+    show(rt, pool, order, "priced-five.table");
+    show(rt, pool, order, "priced-three.table");
+    show(rt, pool, order, "bad.table");
 }
 
 // 02, job 4: the lowest cell in use is delivered each time.
-fn slots() {
+fn slots(rt: &(impl Files<File = File> + Eprint)) {
     let pool = Pool::Slots;
     io::write_all(STDOUT_FILENO, b"over slots\n");
-    ascending(pool);
+    ascending(rt, pool);
     io::write_all(STDOUT_FILENO, b"over slots, cheapest first\n");
     let order = ValueOrder::CheapestFirst;
-    show(pool, order, b"t.table");
-    show(pool, order, b"eight.table");
-    show(pool, order, b"readings-sixteen.table");
+    show(rt, pool, order, "t.table");
+    show(rt, pool, order, "eight.table");
+    show(rt, pool, order, "readings-sixteen.table");
 }
 
-fn show(pool: Pool, order: ValueOrder, name: &[u8]) {
+fn show(rt: &(impl Files<File = File> + Eprint), pool: Pool, order: ValueOrder, name: &str) {
     let mut file = [0u8; FILE_ROOM];
-    let fd = os::open_read(name);
-    if fd < 0 {
-        os::fail(name);
+    let Some(input) = open(rt, name) else {
         return;
-    }
-    let n = io::read_full(fd, &mut file);
-    libc::close(fd);
-    io::write_all(STDOUT_FILENO, name);
+    };
+    let n = io::read_full(input.as_raw_fd(), &mut file);
+    io::write_all(STDOUT_FILENO, name.as_bytes());
     io::write_all(STDOUT_FILENO, b"\n");
     match pool {
         Pool::Messages => {
@@ -103,6 +108,19 @@ fn show(pool: Pool, order: ValueOrder, name: &[u8]) {
         }
         Pool::Slots => {
             report::print_slots_by(order, &file[..n]);
+        }
+    }
+}
+
+// The named file, open for reading; where it can't be opened, its name and why are told on standard error.
+fn open(rt: &(impl Files<File = File> + Eprint), name: &str) -> Option<File> {
+    match File::open(rt, name) {
+        Ok(file) => Some(file),
+        Err(error) => {
+            io::write_all(STDERR_FILENO, name.as_bytes());
+            io::write_all(STDERR_FILENO, b": ");
+            let _ = rt.eprintln(error);
+            None
         }
     }
 }

@@ -1,5 +1,6 @@
 // A network of units over the pool of 02, job 4, which keeps the last message for each sender, receiver and kind: the numbering of its cells,
 // the newer of two messages for one, making, delivery, a recorded run replayed, and running to the end.
+#![tactic(auto)]
 
 mod cells; // cells emptied, filled and looked for
 mod delivery; // the message at a cell delivered

@@ -1,5 +1,6 @@
 // A box starts from the blocks of its stored table, one after the other: the costs that touch its unit are gathered out of them, and the stream
 // is never held whole.
+#![tactic(auto)]
 
 mod byte; // what a byte of the stream does, and what of it touches the unit
 

@@ -1,4 +1,5 @@
 // The stored table: blocks of 512 bytes, and the stream that their payloads join to.
+#![tactic(auto)]
 
 mod converter; // one form of a stored table turned into the other
 

@@ -1,108 +1,128 @@
 // Reads the sample tables of data/ and says of each what reading it gives; an accepted one is written again and compared. Then some are
 // converted into form one and form two, and back.
+#![tactic(auto)]
+
 use base::{BLOCK_SIZE, FILE_ROOM, FILE_SIZE, Length, STREAM_SIZE};
-use libc::STDOUT_FILENO;
+use std::fs::File;
+use std::os::fd::AsRawFd;
+use std::rt::Files;
 use table::Form;
 
-fn main() {
-    accepted();
-    refused();
+const STDOUT_FILENO: i32 = 1;
+
+const STDERR_FILENO: i32 = 2;
+
+fn main(rt: HostRuntime) {
+    accepted(&rt);
+    refused(&rt);
     // 13: read into 61,969 bytes; written into 511
-    show_cramped(b"t.table");
-    forms();
-    cramped_forms();
+    show_cramped(&rt, "t.table");
+    forms(&rt);
+    cramped_forms(&rt);
 }
 
 // Accepted.
-fn accepted() {
+fn accepted(rt: &(impl Files<File = File> + Eprint)) {
     // table T; T with a cost of 65,535; two blocks; 16 units of 16 values, 122 blocks
-    show(b"t.table");
-    show(b"barred.table");
-    show(b"eight.table");
-    show(b"largest.table");
+    show(rt, "t.table");
+    show(rt, "barred.table");
+    show(rt, "eight.table");
+    show(rt, "largest.table");
     // form two: T with unary costs, up to 60,000; with none above zero; one unit; 16 units of 16 values, 123 blocks
-    show(b"two.table");
-    show(b"two-zero.table");
-    show(b"two-one-unit.table");
-    show(b"largest-two.table");
+    show(rt, "two.table");
+    show(rt, "two-zero.table");
+    show(rt, "two-one-unit.table");
+    show(rt, "largest-two.table");
 }
 
 // Refused.
-fn refused() {
+fn refused(rt: &(impl Files<File = File> + Eprint)) {
     // 1: no byte; one byte cut off; a block too many
-    show(b"none.table");
-    show(b"cut.table");
-    show(b"over.table");
+    show(rt, "none.table");
+    show(rt, "cut.table");
+    show(rt, "over.table");
     // 2: two blocks swapped
-    show(b"swapped.table");
+    show(rt, "swapped.table");
     // 3: a last block of no payload; an earlier one of less than 506; a byte after the payload
-    show(b"count.table");
-    show(b"half.table");
-    show(b"unused.table");
+    show(rt, "count.table");
+    show(rt, "half.table");
+    show(rt, "unused.table");
     // 4: a byte changed
-    show(b"flipped.table");
+    show(rt, "flipped.table");
     // 5: 17 units; a size of 0; the same in form two
-    show(b"units.table");
-    show(b"size.table");
-    show(b"two-units.table");
-    show(b"two-size.table");
+    show(rt, "units.table");
+    show(rt, "size.table");
+    show(rt, "two-units.table");
+    show(rt, "two-size.table");
     // 6: a byte less; a byte more; of form two its first byte alone, no unary cost, a byte less, a byte more
-    show(b"short.table");
-    show(b"long.table");
-    show(b"two-alone.table");
-    show(b"two-missing.table");
-    show(b"two-short.table");
-    show(b"two-long.table");
+    show(rt, "short.table");
+    show(rt, "long.table");
+    show(rt, "two-alone.table");
+    show(rt, "two-missing.table");
+    show(rt, "two-short.table");
+    show(rt, "two-long.table");
     // 7: a cost of 60,001; of 65,534; a unary cost of 60,001; of 65,535; a pair cost of 60,001 in form two
-    show(b"cost.table");
-    show(b"unbarred.table");
-    show(b"two-cost.table");
-    show(b"two-barred.table");
-    show(b"two-pair.table");
+    show(rt, "cost.table");
+    show(rt, "unbarred.table");
+    show(rt, "two-cost.table");
+    show(rt, "two-barred.table");
+    show(rt, "two-pair.table");
 }
 
 // Converted into each form, and back.
-fn forms() {
-    show_forms(b"t.table");
-    show_forms(b"eight.table");
-    show_forms(b"largest.table");
-    show_forms(b"two.table");
-    show_forms(b"two-zero.table");
-    show_forms(b"largest-two.table");
+fn forms(rt: &(impl Files<File = File> + Eprint)) {
+    show_forms(rt, "t.table");
+    show_forms(rt, "eight.table");
+    show_forms(rt, "largest.table");
+    show_forms(rt, "two.table");
+    show_forms(rt, "two-zero.table");
+    show_forms(rt, "largest-two.table");
     // a reading's refusals
-    show_forms(b"flipped.table");
-    show_forms(b"two-cost.table");
+    show_forms(rt, "flipped.table");
+    show_forms(rt, "two-cost.table");
 }
 
 // Reads the named file as a table into a buffer that holds any stream.
-fn show(name: &[u8]) {
+fn show(rt: &(impl Files<File = File> + Eprint), name: &str) {
     let mut file = [0u8; FILE_ROOM];
-    let n = load(name, &mut file);
+    let n = load(rt, name, &mut file);
     let mut stream = [0u8; STREAM_SIZE];
-    show_read(name, front(&file, n), &mut stream);
+    show_read(name.as_bytes(), front(&file, n), &mut stream);
 }
 
 // The same with a buffer that is a byte short, for reading and then for writing.
-fn show_cramped(name: &[u8]) {
+fn show_cramped(rt: &(impl Files<File = File> + Eprint), name: &str) {
     let mut file = [0u8; FILE_ROOM];
-    let n = load(name, &mut file);
+    let n = load(rt, name, &mut file);
     let mut cramped = [0u8; STREAM_SIZE - 1];
-    show_read(name, front(&file, n), &mut cramped);
+    show_read(name.as_bytes(), front(&file, n), &mut cramped);
     let mut stream = [0u8; STREAM_SIZE];
     let r = table::read(front(&file, n), &mut stream);
     let mut again = [0u8; BLOCK_SIZE - 1];
     let w = table::write(front(&stream, r.length), &mut again);
-    io::write_all(STDOUT_FILENO, name);
+    io::write_all(STDOUT_FILENO, name.as_bytes());
     say(b" written refusal ", w.refusal as u64);
     io::write_all(STDOUT_FILENO, b"\n");
 }
 
 // The named file in form one and in form two.
-fn show_forms(name: &[u8]) {
+fn show_forms(rt: &(impl Files<File = File> + Eprint), name: &str) {
     let mut file = [0u8; FILE_ROOM];
-    let n = load(name, &mut file);
-    show_form(name, b" to one", front(&file, n), Form::One, Form::Two);
-    show_form(name, b" to two", front(&file, n), Form::Two, Form::One);
+    let n = load(rt, name, &mut file);
+    show_form(
+        name.as_bytes(),
+        b" to one",
+        front(&file, n),
+        Form::One,
+        Form::Two,
+    );
+    show_form(
+        name.as_bytes(),
+        b" to two",
+        front(&file, n),
+        Form::Two,
+        Form::One,
+    );
 }
 
 // The file in that form, and what converting it into the other gives.
@@ -132,9 +152,9 @@ fn show_back(file: &[u8], converted: &[u8], back: Form) {
 }
 
 // 13: a byte less than the block needed, before 18; with that byte 18
-fn cramped_forms() {
+fn cramped_forms(rt: &(impl Files<File = File> + Eprint)) {
     let mut file = [0u8; FILE_ROOM];
-    let n = load(b"two.table", &mut file);
+    let n = load(rt, "two.table", &mut file);
     let mut out = [0u8; BLOCK_SIZE - 1];
     let done = table::convert(front(&file, n), Form::One, &mut out);
     io::write_all(STDOUT_FILENO, b"two.table to one, cramped");
@@ -154,15 +174,24 @@ fn show_length(done: Length, out: &[u8]) {
 }
 
 // The named file's bytes, and how many they are.
-fn load(name: &[u8], file: &mut [u8]) -> usize {
-    let fd = os::open_read(name);
-    if fd < 0 {
-        os::fail(name);
+fn load(rt: &(impl Files<File = File> + Eprint), name: &str, file: &mut [u8]) -> usize {
+    let Some(input) = open(rt, name) else {
         return 0;
+    };
+    io::read_full(input.as_raw_fd(), file)
+}
+
+// The named file, open for reading; where it can't be opened, its name and why are told on standard error.
+fn open(rt: &(impl Files<File = File> + Eprint), name: &str) -> Option<File> {
+    match File::open(rt, name) {
+        Ok(file) => Some(file),
+        Err(error) => {
+            io::write_all(STDERR_FILENO, name.as_bytes());
+            io::write_all(STDERR_FILENO, b": ");
+            let _ = rt.eprintln(error);
+            None
+        }
     }
-    let n = io::read_full(fd, file);
-    libc::close(fd);
-    n
 }
 
 // The first n bytes, or all that there are.

@@ -1,4 +1,5 @@
 // Every tiny table: those of two or three units with two values each and pair costs 0 or 1, by number. Document 02, job 13.
+#![tactic(auto)]
 
 ghost use Rattle.std.specs.Prelude.{◌≡◌, true, ◌+◌, ◌*◌, ◌^◌, ◌≤◌, length};
 ghost use Rattle.base.specs.Bytes.{le16};

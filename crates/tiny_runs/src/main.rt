@@ -1,7 +1,10 @@
 // Prints what tiny_sheds does of the other runs of a shed: with the cheapest value tried first, and over the pool of 02, job 4.
+#![tactic(auto)]
+
 use agreement::Pool;
 use costs::ValueOrder;
-use libc::STDOUT_FILENO;
+
+const STDOUT_FILENO: i32 = 1;
 
 fn main() {
     io::write_all(STDOUT_FILENO, b"cheapest first\n");

@@ -1,4 +1,5 @@
 // One unit as it is called: made, and handed a packet.
+#![tactic(auto)]
 
 mod sending; // what is sent, laid into the lent buffer
 

@@ -4,23 +4,41 @@
 // bytes of costs, and 32 for them; how many bytes of packet, and 65 for them; 1 where the output lent is a byte too short; what the
 // state's first threshold byte is set to before the step, if not 0.
 // Each step goes on from the state that the record before left. What is sent is printed, and goes to no unit.
+#![tactic(auto)]
+
 ghost use Rattle.std.specs.Prelude.{◌+◌, ◌<◌};
 
 use base::{MESSAGE_SIZE, SENDING_SIZE};
-use libc::STDOUT_FILENO;
 use message::{Message, Read};
+use std::fs::File;
+use std::os::fd::AsRawFd;
+use std::rt::Files;
 use unit::{Outcome, Unit, ValueOrder};
 
-fn main() {
+const STDOUT_FILENO: i32 = 1;
+
+const STDERR_FILENO: i32 = 2;
+
+fn main(rt: HostRuntime) {
     let mut file = [0u8; 20480];
-    let fd = os::open_read(b"steps");
-    if fd < 0 {
-        os::fail(b"steps");
+    let Some(input) = open(&rt, "steps") else {
         return;
-    }
-    let n = io::read_full(fd, &mut file);
-    libc::close(fd);
+    };
+    let n = io::read_full(input.as_raw_fd(), &mut file);
     run(&file[..n]);
+}
+
+// The named file, open for reading; where it can't be opened, its name and why are told on standard error.
+fn open(rt: &(impl Files<File = File> + Eprint), name: &str) -> Option<File> {
+    match File::open(rt, name) {
+        Ok(file) => Some(file),
+        Err(error) => {
+            io::write_all(STDERR_FILENO, name.as_bytes());
+            io::write_all(STDERR_FILENO, b": ");
+            let _ = rt.eprintln(error);
+            None
+        }
+    }
 }
 
 // Each record, from the state that the one before left.

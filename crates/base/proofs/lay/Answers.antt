@@ -1,6 +1,5 @@
 -- `lay` meets its contract. The loop's invariant: the first i bytes are written, the rest is as it was.
 -- Assumes nothing.
-use Prim.Native.Nat.{◌-◌}
 use mathlib.Core.Path.{refl, ◌∙◌}
 use native.Mathlib.Omega.{arith}
 use lib.ListN.{length-set}

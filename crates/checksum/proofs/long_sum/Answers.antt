@@ -1,6 +1,6 @@
 -- `long_sum` meets its contract. The loop's invariant: the total is the check of the bytes passed, and below 65,521.
 -- Each product is at most 65,521 × 255, so nothing wraps. Assumes nothing.
-use Prim.Native.Nat.{◌+◌, ◌-◌, ◌%◌, ◌≤◌}
+use Prim.Native.Nat.{◌+◌, ◌%◌, ◌≤◌}
 use mathlib.Core.Path.{sym, ap, ◌∙◌}
 use native.Mathlib.Nat.{mul-le-mul}
 use native.Mathlib.Omega.{arith}

@@ -1,6 +1,6 @@
 -- `short_sum` meets its contract. The loop's invariant: the total is the sum of the bytes passed. With the next byte it is the sum of one more,
 -- which `block_most_lem` bounds, so nothing wraps. Assumes nothing.
-use Prim.Native.Nat.{ℕ, ◌+◌, ◌*◌, ◌-◌, ◌%◌, ◌≤◌, ◌<◌}
+use Prim.Native.Nat.{ℕ, ◌+◌, ◌*◌, ◌%◌, ◌≤◌, ◌<◌}
 use mathlib.Core.List.{List}
 use mathlib.Core.Path.{◌≡◌, refl, ap, ◌∙◌}
 use native.Mathlib.Omega.{arith}

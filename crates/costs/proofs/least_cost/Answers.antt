@@ -1,6 +1,6 @@
 -- `least_cost` meets its contract. The loop's invariant: the best is the least of the values up to v, as a number.
 -- Assumes nothing.
-use Rattle.std.proofs.Common.{◌≡◌, ◌+◌, ◌-◌, ◌≤◌, sym, ap, ◌∙◌, arith, rules}
+use Rattle.std.proofs.Common.{◌≡◌, ◌+◌, ◌≤◌, sym, ap, ◌∙◌, arith, rules}
 use Rattle.costs.specs.Cost.{◌⊕◌, as_number}
 use Rattle.costs.specs.Cost.Laws.{lesser_number}
 use Rattle.costs.specs.Instance.{view_knowing}

@@ -3,7 +3,6 @@
 use Rattle.std.proofs.Common.{◌≡◌, ◌-◌, ◌≤◌}
 use Rattle.costs.specs.Cost.{as_number}
 use Rattle.costs.specs.Instance.{view_knowing}
-use Rattle.costs.specs.Bounds.{h}
 use Rattle.costs.specs.Lent.Parts.{least_cost}
 use Rattle.costs.proofs.least_cost.Given as goal
 

@@ -1,6 +1,6 @@
 -- `least_run` meets its contract. The loop's invariant: the best stands for the least of the first u costs.
 -- Assumes nothing.
-use Rattle.std.proofs.Common.{◌≡◌, ◌-◌, refl, arith}
+use Rattle.std.proofs.Common.{◌≡◌, refl, arith}
 use Rattle.costs.specs.Cost.Laws.{pair_lesser}
 use Rattle.costs.specs.Lent.Steps.{run_more}
 use Rattle.costs.proofs.least_run.Goals as goal

@@ -1,6 +1,6 @@
 -- `lookahead` meets its contract. The loop's invariant: the first k numbers are known.
 -- Assumes nothing.
-use Rattle.std.proofs.Common.{◌≡◌, ◌-◌, length, replicate, refl, ap, ◌∙◌, add-one, arith, length-set}
+use Rattle.std.proofs.Common.{◌≡◌, length, replicate, refl, ap, ◌∙◌, add-one, arith, length-set}
 use Rattle.costs.specs.Cost.{as_number}
 use Rattle.costs.specs.Instance.{view_from}
 use Rattle.costs.specs.Knowing.{ahead_none, ahead_more}

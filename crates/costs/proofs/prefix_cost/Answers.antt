@@ -1,6 +1,6 @@
 -- `prefix_cost` meets its contract. The loop's invariant: the sum is the cost with the units passed, and `before` counts the values of the others among them.
 -- Assumes nothing.
-use Rattle.std.proofs.Common.{◌≡◌, ◌-◌, ◌≤◌, get_or, sym, refl, ap, ◌∙◌, arith}
+use Rattle.std.proofs.Common.{◌≡◌, ◌≤◌, get_or, sym, refl, ap, ◌∙◌, arith}
 use Rattle.costs.specs.Cost.{Of}
 use Rattle.costs.specs.Cost.Laws.{most_is}
 use Rattle.costs.specs.Instance.{view_from}

@@ -165,7 +165,7 @@ module _ (seat : Seat) where
         (sum_from_cong (λ j. least (λ u. (view_from seat costs).pair j u v) (dom_from seat j))
         (λ j. least_run [] (run_start seat x j) (dom_from seat j)) (suc (pred seat.own)) (seat.n - suc (pred seat.own))
         (λ j l m. least_same (λ u. (view_from seat costs).pair j u v) (λ u. pair_cost (cost_number [] (run_start seat x j + (u - 1)))) (dom_from seat j)
-            (λ u lo hi. simp (c, and-false))))
+        (λ u lo hi. simp (c, and-false))))
 
     -- the runs, unit by unit
     pub runs_done : (j : ℕ) → seat.n ≤ j → runs_from seat costs v j ≡ Of 0

@@ -8,7 +8,7 @@ use Rattle.std.proofs.Common.{sym, subst, inl, inr, arith}
 use Rattle.base.specs.Members.{here, Every}
 use Rattle.base.specs.Members.Laws.{every_cons, every_append}
 use Rattle.protocol.specs.Problem.{Problem, Closed, Laws, closed_mono, closed_by_values, closed_full, valid_le_none, cost_below}
-use Rattle.protocol.specs.Machine.{stop, stamp_of, Agent, stamp, values, skip, write, counted, announce, give_back, backtrack, solved, send_down, try_from, resume}
+use Rattle.protocol.specs.Machine.{stamp_of, Agent, stamp, values, skip, write, counted, announce, give_back, backtrack, solved, send_down, try_from, resume}
 use Rattle.protocol.specs.Lists.{every_announced, every-given_back, every_sent_down}
 use Rattle.protocol.specs.Tests.{le_split}
 use Rattle.protocol.specs.Walk.{try_walk, resume_cases}

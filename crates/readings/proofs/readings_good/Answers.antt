@@ -1,5 +1,4 @@
 -- `readings_good` meets its contract. The loop's invariant: the first k readings are in range. Assumes nothing.
-use Prim.Native.Nat.{◌-◌}
 use mathlib.Core.Path.{◌≡◌, refl, sym, ap, ◌∙◌}
 use mathlib.Core.Bool.{true, false}
 use native.Mathlib.Omega.{arith}

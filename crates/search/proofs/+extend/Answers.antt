@@ -1,10 +1,8 @@
 -- `extend` meets its contract: a value that is forbidden with those before it, or dropped, keeps nothing. Assumes nothing.
 use mathlib.Core.Bool.{not}
-use Rattle.std.proofs.Common.{◌+◌, ◌≤◌, ◌≡◌, sym, ap, ◌∙◌, arith, rules, length}
+use Rattle.std.proofs.Common.{◌≤◌, ◌≡◌, sym, ap, ◌∙◌, arith, rules, length}
 use Rattle.base.specs.Limits.{NONE}
-use Rattle.costs.specs.Cost.Laws.{most_is}
 use Rattle.costs.specs.Instance.{instance_of}
-use Rattle.search.specs.Best.{in_turn}
 use Rattle.search.specs.Steps.{with_value, in_turn-next, in_turn_done, best_of_values, best_full, cost_is_total, next_size, size_is_dom, next-most, dropped_reaches, reached_next, extending_next}
 use Rattle.search.proofs.+extend.Goals as goal
 use Rattle.search.proofs.+extend.Goals.{in-Of+then-not-dropped, in-Of+else-not-dropped, in_default}
@@ -37,7 +35,7 @@ loop-v-preserved t c =
     -- what is kept: what the value hands on, or the same where it is dropped or forbidden
     let kept : with_value (instance_of a.stream.now) a.left a.level a.chosen l.v l.best ≡ c.match-added_cost.best =
     elim c.match-added_cost.branch [
-      in-Of+then-not-dropped w ↦ sym (w.best-is ∙ w.extend-best.ensures)
+      | in-Of+then-not-dropped w ↦ sym (w.best-is ∙ w.extend-best.ensures)
       | in-Of+else-not-dropped w ↦ same _ l.invariant.5 (sym c.added_cost.ensures.0 ∙ w.in-Of.is) (dropped_reaches a.bounded w.dropped.result w.dropped.ensures (ap not w.if-not-dropped.false)) ∙ sym w.best-is
       | in_default w ↦ same _ l.invariant.5 (sym c.added_cost.ensures.0 ∙ w.in_default.is) tt ∙ sym w.best-is
     ] in

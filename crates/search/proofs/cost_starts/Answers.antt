@@ -1,6 +1,6 @@
 -- `cost_starts` meets its contract. The loop's invariant: the rows before i are filled, and `at` is where the next one's costs begin.
 -- Assumes nothing.
-use Prim.Native.Nat.{◌-◌, ◌≤◌}
+use Prim.Native.Nat.{◌≤◌}
 use native.Mathlib.Omega.{arith}
 use borrow.Author.Rules.{rules}
 use lib.ListN.{length}

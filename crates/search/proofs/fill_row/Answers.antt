@@ -1,6 +1,6 @@
 -- `fill_row` meets its contract. The loop's invariant: `from` is where the costs of the pair (i, j) begin, and the starts of all pairs before it are put.
 -- Assumes nothing.
-use Prim.Native.Nat.{◌-◌, ◌≤◌}
+use Prim.Native.Nat.{◌≤◌}
 use mathlib.Core.Path.{◌≡◌}
 use native.Mathlib.Omega.{arith}
 use native.Mathlib.Nat.{mul-le-mul}

@@ -1,6 +1,6 @@
 -- `too_many` meets its contract. The loop's invariant: the count is the product of the sizes passed, at most 1,048,576; sizes of 1 or more never lower it.
 -- Assumes nothing.
-use Prim.Native.Nat.{◌-◌, ◌≤◌}
+use Prim.Native.Nat.{◌≤◌}
 use mathlib.Core.Path.{◌≡◌, refl}
 use native.Mathlib.Omega.{arith}
 use native.Mathlib.Nat.{mul-le-mul}

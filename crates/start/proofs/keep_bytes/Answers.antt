@@ -1,5 +1,5 @@
 -- `keep_bytes` meets its contract. The loop's invariant: the whole answer is that of the bytes from i on, written from `place` on. Assumes nothing.
-use Prim.Native.Nat.{◌-◌, ◌≤◌, ◌<◌}
+use Prim.Native.Nat.{◌≤◌, ◌<◌}
 use mathlib.Core.Path.{refl, sym, ◌∙◌}
 use native.Mathlib.Omega.{arith}
 use lib.ListN.{length}

@@ -1,5 +1,4 @@
 -- `read_bytes` meets its contract. The loop's invariant: the whole answer is that of the bytes from i on. Assumes nothing.
-use Prim.Native.Nat.{◌-◌}
 use mathlib.Core.Path.{refl, sym, ◌∙◌}
 use native.Mathlib.Omega.{arith}
 use Rattle.start.specs.Steps.{after_turn, after_end}

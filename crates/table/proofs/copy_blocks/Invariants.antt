@@ -1,6 +1,6 @@
 -- `copy_blocks` meets its contract. The loop's invariant: the first k payloads joined, then the buffer as it was.
 -- Assumes nothing.
-use Prim.Native.Nat.{◌≤◌, ◌+◌, ◌-◌}
+use Prim.Native.Nat.{◌≤◌, ◌-◌}
 use mathlib.Core.Path.{◌≡◌}
 use mathlib.Core.List.{◌++◌}
 use lib.ListN.{length, drop}

@@ -16,8 +16,6 @@ use Rattle.table.proofs.shape_refusal.Goals.{After-is_value, After-sizes_good}
 
 -- the tests of and.before.before the sizes are those of the stream
 module _ (c : After-is_value) where
-
-
   abbrev s : List ℕ
   s = stream_in c.args.blocked c.args.bytes.now
 
@@ -34,7 +32,6 @@ module _ (c : After-is_value) where
   units-test = ap in_sixteen (sym units) ∙ sym c.is_value.ensures
 
 module _ (c : After-sizes_good) where
-
   units-good : in_sixteen (units_of (s (goal.at.After-sizes_good c).After-is_value)) ≡ true
   units-good = units-test (goal.at.After-sizes_good c).After-is_value ∙ c.if-not-is_value.false
 

@@ -1,6 +1,6 @@
 -- `sizes_good` meets its contract. The loop's invariant: the whole answer is that of the sizes from place i on.
 -- Assumes nothing.
-use Prim.Native.Nat.{◌-◌, ◌+◌}
+use Prim.Native.Nat.{◌+◌}
 use mathlib.Core.Path.{◌≡◌, sym, ap, ◌∙◌}
 use mathlib.Core.Bool.{true, false}
 use native.Mathlib.Omega.{arith}

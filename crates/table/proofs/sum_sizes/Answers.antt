@@ -1,6 +1,6 @@
 -- `sum_sizes` meets its contract. The loop's invariant: the sum of the first i sizes; bytes are small, so nothing wraps.
 -- Assumes nothing.
-use Prim.Native.Nat.{◌<◌, ◌-◌, ◌+◌}
+use Prim.Native.Nat.{◌<◌, ◌+◌}
 use mathlib.Core.Path.{◌≡◌, ap, ◌∙◌}
 use native.Mathlib.Nat.{le_refl}
 use native.Mathlib.Omega.{arith}

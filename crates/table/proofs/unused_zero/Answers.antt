@@ -1,6 +1,5 @@
 -- `unused_zero` meets its contract. The loop's invariant: the whole answer is that of the bytes from place k on.
 -- Assumes nothing.
-use Prim.Native.Nat.{◌-◌}
 use mathlib.Core.Path.{refl}
 use native.Mathlib.Omega.{arith}
 use Rattle.table.specs.BlockLaws.{zero_bad, zero_next, zero_end}

@@ -17,8 +17,6 @@ use Rattle.table.proofs.view_refusal.Goals.{After-view_byte-n, After-pairs_in-pa
 
 -- n and all sizes are there
 module _ (c : After-view_byte-n) where
-
-
   abbrev before : ℕ
   before = c.view_opening-before.result
 
@@ -51,7 +49,6 @@ module _ (c : After-view_byte-n) where
 
 -- the costs are counted
 module _ (c : After-pairs_in-pairs) where
-
   unaries : c.unaries_in-unaries.result ≡ unaries_in (s (goal.at.After-pairs_in-pairs c).After-view_byte-n)
   unaries = c.unaries_in-unaries.ensures.0 ∙ unaries_found (s (goal.at.After-pairs_in-pairs c).After-view_byte-n) (before (goal.at.After-pairs_in-pairs c).After-view_byte-n) (n (goal.at.After-pairs_in-pairs c).After-view_byte-n) (opens (goal.at.After-pairs_in-pairs c).After-view_byte-n) (units (goal.at.After-pairs_in-pairs c).After-view_byte-n)
 
@@ -67,12 +64,10 @@ whole c = omega (arith, c.requires.counted, c.if-count-pairs_at.false, pairs-fro
 
 -- the tests of costs are those of the stream
 module _ (c : After-view_costs_good) where
-
   unary-test : costs_good unary_good (s (goal.at.After-view_costs_good c).After-view_byte-n) (unaries_at (s (goal.at.After-view_costs_good c).After-view_byte-n)) (unaries_in (s (goal.at.After-view_costs_good c).After-view_byte-n)) ≡ c.view_costs_good.result
   unary-test = ap₂ (costs_good unary_good (s (goal.at.After-view_costs_good c).After-view_byte-n)) (sym (behind (goal.at.After-view_costs_good c).After-view_byte-n)) (sym (unaries (goal.at.After-view_costs_good c).After-pairs_in-pairs)) ∙ sym c.view_costs_good.ensures
 
 module _ (c : After-view_costs_good-2) where
-
   abbrev t : List ℕ
   t = s (goal.at.After-view_costs_good-2 c).After-view_byte-n
 

@@ -1,6 +1,6 @@
 -- `earlier_values` meets its contract. The loop's invariant: the count is of the first u values.
 -- Assumes nothing.
-use Rattle.std.proofs.Common.{◌≡◌, ◌+◌, ◌-◌, cond, sym, ap, ◌∙◌, arith}
+use Rattle.std.proofs.Common.{◌≡◌, ◌+◌, cond, sym, ap, ◌∙◌, arith}
 use Rattle.costs.specs.Instance.{view_knowing}
 use Rattle.costs.specs.Lent.Parts.{dom_from, earlier_up_to}
 use Rattle.costs.specs.Lent.Steps.{earlier_none, earlier_more}

@@ -1,6 +1,6 @@
 -- `all_sizes` meets its contract. The loop's invariant: the sum is that of the places passed, at most 255 for each.
 -- Assumes nothing.
-use Rattle.std.proofs.Common.{◌≡◌, ◌-◌, zero-add, arith}
+use Rattle.std.proofs.Common.{◌≡◌, zero-add, arith}
 use Rattle.costs.specs.Gather.Steps.{sum_more}
 use Rattle.costs.proofs.prefix.all_sizes.Goals as goal
 

@@ -1,6 +1,6 @@
 -- `cost_before` meets its contract. The loop's invariant: what is counted along stands at the pair with the unit at place j.
 -- Assumes nothing.
-use Rattle.std.proofs.Common.{◌≡◌, ℕ, ◌-◌, ◌≤◌, true, get_or, sym, ap, ◌∙◌, arith}
+use Rattle.std.proofs.Common.{◌≡◌, ℕ, ◌≤◌, true, get_or, sym, ap, ◌∙◌, arith}
 use Rattle.base.specs.Sums.{sum_from}
 use Rattle.base.specs.Shape.{is_value}
 use Rattle.base.specs.Shape.Laws.{value_range}

@@ -1,6 +1,6 @@
 -- `add_each` meets its contract. The loop's invariant: the first i numbers are added.
 -- Assumes nothing.
-use Rattle.std.proofs.Common.{ℕ, ◌+◌, ◌-◌, ◌*◌, get_or, ap, ◌∙◌, arith}
+use Rattle.std.proofs.Common.{ℕ, ◌+◌, ◌*◌, get_or, ap, ◌∙◌, arith}
 use Rattle.base.specs.Bytes.{u16_at}
 use Rattle.costs.specs.Rows.{widened, adding_none, adding_more, adding_done}
 use Rattle.costs.proofs.rows.add_each.Goals as goal

@@ -1,6 +1,6 @@
 -- `add_fours` meets its contract. The loop's invariant: the numbers before place i are added, four at a time; the sums from there on are as
 -- they were. Assumes nothing.
-use Rattle.std.proofs.Common.{ℕ, ◌+◌, ◌-◌, ◌*◌, refl, ap, arith}
+use Rattle.std.proofs.Common.{ℕ, ◌+◌, ◌*◌, refl, ap, arith}
 use Rattle.base.specs.Bytes.{u16_at}
 use Rattle.base.specs.Bytes.Laws.{AllBytes}
 use Rattle.costs.specs.Rows.{widened, widened-most, passing_none, passing_four, passing_done}

@@ -1,6 +1,6 @@
 -- `least_sum` meets its contract. The loop's invariant: the best is the least of the first i values, as a number, whatever their sums are of.
 -- Assumes nothing.
-use Rattle.std.proofs.Common.{◌≡◌, pred, ◌+◌, ◌-◌, ◌<◌, ◌≤◌, sym, ap, ◌∙◌, add-one, arith, rules}
+use Rattle.std.proofs.Common.{◌≡◌, pred, ◌+◌, ◌<◌, ◌≤◌, sym, ap, ◌∙◌, add-one, arith, rules}
 use Rattle.costs.specs.Cost.{◌⊕◌, as_number}
 use Rattle.costs.specs.Cost.Laws.{lesser_number}
 use Rattle.costs.specs.Instance.{view_from, view_knowing}

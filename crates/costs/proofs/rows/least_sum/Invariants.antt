@@ -3,7 +3,6 @@
 use Rattle.std.proofs.Common.{◌≡◌, ℕ, ◌-◌, ◌≤◌, List}
 use Rattle.costs.specs.Cost.{as_number}
 use Rattle.costs.specs.Instance.{view_from, view_knowing}
-use Rattle.costs.specs.Bounds.{h}
 use Rattle.costs.specs.Lent.Parts.{least_cost}
 use Rattle.costs.specs.Rows.{Sums}
 use Rattle.costs.proofs.rows.least_sum.Given as goal

@@ -1,6 +1,6 @@
 -- `paid` meets its contract. The loop's invariant: the first i numbers are told by their sums, the others are 0.
 -- Assumes nothing.
-use Rattle.std.proofs.Common.{◌≡◌, ℕ, pred, ◌+◌, ◌-◌, ◌<◌, min, get_or, replicate, sym, ap, ◌∙◌, zero-add, arith}
+use Rattle.std.proofs.Common.{◌≡◌, ℕ, pred, ◌+◌, ◌<◌, min, get_or, replicate, sym, ap, ◌∙◌, zero-add, arith}
 use lib.ListN.{length-replicate, get_or-replicate}
 use Rattle.costs.specs.Cost.{as_number}
 use Rattle.costs.specs.Instance.{view_from}

@@ -1,6 +1,6 @@
 -- `prefix_sums` meets its contract. The loop's invariant: the sums are those of the first j units, and the costs with unit j begin at byte `at`.
 -- Assumes nothing.
-use Rattle.std.proofs.Common.{◌≡◌, ℕ, pred, ◌+◌, ◌-◌, ◌*◌, ◌<◌, ◌≤◌, length, ap, ◌∙◌, mul-le-mul, mul-add, arith, rules}
+use Rattle.std.proofs.Common.{◌≡◌, ℕ, pred, ◌+◌, ◌*◌, ◌<◌, ◌≤◌, length, ap, ◌∙◌, mul-le-mul, mul-add, arith, rules}
 use Rattle.base.specs.Bytes.Laws.{AllBytes}
 use Rattle.costs.specs.Lent.Parts.{dom_from, others_before}
 use Rattle.costs.specs.Lent.Steps.{others-earlier}

@@ -1,6 +1,6 @@
 -- `put_unaries` meets its contract. The loop's invariant: the first i numbers are written.
 -- Assumes nothing.
-use Rattle.std.proofs.Common.{◌-◌, ◌*◌, length, sym, refl, ◌∙◌, arith, length-set, leb-true}
+use Rattle.std.proofs.Common.{◌*◌, length, sym, refl, ◌∙◌, arith, length-set, leb-true}
 use Rattle.base.specs.Bytes.{u16_at}
 use Rattle.costs.specs.Rows.{filled_more}
 use Rattle.costs.proofs.rows.put_unaries.Goals as goal

@@ -1,6 +1,6 @@
 -- `gather_all` meets its contract. The loop's invariant: the costs with the first j units stand behind the unary costs, and `at` is where they end.
 -- Assumes nothing.
-use Rattle.std.proofs.Common.{◌≡◌, pred, ◌-◌, length, refl, ◌∙◌, arith, length-append, rules}
+use Rattle.std.proofs.Common.{◌≡◌, pred, length, refl, ◌∙◌, arith, length-append, rules}
 use Rattle.base.specs.Join.{join_to}
 use Rattle.base.specs.Join.Laws.{join_more, join_room, join_turn}
 use Rattle.base.specs.Sums.{sum_from}

@@ -1,6 +1,6 @@
 -- `row_starts` meets its contract. The loop's invariant: the next row begins behind those passed, each of at most 255 times 16 times 255 costs,
 -- and each place passed holds where its row begins. Assumes nothing.
-use Rattle.std.proofs.Common.{◌≡◌, ◌-◌, ◌*◌, ◌<◌, ◌≤◌, length, set, refl, mul-le-mul, add-one, arith, length-set}
+use Rattle.std.proofs.Common.{◌≡◌, ◌*◌, ◌<◌, ◌≤◌, length, set, refl, mul-le-mul, add-one, arith, length-set}
 use Rattle.costs.specs.Gather.Steps.{rows_none, rows_more}
 use Rattle.costs.proofs.stream.row_starts.Goals as goal
 use Rattle.costs.proofs.stream.row_starts.Goals.{After-sum_sizes}

@@ -1,6 +1,6 @@
 -- `sizes_of` meets its contract. The loop's invariant: the first i places are written, the others zero.
 -- Assumes nothing.
-use Rattle.std.proofs.Common.{◌≡◌, ◌-◌, get_or, replicate, sym, refl, ◌∙◌, arith, rules}
+use Rattle.std.proofs.Common.{◌≡◌, get_or, replicate, sym, refl, ◌∙◌, arith, rules}
 use Rattle.costs.specs.Gather.{sizes_in}
 use Rattle.costs.specs.Gather.Sizes.{length_sizes, sizes_at}
 use Rattle.base.specs.Put.Laws.{copy_more}

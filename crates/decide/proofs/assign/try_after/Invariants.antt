@@ -3,7 +3,6 @@
 use Prim.Native.Nat.{◌-◌}
 use lib.ListN.{get_or}
 use Rattle.costs.specs.Instance.{view_knowing}
-use Rattle.costs.specs.Bounds.{h}
 use Rattle.costs.specs.Order.{left}
 use Rattle.decide.proofs.Trying.{Tried}
 use Rattle.decide.proofs.assign.try_after.Given as goal

@@ -4,7 +4,6 @@ use Prim.Native.Nat.{ℕ, suc, ◌-◌}
 use native.Mathlib.Omega.{arith}
 use native.Mathlib.Numerals.{add-one}
 use mathlib.Core.Path.{◌≡◌, ◌∙◌}
-use mathlib.Core.Logic.{⊎_elim}
 use mathlib.Core.List.{List}
 use borrow.Author.Tests.{eq-eqb, ne_eqb}
 use Rattle.costs.specs.Instance.{View}
@@ -24,7 +23,7 @@ joined c v e o =
     let a = c.args in
     let p : v.place ≡ a.own - 1 = omega arith in
     elim c.if-own-eq1.branch [
-      then-own-eq1 w ↦ simp (w.s-is, p, eq-eqb (a.own - 1) 0 (omega (arith, w.if-own-eq1.true)), add-one)
+      | then-own-eq1 w ↦ simp (w.s-is, p, eq-eqb (a.own - 1) 0 (omega (arith, w.if-own-eq1.true)), add-one)
       | else-own-eq1 w ↦ simp (w.s-is, p, ne_eqb (a.own - 1) 0 (λ z. omega (arith, w.if-own-eq1.false, z)), add-one)
     ]
 

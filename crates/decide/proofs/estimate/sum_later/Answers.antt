@@ -1,6 +1,6 @@
 -- `sum_later` meets its contract. The loop's invariant: the whole sum is what is summed and the rest from place j on.
 -- Assumes nothing.
-use Prim.Native.Nat.{ℕ, ◌-◌}
+use Prim.Native.Nat.{ℕ}
 use native.Mathlib.Omega.{arith}
 use lib.ListN.{get_or}
 use Rattle.decide.proofs.Rules.{sum_more, sum_done}

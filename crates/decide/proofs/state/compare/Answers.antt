@@ -1,6 +1,5 @@
 -- `compare` meets its contract. The loop's invariant: the first i places are equal.
 -- Assumes nothing.
-use Prim.Native.Nat.{◌-◌}
 use native.Mathlib.Omega.{arith}
 use mathlib.Core.Path.{◌≡◌, sym}
 use Rattle.decide.proofs.Orders.{less_found, more_found, equal_more, equal_none}

@@ -1,9 +1,8 @@
 -- `limits_kept` meets its contract. The loop's invariant: the first i places of both keep their limits.
 -- Assumes nothing.
-use Prim.Native.Nat.{◌-◌}
 use native.Mathlib.Omega.{arith}
 use mathlib.Core.Path.{refl}
-use mathlib.Core.Bool.{true, and-false}
+use mathlib.Core.Bool.{and-false}
 use Rattle.base.specs.Limits.{estimate_limit}
 use Rattle.decide.proofs.Ranges.{low_more, one_above, all_low}
 use Rattle.decide.proofs.state.limits_kept.Goals as goal

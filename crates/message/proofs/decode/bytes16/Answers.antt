@@ -1,6 +1,6 @@
 -- `bytes16` meets its contract. The loop's invariant: the first i bytes are copied; the measure is what is left of the 16.
 -- Assumes nothing.
-use Prim.Native.Nat.{◌-◌, ◌<◌}
+use Prim.Native.Nat.{◌<◌}
 use mathlib.Core.Path.{◌≡◌}
 use mathlib.Core.List.{append-nil}
 use native.Mathlib.Omega.{arith}

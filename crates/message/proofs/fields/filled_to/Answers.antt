@@ -1,8 +1,6 @@
 -- `filled_to` meets its contract. The loop's invariant: every place passed is good; the measure is what is left of the 16 places.
 -- Assumes nothing.
-use Prim.Native.Nat.{◌-◌}
 use mathlib.Core.Path.{◌≡◌, refl, sym, ◌∙◌}
-use mathlib.Core.Bool.{true}
 use native.Mathlib.Omega.{arith}
 use Rattle.base.specs.Every.Laws.{every_more, every_not}
 use Rattle.message.specs.Message.{place_at, filled_to}

@@ -1,6 +1,6 @@
 -- `network::decimal::digits` meets its contract. Invariant: the digits of what is left, with the text written so far, are all
 -- the digits, and zeros stand before that text. Assumes nothing.
-use Rattle.std.specs.Prelude.{◌≡◌, ◌+◌, ◌-◌, ◌≤◌, ◌++◌, length, take, drop, replicate}
+use Rattle.std.specs.Prelude.{◌≡◌, ◌≤◌, ◌++◌, length, take, drop, replicate}
 use Rattle.runs.specs.Count.{value_of}
 use Rattle.runs.specs.Digits.{decimal}
 use Rattle.network.proofs.decimal.digits.Given as goal

@@ -145,19 +145,19 @@ turned c =
     let m = h.result.message in
     let p = h.new.pool in
     elim c.match-way.branch [
-      in-Quiet w ↦ rw (w.pool-is, w.core-is, w.sent-is) (kept-turned l.core k t l.invariant.1 m h.result.sent p h.result.way (⊎_elim (λ e. inl (ap way_code e)) (λ e. inr (ap way_code e)) w.in-Quiet.is) q)
+      | in-Quiet w ↦ rw (w.pool-is, w.core-is, w.sent-is) (kept-turned l.core k t l.invariant.1 m h.result.sent p h.result.way (⊎_elim (λ e. inl (ap way_code e)) (λ e. inr (ap way_code e)) w.in-Quiet.is) q)
       | in-Follow w ↦ rw (w.pool-is, w.core-is, w.sent-is) (changed_turned l.core k t l.invariant.1 m h.result.sent p w.changed.result h.result.way (inl (ap way_code w.in-Follow.is)) q w.changed.ensures)
       | in-Store w ↦ rw (w.pool-is, w.core-is, w.sent-is) (changed_turned l.core k t l.invariant.1 m h.result.sent p w.changed-in-Store.result h.result.way (inr (inl (ap way_code w.in-Store.is))) q w.changed-in-Store.ensures)
       | in-Lower w ↦ rw (w.pool-is, w.core-is, w.sent-is) (changed_turned l.core k t l.invariant.1 m h.result.sent p w.changed-in-Lower.result h.result.way (inr (inr (ap way_code w.in-Lower.is))) q w.changed-in-Lower.ensures)
       | in-Whole w ↦
-        let stays : p ≡ l.pool = rw w.in-Whole.is at q in
-        rw (w.pool-is, w.core-is, w.sent-is)
-        (record {
-          outcome = record { refusal = 0; unit = w.decided-d.result.unit; sent = w.send_on-sent.result; records = w.decided-d.result.records };
-          handed = whole_handed t h.ensures.2 (record { message = m; answer = h.result.read }) h.ensures.1 w.decided-d.result w.decided-d.ensures w.send_on-sent.result w.send_on-sent.new.pool (rw stays at w.send_on-sent.ensures);
-          state = rw w.plus-core.ensures;
-          count = refl;
-        })
+          let stays : p ≡ l.pool = rw w.in-Whole.is at q in
+          rw (w.pool-is, w.core-is, w.sent-is)
+          (record {
+            outcome = record { refusal = 0; unit = w.decided-d.result.unit; sent = w.send_on-sent.result; records = w.decided-d.result.records };
+            handed = whole_handed t h.ensures.2 (record { message = m; answer = h.result.read }) h.ensures.1 w.decided-d.result w.decided-d.ensures w.send_on-sent.result w.send_on-sent.new.pool (rw stays at w.send_on-sent.ensures);
+            state = rw w.plus-core.ensures;
+            count = refl;
+          })
     ]
 
 -- the pool is as long as it was
@@ -165,7 +165,7 @@ pool_stays : (c : Joined-way) → length c.match-way.pool ≡ length c.args.pool
 pool_stays c =
     let h : length c.hear-turn.new.pool ≡ length c.args.pool.now = search rules in
     elim c.match-way.branch [
-      in-Quiet w ↦ rw w.pool-is h
+      | in-Quiet w ↦ rw w.pool-is h
       | in-Follow w ↦ rw w.pool-is h
       | in-Store w ↦ rw w.pool-is h
       | in-Lower w ↦ rw w.pool-is h
@@ -194,8 +194,7 @@ loop-lent-smaller c =
 pub loop-lent-preserved : goal.loop-lent-preserved
 loop-lent-preserved c =
     let past = goal.at.loop-lent-preserved c in
-    let t = turned past.Joined-way in
-    (
+    let t = turned past.Joined-way in (
       pool_stays past.Joined-way,
       rw t.state (plus_words t.outcome.records c.loop-lent.core.records),
       rw (ordered past.After-first_seat-first) (reached_next c.args.order c.args.stream.now c.requires.pool (record { refusal = 0; network = c.args.net }) c.args.pool.now c.requires.gave refl (net past.In-loop-lent) c.loop-lent.pool (reached past.In-loop-lent) (record { refusal = 0; network = next past.After-plus-core-in-loop-lent }) c.match-way.pool (delivered past.After-plus-core-in-loop-lent) (goes_on past.In-loop-lent)),

@@ -1,6 +1,5 @@
 -- `sum_sizes` meets its contract. The loop's invariant: the sizes of the first i units are added up.
 -- Assumes nothing.
-use Prim.Native.Nat.{◌-◌}
 use mathlib.Core.Path.{◌≡◌}
 use native.Mathlib.Omega.{arith}
 use Rattle.costs.specs.Gather.Steps.{sum_more}

@@ -1,6 +1,5 @@
 -- `scan` meets its contract. The loop's invariant: what is left of the text leads to the same as the whole.
 -- Assumes nothing.
-use Prim.Native.Nat.{◌-◌}
 use mathlib.Core.Path.{◌≡◌, refl, sym, ◌∙◌}
 use native.Mathlib.Omega.{arith}
 use lib.ListN.{length}

@@ -1,6 +1,5 @@
 -- `is_bare` meets its contract. The loop's invariant: what is left of the name decides.
 -- Assumes nothing.
-use Prim.Native.Nat.{◌-◌}
 use mathlib.Core.Path.{sym, ◌∙◌}
 use native.Mathlib.Omega.{arith}
 use Rattle.rows.specs.Lines.Laws.{bare_none, bare-first, bare_more, bare-last}

@@ -1,6 +1,5 @@
 -- `put_doubled` meets its contract. The loop's invariant: the first i bytes are written, each quote twice.
 -- Assumes nothing.
-use Prim.Native.Nat.{◌-◌}
 use mathlib.Core.Path.{◌≡◌, refl, ap, ◌∙◌}
 use native.Mathlib.Omega.{arith}
 use lib.ListN.{length, get_or, take}

@@ -1,6 +1,6 @@
 -- `pair_start` meets its contract. The loop's invariant: the rows passed have as many costs, each at most 255 times 16 times 255.
 -- Assumes nothing.
-use Prim.Native.Nat.{◌*◌, ◌-◌, ◌≤◌}
+use Prim.Native.Nat.{◌*◌, ◌≤◌}
 use mathlib.Core.Path.{◌≡◌}
 use native.Mathlib.Nat.{mul-le-mul}
 use native.Mathlib.Numerals.{add-one}

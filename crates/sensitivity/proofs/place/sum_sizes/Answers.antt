@@ -1,6 +1,5 @@
 -- `sum_sizes` meets its contract. The loop's invariant: the sum is that of the places passed, at most 255 for each.
 -- Assumes nothing.
-use Prim.Native.Nat.{◌-◌}
 use mathlib.Core.Path.{◌≡◌}
 use native.Mathlib.Numerals.{add-one}
 use native.Mathlib.Omega.{arith}

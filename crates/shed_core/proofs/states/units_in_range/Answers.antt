@@ -1,5 +1,5 @@
 -- `shed_core::states::units_in_range` meets its contract. Invariant: the first k units are in range. Assumes nothing.
-use Rattle.std.proofs.Common.{◌≡◌, ℕ, ◌-◌, true, sym, refl, ap, ◌∙◌, arith}
+use Rattle.std.proofs.Common.{◌≡◌, ℕ, sym, refl, ap, ◌∙◌, arith}
 use Rattle.table.specs.Stream.{units_of}
 use Rattle.table.specs.StreamLaws.{accepted_units}
 use Rattle.base.specs.Every.{every}

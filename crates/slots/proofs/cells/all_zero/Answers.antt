@@ -1,6 +1,6 @@
 -- `slots::cells::all_zero` meets its contract. The loop's invariant: the whole answer is that of the bytes from place i on.
 -- Assumes nothing.
-use Rattle.std.specs.Prelude.{◌-◌, length}
+use Rattle.std.specs.Prelude.{length}
 use mathlib.Core.Path.{sym, ap}
 use native.Mathlib.Omega.{arith}
 use lib.Seq.{take-length}

@@ -1,6 +1,5 @@
 -- `slots::cells::lowest` meets its contract. The loop's invariant: the lowest is the first of the cells from c on.
 -- Assumes nothing.
-use Rattle.std.specs.Prelude.{◌-◌}
 use mathlib.Core.Path.{sym, ◌∙◌}
 use native.Mathlib.Omega.{arith}
 use native.Mathlib.Nat.{sub-zero}

@@ -1,6 +1,6 @@
 -- `slots::cells::zero_cells` meets its contract. The loop's invariant: the first c cells are zero, the rest is as it was.
 -- Assumes nothing.
-use Rattle.std.specs.Prelude.{◌≡◌, ℕ, ◌-◌, List}
+use Rattle.std.specs.Prelude.{◌≡◌, ℕ, List}
 use mathlib.Core.Path.{refl, ap, ◌∙◌}
 use native.Mathlib.Omega.{arith}
 use Rattle.slots.specs.Slot.{used_slots}

@@ -1,6 +1,5 @@
 -- `slots::replaying::deliver_all` meets its contract. The loop's invariant: what is lent would pass, and the cells that are left, from here on, come to what the list comes to from the start.
 -- Assumes nothing.
-use Rattle.std.specs.Prelude.{◌-◌}
 use mathlib.Core.Path.{refl}
 use native.Mathlib.Omega.{arith}
 use borrow.Author.Rules.{rules}

@@ -1,7 +1,7 @@
 -- `slots::settling::run` meets its contract. The loop's invariant: units, counts and pool are what as many deliveries of the lowest cell as are counted have left
 -- of what was lent, and would pass the checks. The measure is (3n - 1) × N less the accepted deliveries: demand 3 bounds them.
 -- Assumes nothing.
-use Rattle.std.specs.Prelude.{◌≡◌, ◌-◌, false}
+use Rattle.std.specs.Prelude.{◌≡◌, false}
 use mathlib.Core.Path.{refl, sym, ◌∙◌}
 use native.Mathlib.Omega.{arith}
 use borrow.Author.Rules.{rules}

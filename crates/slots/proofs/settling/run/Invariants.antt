@@ -7,7 +7,6 @@ use Rattle.rules.specs.Units.{unit_at}
 use Rattle.runs.specs.Count.{value_of}
 use Rattle.runs.specs.Demand3.{most}
 use Rattle.slots.specs.Calls.{lent_refusal}
-use Rattle.slots.specs.Demand3.{over}
 use Rattle.slots.specs.Settle.Laws.{After}
 use Rattle.slots.proofs.settling.run.Given as goal
 

@@ -1,6 +1,5 @@
 -- `payload_of` meets its contract. The loop's invariant: the first i bytes are those of the result's stream from byte `from` on.
 -- Assumes nothing.
-use Prim.Native.Nat.{◌-◌}
 use mathlib.Core.Path.{◌≡◌, refl}
 use native.Mathlib.Omega.{arith}
 use borrow.Author.Rules.{rules}

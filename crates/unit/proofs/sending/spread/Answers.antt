@@ -1,6 +1,5 @@
 -- `spread` meets its contract. The loop's invariant: the messages to the first i units are put; the measure is how many are left.
 -- Assumes nothing.
-use Prim.Native.Nat.{◌-◌}
 use mathlib.Core.Path.{◌≡◌, refl, ◌∙◌}
 use native.Mathlib.Omega.{arith}
 use borrow.Author.Rules.{rules}

@@ -1,2 +1,0 @@
--- What the proofs of the steps in place share.
-mod Steps
