@@ -14,7 +14,7 @@ use Rattle.search.specs.Search.{assignment_count, search_refusal, search_of, bra
 use Rattle.search.specs.Laws.{searched, search_refusal_lem, bounded_is_search}
 use Rattle.runs.specs.Demand3.{Made, over, shed_of, report_of}
 use Rattle.runs.specs.Settle.{settle_of, unless_unmade}
-use Rattle.runs.specs.Settle.Laws.{settle_ends}
+use Rattle.runs.proofs.Settle.Laws.{settle_ends}
 use Rattle.runs.specs.Made.{accepted-made}
 use Rattle.slots.specs.Slot.{slot_pool_size}
 use Rattle.slots.specs.Demand3 as SD

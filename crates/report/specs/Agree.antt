@@ -16,7 +16,7 @@ use Rattle.search.specs.declared.Found.{Found}
 use Rattle.search.specs.Search.{branch_and_bound_of}
 use Rattle.search.specs.Laws.{bounded_least-first, bounded_is_least-first}
 use Rattle.runs.specs.Demand3.{ShedReport, Made, over, report_of, run_bytes}
-use Rattle.runs.specs.Theorem.{served}
+use Rattle.runs.proofs.Theorem.{served}
 use Rattle.slots.specs.Demand3 as S
 use Rattle.slots.specs.Theorem as ST
 

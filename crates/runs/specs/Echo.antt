@@ -1,14 +1,4 @@
--- PACKETS HEARD TWICE, 02, job 2, stated: "Let any message that was sent be delivered any number of times .. Still no beginning is written twice, box 1's report
--- is the least total when it stops, and until then some message that was never delivered is waiting. The limit on deliveries holds only for runs without
--- echoes." About `make_of`, `deliver_of` and `echo_of`, which the contracts of `network::make_by`, `deliver_by` and `echo_by` cite. 02 asks this of runs "where no
--- delivery is refused"; here refused ones may stand in the list too, as they change nothing. Proved in Echo/Theorem.antt (`heard-twice`, and 02's own words from it: `as_asked`). Assumes nothing.
---     Event                            a delivery that names a cell, or an echo that lends a packet
---     hear, hear_from, heard            over messages: an event, and a list of events
---     result_of, hear_bytes, heard_bytes  on bytes: the same
---     taken_in                          the bytes that accepted events handed over
---     Echoes                           every echo lends a packet that was sent before
---     HeardTwice                       what holds of such a list
---     AsAsked                          02's three claims, of one in which nothing is refused
+-- Definitions. What is proved of them, and by them, is in proofs/Echo.antt. Assumes nothing.
 use Rattle.base.specs.Library.{ℕ, ◌*◌, ◌%◌, ◌^◌, ◌<◌, ◌≡◌, ◌⊎◌, Bool, true, false, cond, List, [], ◌∷◌, ◌++◌, map, eqb, length}
 use Rattle.base.specs.Members.{In}
 use Rattle.costs.specs.declared.ValueOrder.{ValueOrder}
@@ -17,8 +7,6 @@ use Rattle.message.specs.Message.{Packet}
 use Rattle.rules.specs.{Send.packet_bytes, Units.Distinct}
 use Rattle.runs.specs.{Count.value_of, Pool.cell_of, Run.History, Run.DeliveryOf, Run.refused_by, Run.by_decision, Run.cells, Run.stopped, Run.step_on, Run.onward, Run.begin, Run.hand_over}
 use Rattle.runs.specs.{Calls.Result, Calls.deliver_of, Calls.echo_of, Demand3.Shed, Demand3.shed_of, Demand3.shed_made, Demand3.over, Demand3.report_of, Demand3.Honest, Demand3.Follows}
-pub mod Proof
-pub mod Theorem
 
 pub data Event : Type 0 where
   cell : ℕ → Event

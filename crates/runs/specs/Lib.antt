@@ -8,7 +8,6 @@ pub mod Deliveries
 pub mod Demand3
 pub mod Pool
 pub mod Proof
-pub mod Theorem
 pub mod Echo
 pub mod Lending
 pub mod Made

@@ -3,7 +3,3 @@
 pub mod Walk
 pub mod Follow
 pub mod Core
-pub mod Stands
-pub mod Invariant
-pub mod Making
-pub mod Delivery

@@ -15,7 +15,7 @@ use Rattle.costs.specs.Order.{place_tried}
 use Rattle.table.specs.Stream.{units_of, Accepted}
 use Rattle.rules.specs.Laws.Trusted.{seat_at}
 use Rattle.runs.specs.Calls.{lent_of}
-use Rattle.runs.specs.Code.{lent_is}
+use Rattle.runs.proofs.CodeLaws.{lent_is}
 
 module _ (s : List ℕ) (own : ℕ) (l out : List ℕ) (g : Length) (told : g ≡ gather_of s own (length l)) (left : out ≡ gather_into s own l) (good : g.refusal ≡ 0) where
   unrefused : gather_refusal s own (length l) ≡ 0

@@ -43,7 +43,8 @@ use Rattle.runs.specs.Pool.{cell_of}
 use Rattle.runs.specs.Pool.Laws.{sent_front}
 use Rattle.runs.specs.Pool.Stored.{encode_all_length}
 use Rattle.runs.specs.Calls.{no_core, making_refusal, core_begun, core_after, receiver_of, lent_of, step_lent, first_lent, step_from8}
-use Rattle.runs.specs.Code.{if_so, few_sent, step_numbered, SoundCore, sound_core, sound_passes, sound_after, Stepped, lent_is, first_step, own_is, own_first, own-most, at_place, hand-told, hand_keeps}
+use Rattle.runs.specs.Code.{SoundCore, Stepped}
+use Rattle.runs.proofs.CodeLaws.{if_so, few_sent, step_numbered, sound_core, sound_passes, sound_after, lent_is, first_step, own_is, own_first, own-most, at_place, hand-told, hand_keeps}
 use Rattle.slots.specs.Slot.{slot_pool_size, used_slots, may_carry, slot_or_none}
 use Rattle.slots.specs.Bytes.{slot_bytes, take_out, place_bytes, zero_cells}
 use Rattle.slots.specs.Bytes.Laws.{length_put, length_zeroed}

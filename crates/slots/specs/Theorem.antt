@@ -27,8 +27,8 @@ use Rattle.runs.specs.Deliveries.{accepted_in, handed_in}
 use Rattle.runs.specs.Deliveries.Laws.{goes_on}
 use Rattle.runs.specs.Demand3 as D
 use Rattle.runs.specs.Demand3.{most}
-use Rattle.runs.specs.Theorem as O
-use Rattle.runs.specs.Theorem.{one_report}
+use Rattle.runs.proofs.Theorem as O
+use Rattle.runs.proofs.Theorem.{one_report}
 use Rattle.runs.specs.Proof.Follow as F
 use Rattle.slots.specs.Run.{slots, begin, run}
 use Rattle.slots.specs.Bytes.{is_empty}

@@ -15,7 +15,8 @@ use Rattle.base.specs.Every.Laws.{every_not}
 use Rattle.rules.specs.declared.Unit.{Unit}
 use Rattle.rules.specs.State.{empty_unit, all_at_most, paid_in_range, in_range}
 use Rattle.runs.specs.Calls.{core_refusal}
-use Rattle.runs.specs.Code.{unit_in_range, core_states}
+use Rattle.runs.specs.Code.{unit_in_range}
+use Rattle.runs.proofs.CodeLaws.{core_states}
 use Rattle.cabi.specs.declared.LentUnit.{LentUnit}
 use Rattle.cabi.specs.declared.LentCore.{LentCore}
 use Rattle.cabi.specs.Lent.{flag_good, unit_from, unit_back, empty_lent, up_to, units_from, units_back, core_from}

@@ -42,7 +42,7 @@ use Rattle.runs.specs.Run as R
 use Rattle.runs.specs.Run.{DeliveryOf, stopped, deliver_in, history_after}
 use Rattle.runs.specs.Calls.{core_after, receiver_of, step_from8}
 use Rattle.runs.specs.Demand3.{times}
-use Rattle.runs.specs.Proof.Core.{core_passes, receiver_is, step_is, core_steps}
+use Rattle.runs.proofs.Steps.Core.{core_passes, receiver_is, step_is, core_steps}
 use Rattle.runs.specs.Proof.Follow as F
 use Rattle.runs.specs.Proof.Walk.{hand_cases, deliver_cases}
 use Rattle.slots.specs.Slot.{used_slots, slot_of}

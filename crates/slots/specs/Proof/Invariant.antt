@@ -27,7 +27,7 @@ use Rattle.runs.specs.Pool.{cell_of}
 use Rattle.runs.specs.Run.{stopped}
 use Rattle.runs.specs.Demand3.{times}
 use Rattle.runs.specs.Proof.Core.{CoreFollows}
-use Rattle.runs.specs.Proof.Invariant.{accepted_below}
+use Rattle.runs.proofs.Steps.Invariant.{accepted_below}
 use Rattle.slots.specs.Slot.{slot_pool_size, used_slots}
 use Rattle.slots.specs.Run.{Lost, at_cell, waiting_in, History}
 use Rattle.slots.specs.Bytes.{slot_bytes}

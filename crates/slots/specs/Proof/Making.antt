@@ -31,7 +31,7 @@ use Rattle.protocol.specs.Slots.Run.{KeptSlots}
 use Rattle.protocol.proofs.Slots.Run.{make_sends, make-slots, relisted}
 use Rattle.runs.specs.Run as R
 use Rattle.runs.specs.Demand3.{times}
-use Rattle.runs.specs.Proof.Core.{Begun, unit-made, core_starts}
+use Rattle.runs.proofs.Steps.Core.{Begun, unit-made, core_starts}
 use Rattle.slots.specs.Slot.{slot_pool_size, used_slots, slot_of}
 use Rattle.slots.specs.Run.{waiting_in, place, overwritten_by, slots, begin}
 use Rattle.slots.specs.Bytes.{place_bytes, zero_cells}
@@ -39,7 +39,7 @@ use Rattle.slots.specs.Calls as C
 use Rattle.slots.specs.Calls.{make_of}
 use Rattle.slots.specs.Demand3.{shed_of, shed_made, Made, Fresher}
 use Rattle.runs.specs.Calls.{making_refusal}
-use Rattle.runs.specs.Code.{makeable}
+use Rattle.runs.proofs.CodeLaws.{makeable}
 use Rattle.slots.specs.Proof.Cells.{none_at, none_wait, place_weighs, overwritten_from}
 use Rattle.slots.specs.Proof.Messages.{MayGo, all_used, AllStand, stand_placed}
 use Rattle.slots.specs.Proof.Fresh.{packets_spread}

@@ -17,7 +17,7 @@ use Rattle.runs.specs.Pool.{cell_of}
 use Rattle.runs.specs.Deliveries.{deliver_all, accepted_in}
 use Rattle.runs.specs.Deliveries.Ending as E
 use Rattle.runs.specs.Demand3.{most}
-use Rattle.runs.specs.Proof.Core.{core_passes}
+use Rattle.runs.proofs.Steps.Core.{core_passes}
 use Rattle.slots.specs.declared.Answer.{Answer}
 use Rattle.slots.specs.Slot.{used_slots}
 use Rattle.slots.specs.Bytes.{is_empty}

@@ -1,7 +1,7 @@
 -- `network::delivery::deliver_by` meets its contract: a refusal, or the message handed over. Assumes nothing.
 use mathlib.Core.Path.{refl, sym, ap, ◌∙◌}
 use Rattle.runs.specs.Calls.{Result}
-use Rattle.runs.specs.Code.{opened, deliver_stops, deliver_goes}
+use Rattle.runs.proofs.CodeLaws.{opened, deliver_stops, deliver_goes}
 use Rattle.network.proofs.delivery.deliver_by.Goals as goal
 
 pub returns-then-refusal-ne0 : goal.returns-then-refusal-ne0

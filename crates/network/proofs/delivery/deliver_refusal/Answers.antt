@@ -1,6 +1,6 @@
 -- `network::delivery::deliver_refusal` meets its contract: what is asked of the network, then the cell. Assumes nothing.
 use mathlib.Core.Path.{sym, ◌∙◌}
-use Rattle.runs.specs.Code.{check_network, check_cell, check_none}
+use Rattle.runs.proofs.CodeLaws.{check_network, check_cell, check_none}
 use Rattle.network.proofs.delivery.deliver_refusal.Goals as goal
 
 pub returns-then-refusal-ne0 : goal.returns-then-refusal-ne0

@@ -6,7 +6,8 @@ use borrow.Author.Rules.{rules}
 use lib.ListN.{length-replicate}
 use Rattle.rules.specs.State.{empty_unit}
 use Rattle.runs.specs.Pool.{cell_of}
-use Rattle.runs.specs.Code.{Stepped, own_first, own-most, hand-told, hand_sent, hand_refuses, hand_stores}
+use Rattle.runs.specs.Code.{Stepped}
+use Rattle.runs.proofs.CodeLaws.{own_first, own-most, hand-told, hand_sent, hand_refuses, hand_stores}
 use Rattle.network.proofs.delivery.hand_over.Goals as goal
 use Rattle.network.proofs.delivery.hand_over.Goals.{Start, After-receiver-own, After-step-r}
 

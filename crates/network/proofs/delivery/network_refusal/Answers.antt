@@ -1,7 +1,7 @@
 -- `network::delivery::network_refusal` meets its contract: each way out decides the tests before it. Assumes nothing.
 use mathlib.Core.Path.{sym, ◌∙◌}
 use native.Mathlib.Omega.{arith}
-use Rattle.runs.specs.Code.{check_room, check_core, check_count, check_stopped, check_running}
+use Rattle.runs.proofs.CodeLaws.{check_room, check_core, check_count, check_stopped, check_running}
 use Rattle.network.proofs.delivery.network_refusal.Goals as goal
 
 pub returns-then-room-lt-POOL_SIZE : goal.returns-then-room-lt-POOL_SIZE

@@ -1,7 +1,7 @@
 -- `network::echoing::echo_by` meets its contract: a refusal, or the packet heard. Assumes nothing.
 use mathlib.Core.Path.{refl, sym, ap, ◌∙◌}
 use Rattle.runs.specs.Calls.{Result}
-use Rattle.runs.specs.Code.{passing, echo_stops, echo_goes}
+use Rattle.runs.proofs.CodeLaws.{passing, echo_stops, echo_goes}
 use Rattle.network.proofs.echoing.echo_by.Goals as goal
 
 pub returns-then-refusal-ne0 : goal.returns-then-refusal-ne0

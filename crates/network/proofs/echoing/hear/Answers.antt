@@ -5,7 +5,8 @@ use native.Mathlib.Omega.{arith}
 use borrow.Author.Rules.{rules}
 use lib.ListN.{length-replicate}
 use Rattle.rules.specs.State.{empty_unit}
-use Rattle.runs.specs.Code.{Stepped, own_first, own-most, hand-told, hand_sent, hear_refuses, hear_stores}
+use Rattle.runs.specs.Code.{Stepped}
+use Rattle.runs.proofs.CodeLaws.{own_first, own-most, hand-told, hand_sent, hear_refuses, hear_stores}
 use Rattle.network.proofs.echoing.hear.Goals as goal
 use Rattle.network.proofs.echoing.hear.Goals.{After-receiver-own, After-step-r}
 

@@ -8,7 +8,7 @@ use borrow.Author.Rules.{rules}
 use Rattle.table.specs.Stream.{units_of, Accepted}
 use Rattle.table.specs.StreamLaws.{accepted_units}
 use Rattle.costs.specs.Gathered.{gathered}
-use Rattle.runs.specs.Code.{lent-count, lent_length, lent_front}
+use Rattle.runs.proofs.CodeLaws.{lent-count, lent_length, lent_front}
 use Rattle.runs.specs.Lending.{lent_to, lent-most, lending_none, turn_at, turn-lent}
 use Rattle.network.proofs.lending.lay.Goals as goal
 use Rattle.network.proofs.lending.lay.Goals.{After-gather-gathered}

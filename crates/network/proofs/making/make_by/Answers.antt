@@ -3,7 +3,7 @@ use Rattle.std.specs.Prelude.{◌≡◌, length}
 use mathlib.Core.Path.{sym, ◌∙◌}
 use native.Mathlib.Omega.{arith}
 use Rattle.runs.specs.Calls.{making_refusal}
-use Rattle.runs.specs.Code.{makeable, make_refuses, first_step, make_begins}
+use Rattle.runs.proofs.CodeLaws.{makeable, make_refuses, first_step, make_begins}
 use Rattle.network.proofs.making.make_by.Goals as goal
 
 pub returns-then-refusal-ne0 : goal.returns-then-refusal-ne0

@@ -15,10 +15,13 @@ use Rattle.runs.specs.Count.Laws.{Words, plus_words}
 use Rattle.runs.specs.Calls.{deliver_of}
 use Rattle.runs.specs.Demand3.{over}
 use Rattle.runs.specs.Code.{Open}
-use Rattle.runs.specs.Trusted.{checks, Oldest}
+use Rattle.runs.specs.Trusted.{Oldest}
+use Rattle.runs.proofs.Trusted.{checks}
 use Rattle.runs.specs.Lending.{no_outlook}
-use Rattle.runs.specs.Settle.Laws.{After, made_table, reached_start, reached_accepted, reached_next, measure_falls}
-use Rattle.runs.specs.Short.{Heard, Turned, way_code, kept-turned, changed_turned, whole_handed, turn-first, turn-place, turn-order, turn_end, turn_long, turn_oldest, turn_delivers}
+use Rattle.runs.specs.Settle.Laws.{After}
+use Rattle.runs.proofs.Settle.Laws.{made_table, reached_start, reached_accepted, reached_next, measure_falls}
+use Rattle.runs.specs.Short.{Heard, way_code}
+use Rattle.runs.proofs.Short.{Turned, kept-turned, changed_turned, whole_handed, turn-first, turn-place, turn-order, turn_end, turn_long, turn_oldest, turn_delivers}
 use Rattle.network.proofs.settling.run.Goals as goal
 use Rattle.network.proofs.settling.run.Goals.{in-Quiet, in-Follow, in-Store, in-Lower, in-Whole, Start, After-first_seat-first, In-loop-lent, After-seat_of-seat, After-hear-turn, In-Whole, Joined-way, After-plus-core-in-loop-lent}
 

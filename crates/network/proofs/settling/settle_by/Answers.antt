@@ -1,6 +1,6 @@
 -- `network::settling::settle_by` meets its contract: making's refusal, or the run from what it made to its end.
 -- Assumes nothing.
-use Rattle.runs.specs.Settle.Laws.{settle_unmade, begun_by, settle-stopped}
+use Rattle.runs.proofs.Settle.Laws.{settle_unmade, begun_by, settle-stopped}
 use Rattle.network.proofs.settling.settle_by.Goals as goal
 
 pub returns-then-made-ne0 : goal.returns-then-made-ne0

@@ -1,8 +1,8 @@
 -- `hear` meets its contract: what the way does to the pool is what the delivery does, by `heard`.
 -- Assumes nothing.
 use Rattle.rules.specs.Laws.Range.{SizedUnit}
-use Rattle.runs.specs.Trusted.{checks}
-use Rattle.runs.specs.Short.{heard}
+use Rattle.runs.proofs.Trusted.{checks}
+use Rattle.runs.proofs.Short.{heard}
 use borrow.Author.Rules.{rules}
 use Rattle.network.proofs.short.hear.Goals as goal
 use Rattle.network.proofs.short.hear.Goals.{Start}

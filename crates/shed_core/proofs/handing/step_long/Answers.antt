@@ -2,7 +2,7 @@
 use Rattle.std.proofs.Common.{◌≡◌, ◌-◌, take, drop, ◌∙◌, rules}
 use Rattle.rules.specs.Laws.Range.{SizedUnit}
 use Rattle.runs.specs.Calls.{lent_of}
-use Rattle.runs.specs.Code.{lent-part}
+use Rattle.runs.proofs.CodeLaws.{lent-part}
 use Rattle.shed_core.proofs.handing.step_long.Goals as goal
 use Rattle.shed_core.proofs.handing.step_long.Goals.{Start}
 

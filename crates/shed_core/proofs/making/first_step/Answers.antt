@@ -1,7 +1,7 @@
 -- `shed_core::making::first_step` meets its contract: unit 1 is made with what gathering lent it. Assumes nothing.
 use Rattle.std.proofs.Common.{◌≡◌, ◌-◌, take, drop, ◌∙◌}
 use Rattle.runs.specs.Calls.{lent_of}
-use Rattle.runs.specs.Code.{lent-part}
+use Rattle.runs.proofs.CodeLaws.{lent-part}
 use Rattle.shed_core.proofs.making.first_step.Goals as goal
 
 pub returns : goal.returns

@@ -1,6 +1,6 @@
 -- `shed_core::making::make_refusal` meets its contract: each way out decides the tests before it. Assumes nothing.
 use Rattle.std.proofs.Common.{sym, ◌∙◌, arith}
-use Rattle.runs.specs.Code.{make-table, make_room, make_none}
+use Rattle.runs.proofs.CodeLaws.{make-table, make_room, make_none}
 use Rattle.shed_core.proofs.making.make_refusal.Goals as goal
 
 pub returns-then-refusal-ne0 : goal.returns-then-refusal-ne0

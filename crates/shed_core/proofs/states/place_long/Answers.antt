@@ -3,7 +3,7 @@
 use Rattle.std.proofs.Common.{◌≡◌, ℕ, ◌-◌, take, drop, replicate, arith}
 use lib.ListN.{length-replicate}
 use Rattle.costs.specs.Gathered.{gathered}
-use Rattle.runs.specs.Code.{lent_front}
+use Rattle.runs.proofs.CodeLaws.{lent_front}
 use Rattle.shed_core.proofs.Lent.{place-lent}
 use Rattle.shed_core.proofs.states.place_long.Goals as goal
 

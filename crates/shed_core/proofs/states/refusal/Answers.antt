@@ -1,7 +1,7 @@
 -- `shed_core::states::refusal` meets its contract: each way out decides the tests before it. Assumes nothing.
 use Rattle.std.proofs.Common.{sym, ◌∙◌}
 use Rattle.table.specs.Stream.{Accepted}
-use Rattle.runs.specs.Code.{core_table, core_states, core_good}
+use Rattle.runs.proofs.CodeLaws.{core_table, core_states, core_good}
 use Rattle.shed_core.proofs.states.refusal.Goals as goal
 
 pub returns-then-refusal-ne0 : goal.returns-then-refusal-ne0

@@ -5,7 +5,8 @@ use Rattle.table.specs.StreamLaws.{accepted_units}
 use Rattle.base.specs.Every.{every}
 use Rattle.base.specs.Every.Laws.{every_more, every_not}
 use Rattle.rules.specs.Units.{unit_at}
-use Rattle.runs.specs.Code.{unit_in_range, range_of_paid}
+use Rattle.runs.specs.Code.{unit_in_range}
+use Rattle.runs.proofs.CodeLaws.{range_of_paid}
 use Rattle.shed_core.proofs.states.units_in_range.Goals as goal
 use Rattle.shed_core.proofs.states.units_in_range.Goals.{After-unit_in_range}
 

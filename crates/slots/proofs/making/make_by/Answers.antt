@@ -7,7 +7,7 @@ use Rattle.table.specs.Stream.{Accepted}
 use Rattle.table.specs.StreamLaws.{accepted_units}
 use Rattle.runs.specs.declared.Core.{Core}
 use Rattle.runs.specs.Calls.{making_refusal}
-use Rattle.runs.specs.Code.{makeable}
+use Rattle.runs.proofs.CodeLaws.{makeable}
 use Rattle.slots.specs.Placing.{place_sent}
 use Rattle.slots.specs.Code.{make_refuses, first_sent, make_begins}
 use borrow.Author.Rules.{rules}

@@ -38,9 +38,9 @@ use Rattle.runs.specs.Deliveries.{deliver_all, accepted_in, handed_in}
 use Rattle.runs.specs.Deliveries.Laws.{goes_on}
 use Rattle.runs.specs.Demand3.{ShedReport, shed_of, shed_made, shed_after, run_bytes, refusal_at, delivery, Made, over, report_of, most, Honest, Served, Demand3}
 use Rattle.runs.specs.Proof.Follow as F
-use Rattle.runs.specs.Proof.Invariant.{Invariant, deliveries_exact}
-use Rattle.runs.specs.Proof.Making.{none_handed, accepted-table, make_invariant}
-use Rattle.runs.specs.Proof.Delivery.{Delivers, after_stop, delivers}
+use Rattle.runs.proofs.Steps.Invariant.{Invariant, deliveries_exact}
+use Rattle.runs.proofs.Steps.Making.{none_handed, accepted-table, make_invariant}
+use Rattle.runs.proofs.Steps.Delivery.{Delivers, after_stop, delivers}
 
 -- ---- one run
 

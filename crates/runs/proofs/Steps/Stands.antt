@@ -39,8 +39,9 @@ use Rattle.runs.specs.Run.{History, cells, stopped}
 use Rattle.runs.specs.Calls as C
 use Rattle.runs.specs.Calls.{core_refusal, network_refusal, receiver_of, step_from8, deliver_of, echo_of}
 use Rattle.runs.specs.Demand3.{Shed}
-use Rattle.runs.specs.Code.{check_stopped, check_running, check_none, deliver_goes, echo_goes}
-use Rattle.runs.specs.Proof.Core.{CoreFollows, core_passes, receiver_is, step_is, core_steps}
+use Rattle.runs.proofs.CodeLaws.{check_stopped, check_running, check_none, deliver_goes, echo_goes}
+use Rattle.runs.specs.Proof.Core.{CoreFollows}
+use Rattle.runs.proofs.Steps.Core.{core_passes, receiver_is, step_is, core_steps}
 
 module _ (order : ValueOrder) (s : List ℕ) (ok : Accepted s) where
   -- ---- what stands

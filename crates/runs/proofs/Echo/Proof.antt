@@ -45,11 +45,11 @@ use Rattle.runs.specs.Run.{History, DeliveryOf, cells, stopped, onward}
 use Rattle.runs.specs.Calls as C
 use Rattle.runs.specs.Calls.{Result, refused_delivery, deliver_of, echo_of}
 use Rattle.runs.specs.Demand3.{Shed, shed_of, shed_made, Made}
-use Rattle.runs.specs.Code.{check_network, check_cell, deliver-refused, echo_refused}
+use Rattle.runs.proofs.CodeLaws.{check_network, check_cell, deliver-refused, echo_refused}
 use Rattle.runs.specs.Proof.Walk.{hand_cases, deliver_cases}
 use Rattle.runs.specs.Proof.Follow.{number_of}
-use Rattle.runs.specs.Proof.Stands.{Stands, sized, over_refuses, running_passes, echo_leaves, here_is, waits, cell_leaves, stands_after}
-use Rattle.runs.specs.Proof.Making.{accepted-table, making_gives, start_stands}
+use Rattle.runs.proofs.Steps.Stands.{Stands, sized, over_refuses, running_passes, echo_leaves, here_is, waits, cell_leaves, stands_after}
+use Rattle.runs.proofs.Steps.Making.{accepted-table, making_gives, start_stands}
 use Rattle.runs.specs.Echo.{Event, cell, echo, hear, result_of, bytes_at, SentBefore, HonestTo}
 
 module _ (order : ValueOrder) (s : List ℕ) (ok : Accepted s) where

@@ -28,7 +28,7 @@ use Rattle.protocol.proofs.Simulation.Table.{stream-free, laws}
 use Rattle.runs.specs.Count.{value_of}
 use Rattle.runs.specs.Run.{History, stopped}
 use Rattle.runs.specs.Demand3.{Shed, times}
-use Rattle.runs.specs.Proof.Stands.{Stands}
+use Rattle.runs.proofs.Steps.Stands.{Stands}
 
 module _ (order : ValueOrder) (s : List ℕ) (ok : Accepted s) where
   -- ---- what holds at each point of a run

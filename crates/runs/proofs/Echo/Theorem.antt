@@ -42,13 +42,13 @@ use Rattle.runs.specs.Pool.Stored.{cell_in_use, cell_bytes}
 use Rattle.runs.specs.Run as R
 use Rattle.runs.specs.Run.{History, cells, onward, run_in, run}
 use Rattle.runs.specs.Deliveries.{deliver_all}
-use Rattle.runs.specs.Theorem.{one_report}
+use Rattle.runs.proofs.Theorem.{one_report}
 use Rattle.runs.specs.Demand3.{Shed, shed_of, shed_made, shed_after, run_bytes, delivery, Made, over, report_of}
 use Rattle.runs.specs.Proof.Follow.{number_of}
-use Rattle.runs.specs.Proof.Stands.{sized}
-use Rattle.runs.specs.Proof.Making.{none_handed, accepted-table}
+use Rattle.runs.proofs.Steps.Stands.{sized}
+use Rattle.runs.proofs.Steps.Making.{none_handed, accepted-table}
 use Rattle.runs.specs.Echo.{Event, cell, hear, hear_from, heard, result_of, number_at, hear_bytes, heard_bytes, bytes_at, taken_in, EchoesFrom, Echoes, HonestTo, HeardTwice, NoneRefused, bytes_of, AsAsked}
-use Rattle.runs.specs.Echo.Proof.{Traced, Hears, hears, make-traced}
+use Rattle.runs.proofs.Echo.Proof.{Traced, Hears, hears, make-traced}
 
 -- ---- a packet is told by its bytes
 

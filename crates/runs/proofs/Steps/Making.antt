@@ -28,11 +28,11 @@ use Rattle.runs.specs.Run.{History}
 use Rattle.runs.specs.Calls as C
 use Rattle.runs.specs.Calls.{making_refusal, make_of}
 use Rattle.runs.specs.Demand3.{Shed, shed_of, shed_made, Made, times}
-use Rattle.runs.specs.Code.{makeable}
+use Rattle.runs.proofs.CodeLaws.{makeable}
 use Rattle.runs.specs.Pool.Stored.{start-stored}
-use Rattle.runs.specs.Proof.Core.{Begun, unit-made, core_starts}
-use Rattle.runs.specs.Proof.Stands.{Stands, sized}
-use Rattle.runs.specs.Proof.Invariant.{Invariant}
+use Rattle.runs.proofs.Steps.Core.{Begun, unit-made, core_starts}
+use Rattle.runs.proofs.Steps.Stands.{Stands, sized}
+use Rattle.runs.proofs.Steps.Invariant.{Invariant}
 
 -- none was handed over by making
 pub none_handed : (order : ValueOrder) (s : List ℕ) → (R.begin order (instance_of s)).handed ≡ []

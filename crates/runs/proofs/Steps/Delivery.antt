@@ -42,11 +42,11 @@ use Rattle.runs.specs.Run.{History, DeliveryOf, cells, stopped, hand_over}
 use Rattle.runs.specs.Calls as C
 use Rattle.runs.specs.Calls.{Result, refused_delivery, deliver_of}
 use Rattle.runs.specs.Demand3.{Shed, shed_of, delivery, times, Honest}
-use Rattle.runs.specs.Code.{check_network, check_cell, deliver-refused}
+use Rattle.runs.proofs.CodeLaws.{check_network, check_cell, deliver-refused}
 use Rattle.runs.specs.Proof.Walk.{hand_cases, deliver_cases}
 use Rattle.runs.specs.Proof.Follow as F
-use Rattle.runs.specs.Proof.Stands.{sized, over_refuses, running_passes, left_by, here_is, waits, cell_leaves, stands_after}
-use Rattle.runs.specs.Proof.Invariant.{Invariant, same_stop, cut, step-accepted}
+use Rattle.runs.proofs.Steps.Stands.{sized, over_refuses, running_passes, left_by, here_is, waits, cell_leaves, stands_after}
+use Rattle.runs.proofs.Steps.Invariant.{Invariant, same_stop, cut, step-accepted}
 
 -- ---- packets counted
 

@@ -1,0 +1,3 @@
+-- See specs/Echo.antt.
+pub mod Proof
+pub mod Theorem

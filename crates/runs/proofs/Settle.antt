@@ -1,0 +1,2 @@
+-- See specs/Settle.antt.
+pub mod Laws
