@@ -47,4 +47,4 @@ block_most_reached = refl
 -- 02: "one remainder at the end gives document 01's check for blocks and messages": the sum kept in 32 bits
 pub one_remainder : (s : List ℕ) → AllBytes s → length s ≤ checked_size → weigh 0 s % 2 ^ 32 % modulus ≡ sum_of s
 unfolding sum_of
-one_remainder s b h = let l : weigh 0 s < 2 ^ 32 = omega (arith, block_most_lem s b h) in ap (λ (x : ℕ). x % modulus) (mod-eq_of_lt l)
+one_remainder s b h = let l : weigh 0 s < 2 ^ 32 = omega (arith, weigh-most 0 s b, weights_up 0 (length s) checked_size h, all_weights) in ap (λ (x : ℕ). x % modulus) (mod-eq_of_lt l)

@@ -3,15 +3,14 @@
 -- laws; the limit. How these functions are specs/Bounds' is in Laws/Prefix. The laws go by one fact, `bound`: the cost so far
 -- and all estimates bound every full assignment, as one value more counts each pair of unassigned units once. It is shown of costs, in
 -- their order (Cost/Laws): a bound that is forbidden leaves no permitted assignment. The problem has them as numbers.
--- Assumes nothing.
+-- The laws themselves are in proofs/Laws.antt. Assumes nothing.
 use Rattle.std.specs.Prelude.{◌≡◌, ℕ, zero, suc, ◌+◌, ◌-◌, ◌*◌, ◌<◌, ◌≤◌, ◌≢◌, List, [], ◌∷◌, length}
 use Rattle.std.proofs.Common.{sym, ap, ◌∙◌, subst, arith, mul-le-mul}
 use Rattle.base.specs.Limits.{NONE, pair_limit, unary_limit, total_limit, prefix_limit}
-use Rattle.base.specs.Sums as N
 use Rattle.costs.specs.Cost.{Cost, Of, Forbidden, ◌⊕◌, sum_from, least, as_number}
-use Rattle.costs.specs.Cost.Laws.{add_assoc, add_zero, ◌⊑◌, le_refl, le_trans, add_mono, add_more, sum_from_add_le, least_le, least_add, AtMost, most_add, most_mono, number_most, number_le, at_least, numbers_le, reached, number_mono}
+use Rattle.costs.specs.Cost.Laws.{add_assoc, ◌⊑◌, le_refl, le_trans, add_mono, add_more, AtMost, most_add, most_mono, number_most}
 use Rattle.costs.specs.Instance.{Instance}
-use Rattle.costs.specs.Problem.{Problem, ClosedBy, Closed, Laws}
+use Rattle.costs.specs.Problem.{Problem}
 pub mod Prefix
 pub mod Stream
 pub mod Tried
@@ -59,7 +58,7 @@ module _ (I : Instance) where
 -- ---- the laws
 
 -- a value's costs a and h, e at most both; the estimates s without it and s' with it
-one_more : (c a e h s s' : Cost) → e ⊑ a ⊕ h → h ⊕ s ⊑ s' → c ⊕ (e ⊕ s) ⊑ c ⊕ a ⊕ s'
+pub one_more : (c a e h s s' : Cost) → e ⊑ a ⊕ h → h ⊕ s ⊑ s' → c ⊕ (e ⊕ s) ⊑ c ⊕ a ⊕ s'
 one_more c a e h s s' p q =
     let spread : c ⊕ (a ⊕ h ⊕ s) ≡ c ⊕ a ⊕ (h ⊕ s) = ap (λ (x : Cost). c ⊕ x) (add_assoc a h s) ∙ sym (add_assoc c a (h ⊕ s)) in
     le_trans (c ⊕ (e ⊕ s)) (c ⊕ a ⊕ (h ⊕ s)) (c ⊕ a ⊕ s')
@@ -67,70 +66,9 @@ one_more c a e h s s' p q =
     (add_mono (c ⊕ a) (h ⊕ s) (c ⊕ a) s' (le_refl (c ⊕ a)) q)
 
 module _ (I : Instance) where
-  -- one value more counts each pair of unassigned units once: h of the value, and the estimates without it
-  estimate-step : (b : List ℕ) (v j : ℕ) → least (λ w. I.cost (length b) v j w) (I.dom j) ⊕ estimate_of I j b ⊑ estimate_of I j (v ∷ b)
-  estimate-step b v j =
-      least_add (λ w. I.cost (length b) v j w) (λ w. against I j w b ⊕ h_of I j w) (λ w. against I j w (v ∷ b) ⊕ h_of I j w)
-      (λ w. sym (add_assoc (I.cost (length b) v j w) (against I j w b) (h_of I j w))) (I.dom j)
-
-  estimate-steps : (b : List ℕ) (v lo m : ℕ)
-      → sum_from (λ j. least (λ w. I.cost (length b) v j w) (I.dom j)) lo m ⊕ sum_from (λ j. estimate_of I j b) lo m ⊑ sum_from (λ j. estimate_of I j (v ∷ b)) lo m
-  estimate-steps b v lo m = sum_from_add_le (λ j. least (λ w. I.cost (length b) v j w) (I.dom j)) (λ j. estimate_of I j b) (λ j. estimate_of I j (v ∷ b)) (estimate-step b v) lo m
-
-  -- the cost so far and all estimates bound every full assignment
-  bound : (r : ℕ) (b : List ℕ) → length b + r ≡ I.n → (B : ℕ) → Of B ⊑ cost_of I b ⊕ sum_from (λ j. estimate_of I j b) (length b) r → ClosedBy (problem_of I) r b B
-  bound zero b e B le = λ few. reached B (cost_of I b) (subst (λ (x : Cost). Of B ⊑ x) (add_zero (cost_of I b)) le) few
-  bound (suc r) b e B le = λ v lo hi.
-      let k : ℕ = length b in
-      let q : I.n - suc k ≡ r = omega arith in
-      let later : h_of I k v ⊕ sum_from (λ j. estimate_of I j b) (suc k) r ⊑ sum_from (λ j. estimate_of I j (v ∷ b)) (suc k) r = rw q (estimate-steps b v (suc k) r) in
-      bound r (v ∷ b) (omega arith) B
-      (le_trans (Of B) (cost_of I b ⊕ (estimate_of I k b ⊕ sum_from (λ j. estimate_of I j b) (suc k) r)) (cost_of I (v ∷ b) ⊕ sum_from (λ j. estimate_of I j (v ∷ b)) (suc k) r) le
-      (one_more (cost_of I b) (against I k v b) (estimate_of I k b) (h_of I k v) (sum_from (λ j. estimate_of I j b) (suc k) r) (sum_from (λ j. estimate_of I j (v ∷ b)) (suc k) r)
-      (least_le (λ w. against I k w b ⊕ h_of I k w) (I.dom k) v lo hi) later))
-
-  bounded : (b : List ℕ) (B : ℕ) → length b ≤ I.n → Of B ⊑ cost_of I b ⊕ sum_from (λ j. estimate_of I j b) (length b) (I.n - length b) → Closed (problem_of I) b B
-  bounded b B l le = bound (I.n - length b) b (omega arith) B le
-
-  by_estimates : (b : List ℕ) (B : ℕ) → length b ≤ I.n
-      → B ≤ as_number (cost_of I b) + N.sum_from (λ j. as_number (estimate_of I j b)) (length b) (I.n - length b) → Closed (problem_of I) b B
-  by_estimates b B l le =
-      let m : ℕ = I.n - length b in
-      let f : ℕ → Cost = λ j. estimate_of I j b in
-      bounded b B l
-      (le_trans (Of B) (Of (as_number (cost_of I b)) ⊕ Of (N.sum_from (λ j. as_number (f j)) (length b) m)) (cost_of I b ⊕ sum_from f (length b) m) le
-      (add_mono (Of (as_number (cost_of I b))) (Of (N.sum_from (λ j. as_number (f j)) (length b) m)) (cost_of I b) (sum_from f (length b) m) (number_le (cost_of I b)) (numbers_le f (length b) m)))
-
-  by_cost : (b : List ℕ) (B : ℕ) → length b ≤ I.n → B ≤ as_number (cost_of I b) → Closed (problem_of I) b B
-  by_cost b B l le =
-      let rest : Cost = sum_from (λ j. estimate_of I j b) (length b) (I.n - length b) in
-      bounded b B l (le_trans (Of B) (cost_of I b) (cost_of I b ⊕ rest) (at_least B (cost_of I b) le) (add_more (cost_of I b) rest))
-
-  by_lookahead : (b : List ℕ) (B : ℕ) → length b ≤ I.n → B ≤ as_number (lookahead_of I b) → Closed (problem_of I) b B
-  by_lookahead [] B l le = by_cost [] B l le
-  by_lookahead (v ∷ b) B l le =
-      let m : ℕ = I.n - suc (length b) in
-      let before : Cost = sum_from (λ j. estimate_of I j b) (suc (length b)) m in
-      let rest : Cost = sum_from (λ j. estimate_of I j (v ∷ b)) (suc (length b)) m in
-      let later : h_of I (length b) v ⊑ rest =
-      le_trans (h_of I (length b) v) (h_of I (length b) v ⊕ before) rest (add_more (h_of I (length b) v) before) (estimate-steps b v (suc (length b)) m) in
-      bounded (v ∷ b) B l
-      (le_trans (Of B) (lookahead_of I (v ∷ b)) (cost_of I (v ∷ b) ⊕ rest) (at_least B (lookahead_of I (v ∷ b)) le)
-      (add_mono (cost_of I (v ∷ b)) (h_of I (length b) v) (cost_of I (v ∷ b)) rest (le_refl (cost_of I (v ∷ b))) later))
-
   pub cost_le_lookahead : (b : List ℕ) → cost_of I b ⊑ lookahead_of I b
   cost_le_lookahead [] = omega arith
   cost_le_lookahead (v ∷ b) = add_more (cost_of I (v ∷ b)) (h_of I (length b) v)
-
-  pub laws_of : Sound I → Laws (problem_of I)
-  laws_of s =
-      record {
-        size_le_16 = s.dom16;
-        cost_le_lookahead = λ b few. number_mono (cost_of I b) (lookahead_of I b) (cost_le_lookahead b) few;
-        closed_by_lookahead = by_lookahead;
-        closed_by_cost = by_cost;
-        closed_by_estimates = by_estimates;
-      }
 
 -- ---- the limit of a total, 02, job 7: "The limit on bounds and totals (not estimates) becomes 8,160,000"
 

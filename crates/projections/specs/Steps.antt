@@ -11,7 +11,8 @@ use Rattle.costs.specs.Instance.{dom_in, pair_start, in_pair}
 use Rattle.costs.specs.declared.Cost.{Cost}
 use Rattle.costs.specs.declared.Cost.TheVariants.{Of, Forbidden}
 use Rattle.costs.specs.Cost.{as_number}
-use Rattle.costs.specs.Cost.Laws.{AtMost, least_cong, most-least, lesser_number}
+use Rattle.costs.specs.Cost.Laws.{AtMost, least_cong, lesser_number}
+use Rattle.costs.proofs.LeastOf.{most-least}
 use Rattle.projections.specs.declared.Moved.{Moved}
 use Rattle.projections.specs.declared.Run.{Run}
 use Rattle.projections.specs.declared.Found.{Found}

@@ -19,9 +19,11 @@ use Rattle.costs.specs.Instance.{Instance, View, view_by}
 use Rattle.costs.specs.Bounds.{Assignment, total}
 use Rattle.costs.specs.Order.Laws.{ascending_place}
 use Rattle.costs.specs.Least.{Before, LeastFirst, Padded}
-use Rattle.costs.specs.Least.Laws.{Agree, agree_next, before_differs, before_not_after, alike_total}
+use Rattle.costs.specs.Least.Laws.{Agree, agree_next, before_differs, before_not_after}
+use Rattle.costs.proofs.Least.Laws.{alike_total}
 use Rattle.costs.specs.Laws.{Sound}
-use Rattle.costs.specs.Laws.Prefix.{total_limit_lem, permitted_total, total_permitted}
+use Rattle.costs.specs.Laws.Prefix.{permitted_total, total_permitted}
+use Rattle.costs.proofs.Laws.Prefix.{total_limit_lem}
 use Rattle.search.specs.declared.Best.{Best}
 use Rattle.search.specs.Best.{nothing, keep, in_turn, best_from, best_of}
 

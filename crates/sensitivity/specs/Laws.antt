@@ -16,7 +16,7 @@ use Rattle.costs.specs.Cost.Laws.{◌⊑◌, le_refl, le_trans, add_mono, add_pa
 use Rattle.costs.specs.Instance.{Instance}
 use Rattle.costs.specs.Bounds.{Valued, Assignment, total, Reported}
 use Rattle.costs.specs.Laws.{Sound}
-use Rattle.costs.specs.Laws.Prefix.{total_limit_lem}
+use Rattle.costs.proofs.Laws.Prefix.{total_limit_lem}
 use Rattle.sensitivity.specs.Ends.{ends_of, WithinEnds, Between}
 use Rattle.sensitivity.specs.Changes.{Which, Unary, Pair, cost_at, There, SameShape, lowered_by, over_values, over_costs, lowerings, raises, OneCost}
 

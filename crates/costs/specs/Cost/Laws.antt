@@ -3,7 +3,7 @@
 -- In order: sums; the order; the least; costs that are numbers; limits; as numbers; costs of a table.
 -- Assumes nothing.
 use Rattle.std.specs.Prelude.{◌≡◌, ℕ, zero, suc, ◌+◌, ◌-◌, ◌*◌, ◌<◌, ◌≤◌, min, Bool, true, false, cond, ◌||◌, ◌≢◌, ◌==◌, nat_le, nat_lt, refl}
-use Rattle.std.proofs.Common.{sym, ap, subst, arith, leb-true, leb-false, ltb-true, ltb-false, le-ltb, eqb-true, ne_eqb}
+use Rattle.std.proofs.Common.{sym, ap, subst, arith, leb-true, ltb-true, ltb-false, le-ltb, eqb-true, ne_eqb}
 use Rattle.std.proofs.lemmas.Bool.{false≢true, eqb-false}
 use Rattle.base.specs.Sums as N
 use Rattle.base.specs.Limits.{NONE, pair_limit, forbidden_pair}
@@ -109,18 +109,18 @@ sum_from_add_le f g k e lo (suc m) =
 
 -- ---- the least of f 1, .., f d
 
-lesser-left : (c d : Cost) → lesser c d ⊑ c
+pub lesser-left : (c d : Cost) → lesser c d ⊑ c
 lesser-left (Of m) (Of n) = omega arith
 lesser-left (Of m) Forbidden = omega arith
 lesser-left Forbidden (Of n) = tt
 lesser-left Forbidden Forbidden = tt
 
-lesser_right : (c d : Cost) → lesser c d ⊑ d
+pub lesser_right : (c d : Cost) → lesser c d ⊑ d
 lesser_right (Of m) (Of n) = omega arith
 lesser_right (Of m) Forbidden = tt
 lesser_right Forbidden d = le_refl d
 
-lesser_greatest : (e c d : Cost) → e ⊑ c → e ⊑ d → e ⊑ lesser c d
+pub lesser_greatest : (e c d : Cost) → e ⊑ c → e ⊑ d → e ⊑ lesser c d
 lesser_greatest (Of x) (Of m) (Of n) p q = omega arith
 lesser_greatest (Of x) (Of m) Forbidden p q = p
 lesser_greatest Forbidden (Of m) d p q = absurd p
@@ -132,26 +132,6 @@ least_cong f g (suc d) e =
     let a : f (suc d) ≡ g (suc d) = e (suc d) in
     let b : least f d ≡ least g d = least_cong f g d e in
     cc
-
-pub least_le : (f : ℕ → Cost) (d v : ℕ) → 1 ≤ v → v ≤ d → least f d ⊑ f v
-least_le f zero v lo hi = absurd (omega arith)
-least_le f (suc d) v lo hi = go (nat_le v d) refl (λ l. least_le f d v lo l)
-  where
-    go : (t : Bool) → nat_le v d ≡ t → (v ≤ d → least f d ⊑ f v) → least f (suc d) ⊑ f v
-    go true e ih = le_trans (least f (suc d)) (least f d) (f v) (lesser-left (least f d) (f (suc d))) (ih (leb-true v d e))
-    go false e ih = let q : v ≡ suc d = omega (arith, leb-false v d e) in rw q (lesser_right (least f d) (f (suc d)))
-
--- what bounds every value from below bounds the least
-pub least_ge : (c : Cost) (f : ℕ → Cost) (d : ℕ) → ((v : ℕ) → 1 ≤ v → v ≤ d → c ⊑ f v) → c ⊑ least f d
-least_ge (Of n) f zero h = tt
-least_ge Forbidden f zero h = tt
-least_ge c f (suc d) h = lesser_greatest c (least f d) (f (suc d)) (least_ge c f d (λ v lo hi. h v lo (omega arith))) (h (suc d) (omega arith) (omega arith))
-
--- least values of two parts are at most the least of their sum
-pub least_add : (f g k : ℕ → Cost) → ((v : ℕ) → f v ⊕ g v ≡ k v) → (d : ℕ) → least f d ⊕ least g d ⊑ least k d
-least_add f g k e d =
-    least_ge (least f d ⊕ least g d) k d
-    (λ v lo hi. subst (λ x. least f d ⊕ least g d ⊑ x) (e v) (add_mono (least f d) (least g d) (f v) (g v) (least_le f d v lo hi) (least_le g d v lo hi)))
 
 -- ---- costs that are numbers
 
@@ -230,10 +210,6 @@ pub most-lesser : (M : ℕ) (c d : Cost) → AtMost M c → AtMost M d → AtMos
 most-lesser M (Of m) (Of n) p q = omega arith
 most-lesser M (Of m) Forbidden p q = p
 most-lesser M Forbidden d p q = q
-
-pub most-least : (M : ℕ) (f : ℕ → Cost) (d : ℕ) → ((v : ℕ) → AtMost M (f v)) → AtMost M (least f d)
-most-least M f zero h = tt
-most-least M f (suc d) h = most-lesser M (least f d) (f (suc d)) (most-least M f d h) (h (suc d))
 
 pub most-sum_from : (M : ℕ) (f : ℕ → Cost) (lo m : ℕ) → ((j : ℕ) → AtMost M (f j)) → AtMost (M * m) (sum_from f lo m)
 most-sum_from M f lo zero h = omega arith

@@ -5,14 +5,13 @@ use Rattle.std.specs.Prelude.{◌≡◌, ℕ, zero, suc, ◌-◌, ◌<◌, ◌�
 use Rattle.std.proofs.Common.{sym, ◌∙◌, subst, inl, inr, arith, get_or-set_same, get_or-set_other, lt-ltb, le-ltb, eqb-true}
 use Rattle.std.proofs.Math.Path.{ap}
 use Rattle.std.proofs.lemmas.Bool.{eqb-false}
-use Rattle.base.specs.Limits.{NONE, total_limit}
 use Rattle.costs.specs.Cost.{Cost, Of, Forbidden, ◌⊕◌, sum_to, least, as_number}
 use Rattle.costs.specs.Instance.{Instance, view_by}
 use Rattle.costs.specs.declared.ValueOrder.{ValueOrder}
-use Rattle.costs.specs.Bounds.{cost_with, h, estimate, Permitted, Assignment, total, Reported}
-use Rattle.costs.specs.Problem.{InDomains, Full, Closed, closed-least}
-use Rattle.costs.specs.Cost.Laws.{add_assoc, add_zero, add_comm, sum_from_cong, sum_to_cong, least_cong, number_not_forbidden, sum_right, sum_number, sums_number, sums_part, AtMost, number_below, number_is}
-use Rattle.costs.specs.Laws.{Sound, against, cost_of, h_of, lookahead_of, estimate_of, problem_of, full_limit, permitted_below}
+use Rattle.costs.specs.Bounds.{cost_with, h, estimate, Permitted, total, Reported}
+use Rattle.costs.specs.Problem.{InDomains}
+use Rattle.costs.specs.Cost.Laws.{add_assoc, add_zero, add_comm, sum_from_cong, sum_to_cong, least_cong, number_not_forbidden, sum_right, sum_number, sums_number, sums_part}
+use Rattle.costs.specs.Laws.{against, cost_of, h_of, lookahead_of, estimate_of, problem_of}
 
 -- ---- the first k places, the last first
 
@@ -130,40 +129,9 @@ module _ (I : Instance) where
       go true e ih = let q : slice_index_or l k 0 ≤ I.dom k = subst (λ m. slice_index l k ≤ I.dom m) (length_pre k l) d.1 in rw (eqb-true i k e) (d.0, q)
       go false e ih = let q : i ≡ k → ⊥ = eqb-false i k e in ih (omega arith)
 
-  pub full_assignment : (l : List ℕ) → Full (problem_of I) (pre I.n l) → Assignment I l
-  full_assignment l f = (in_dom_prefix I.n l f.1, total_permitted l (subst (λ (x : Cost). x ≢ Forbidden) (sym (total_prefix l)) (number_below (cost_of I (pre I.n l)) f.2)))
-
-module _ (I : Instance) (s : Sound I) where
-  pub assignment_full : (l : List ℕ) → Assignment I l → Full (problem_of I) (pre I.n l)
-  assignment_full l a = (
-    length_pre I.n l,
-    prefix_in_dom I I.n l a.0,
-    permitted_below I s (pre I.n l) (omega (arith, length_pre I.n l)) (subst (λ (x : Cost). x ≢ Forbidden) (total_prefix I l) (permitted_total I l a.1)),
-  )
-
-  -- once the empty prefix is closed, every assignment totals at least that
-  pub closed-total : (B : ℕ) → Closed (problem_of I) [] B → (l : List ℕ) → Assignment I l → B ≤ as_number (total I l)
-  closed-total B c l a = rw (total_prefix I l) (closed-least (problem_of I) B c (pre I.n l) (assignment_full l a))
-
-  -- ---- what is reported: NONE where the empty prefix is closed by it, or the cost of a full prefix that closes the empty one
-
-  pub none_reported : (best : List ℕ) → ((k : ℕ) → slice_index best k ≡ 0) → Closed (problem_of I) [] NONE → Reported I NONE best
-  none_reported best z c = inl (refl, z, λ l a. let f = assignment_full l a in omega (arith, closed-least (problem_of I) NONE c (pre I.n l) f, f.2))
-
-  pub full_reported : (B : ℕ) (best : List ℕ) → B ≡ as_number (cost_of I (pre I.n best)) → Full (problem_of I) (pre I.n best) → Closed (problem_of I) [] B → Reported I B best
-  full_reported B best e f c =
-      let number : cost_of I (pre I.n best) ≡ Of B = number_is (cost_of I (pre I.n best)) (number_below (cost_of I (pre I.n best)) f.2) ∙ ap Of (sym e) in
-      inr (full_assignment I best f, total_prefix I best ∙ number, closed-total B c)
-
 -- what two reports share
 pub reported_same : (I : Instance) (B C : ℕ) (l m : List ℕ) → Reported I B l → Reported I C m → B ≡ C
 reported_same I B C l m (inl p) (inl q) = p.0 ∙ sym q.0
 reported_same I B C l m (inl p) (inr q) = absurd (p.2 m q.0)
 reported_same I B C l m (inr p) (inl q) = absurd (q.2 l p.0)
 reported_same I B C l m (inr p) (inr q) = omega (arith, p.2 m q.0, q.2 l p.0, ap as_number p.1, ap as_number q.1)
-
--- ---- the limit, of arrays
-
-module _ (I : Instance) (s : Sound I) where
-  pub total_limit_lem : (l : List ℕ) → AtMost total_limit (total I l)
-  total_limit_lem l = rw (total_prefix I l) (full_limit I s (pre I.n l) (omega (arith, length_pre I.n l)))

@@ -2,16 +2,15 @@
 -- `values_at` reads them as values in their domains, and `places_at` is the way back (Order/Laws: each order is a permutation).
 -- In order: the two readings, one to one; what is closed over values is closed over places, and back; the laws; full prefixes.
 -- Assumes nothing.
-use Rattle.std.specs.Prelude.{◌≡◌, ℕ, zero, suc, ◌+◌, ◌-◌, ◌≤◌, List, [], ◌∷◌, length, refl}
-use Rattle.std.proofs.Common.{sym, ap, ◌∙◌, subst, arith}
-use Rattle.base.specs.Sums as N
+use Rattle.std.specs.Prelude.{◌≡◌, ℕ, zero, suc, ◌-◌, ◌≤◌, List, [], ◌∷◌, length, refl}
+use Rattle.std.proofs.Common.{sym, ap, ◌∙◌, subst}
 use Rattle.costs.specs.declared.ValueOrder.{ValueOrder}
 use Rattle.costs.specs.Cost.{as_number}
 use Rattle.costs.specs.Instance.{Instance, View, view_by}
 use Rattle.costs.specs.Order.{place_tried, value_at}
 use Rattle.costs.specs.Order.Laws.{place-least, place-most, value_least, value_most, place_of_value, value_of_place}
-use Rattle.costs.specs.Problem.{Problem, InDomains, Full, ClosedBy, Closed, Laws}
-use Rattle.costs.specs.Laws.{Sound, cost_of, lookahead_of, estimate_of, problem_of, laws_of}
+use Rattle.costs.specs.Problem.{Problem, InDomains, Full, ClosedBy, Closed}
+use Rattle.costs.specs.Laws.{cost_of, lookahead_of, estimate_of, problem_of}
 
 -- ---- places read as values, and values as places
 
@@ -73,32 +72,11 @@ module _ (o : ValueOrder) (I : Instance) where
       let le : v ≤ I.dom (length b) = subst (λ k. v ≤ I.dom k) (length_values b) hi in
       subst (λ x. ClosedBy (problem_of I) r (x ∷ values_at o I b) B) (value_of_place w v le) (closed-values r (place_tried w v ∷ b) B (c (place_tried w v) (place-least w v lo) (place-most w v le)))
 
-  to_places : (b : List ℕ) (B : ℕ) → Closed (problem_of I) (values_at o I b) B → Closed (problem_by o I) b B
+  pub to_places : (b : List ℕ) (B : ℕ) → Closed (problem_of I) (values_at o I b) B → Closed (problem_by o I) b B
   to_places b B c = closed-places (I.n - length b) b B (subst (λ k. ClosedBy (problem_of I) (I.n - k) (values_at o I b) B) (length_values b) c)
 
   pub closed_empty : (B : ℕ) → Closed (problem_by o I) [] B → Closed (problem_of I) [] B
   closed_empty B c = closed-values (I.n - 0) [] B c
-
-  -- ---- the laws, for either order
-
-  pub laws_by : Sound I → Laws (problem_by o I)
-  laws_by s =
-      record {
-        size_le_16 = s.dom16;
-        cost_le_lookahead = λ b few. l.cost_le_lookahead (values_at o I b) few;
-        closed_by_lookahead = λ b B le h. to_places b B (l.closed_by_lookahead (values_at o I b) B (short b le) h);
-        closed_by_cost = λ b B le h. to_places b B (l.closed_by_cost (values_at o I b) B (short b le) h);
-        closed_by_estimates = λ b B le h.
-            to_places b B
-            (l.closed_by_estimates (values_at o I b) B (short b le)
-            (subst (λ k. B ≤ as_number (cost_of I (values_at o I b)) + N.sum_from (λ j. as_number (estimate_of I j (values_at o I b))) k (I.n - k)) (sym (length_values b)) h));
-      }
-    where
-      l : Laws (problem_of I)
-      l = laws_of I s
-
-      short : (b : List ℕ) → length b ≤ I.n → length (values_at o I b) ≤ I.n
-      short b le = omega (arith, length_values b, le)
 
   -- ---- a full prefix of places is one of values
 

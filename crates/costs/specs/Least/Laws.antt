@@ -10,7 +10,7 @@ use Rattle.costs.specs.Instance.{Instance, View, view_by}
 use Rattle.costs.specs.Bounds.{Valued, Assignment, total, Reported}
 use Rattle.costs.specs.Order.{place_tried, value_at}
 use Rattle.costs.specs.Order.Laws.{value_of_place}
-use Rattle.costs.specs.Laws.Prefix.{pre_cong, total_prefix, reported_same}
+use Rattle.costs.specs.Laws.Prefix.{reported_same}
 use Rattle.costs.specs.Least.{Before, LeastFirst, Padded}
 
 -- ---- lists that agree
@@ -24,9 +24,6 @@ agree_next k l m a e i h = go (i == k) refl
     go : (t : Bool) → (i == k) ≡ t → slice_index l i ≡ slice_index m i
     go true q = rw (eqb-true i k q) e
     go false q = let r : i ≡ k → ⊥ = eqb-false i k q in a i (omega arith)
-
-pub alike_total : (I : Instance) (l m : List ℕ) → Agree I.n l m → total I l ≡ total I m
-alike_total I l m a = rw (total_prefix I l, total_prefix I m, pre_cong I.n l m a)
 
 -- ---- which of two comes first
 

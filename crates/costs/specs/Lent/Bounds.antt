@@ -1,9 +1,9 @@
 -- What check 7 gives of the sums over a view: first for any view whose costs keep it, then for costs that were not refused.
 -- Each sum has at most so many terms, and each that is a number is within the limit; a cost number past the end is 0.
 -- Assumes nothing.
-use Rattle.std.specs.Prelude.{◌≡◌, ℕ, suc, pred, ◌+◌, ◌-◌, ◌*◌, ◌≤◌, Bool, true, false, cond, not, ◌&&◌, List, length, ◌==◌, nat_lt, slice_index}
-use Rattle.std.proofs.Math.Path.{refl, subst}
-use Rattle.std.proofs.Common.{sym, ltb-true, ltb-false, eqb-true}
+use Rattle.std.specs.Prelude.{◌≡◌, ℕ, pred, ◌+◌, ◌-◌, ◌*◌, ◌≤◌, Bool, true, false, cond, not, ◌&&◌, List, length, ◌==◌, nat_lt, slice_index}
+use Rattle.std.proofs.Math.Path.{refl}
+use Rattle.std.proofs.Common.{ltb-true, ltb-false, eqb-true}
 use Rattle.std.proofs.Math.Nat.{zero-add}
 use native.Mathlib.Omega.{arith}
 use Rattle.base.specs.Limits.{pair_limit, unary_limit}
@@ -12,11 +12,11 @@ use Rattle.base.specs.Shape.{is_value}
 use Rattle.base.specs.Shape.Laws.{value_range, and_left, and_right}
 use Rattle.table.specs.Stream.{unary_good, pair_good, costs_good}
 use Rattle.table.specs.StreamLaws.{costs_at, pair_small, unary_most}
-use Rattle.costs.specs.Cost.{Cost, Of, ◌⊕◌, sum_to, least}
-use Rattle.costs.specs.Cost.Laws.{AtMost, good_cost, most_add, most-least, most-sum_from, most_sum_to}
+use Rattle.costs.specs.Cost.{Cost, Of, sum_to}
+use Rattle.costs.specs.Cost.Laws.{AtMost, good_cost, most_add, most_sum_to}
 use Rattle.costs.specs.Instance.{View, lookahead, dom_in, cost_number, lent_view}
 use Rattle.costs.specs.declared.ValueOrder.{ValueOrder}
-use Rattle.costs.specs.Bounds.{cost_with, h, estimate}
+use Rattle.costs.specs.Bounds.{cost_with}
 use Rattle.costs.specs.Lent.{unary_count, lent_count, lent_good, lent_refusal}
 
 -- ---- any view
@@ -27,23 +27,6 @@ module _ (w : View) (unary-small : (v : ℕ) → w.unary v ≤ unary_limit) (sma
   cost-most values k v =
       most_add unary_limit (pair_limit * k) (Of (w.unary v)) (sum_to (λ j. w.pair j (slice_index values j) v) k) (unary-small v)
       (most_sum_to pair_limit (λ j. w.pair j (slice_index values j) v) k (λ j. small j (slice_index values j) v))
-
-  lookahead-most : (v : ℕ) → AtMost (pair_limit * (w.n - suc w.place)) (lookahead w.place w.n w.dom w.pair v)
-  lookahead-most v =
-      most-sum_from pair_limit (λ j. least (λ u. w.pair j u v) (w.dom j)) (suc w.place) (w.n - suc w.place)
-      (λ j. most-least pair_limit (λ u. w.pair j u v) (w.dom j) (λ u. small j u v))
-
-  -- where h is what `lookahead` says
-  module _ (looks : (v : ℕ) → w.ahead v ≡ lookahead w.place w.n w.dom w.pair v) where
-    h-most : (v : ℕ) → AtMost (pair_limit * (w.n - suc w.place)) (h w v)
-    unfolding h
-    h-most v = subst (AtMost (pair_limit * (w.n - suc w.place))) (sym (looks v)) (lookahead-most v)
-
-    pub estimate-most : (values : List ℕ) (k : ℕ) → AtMost (unary_limit + pair_limit * k + pair_limit * (w.n - suc w.place)) (estimate w values k)
-    unfolding estimate
-    estimate-most values k =
-        most-least (unary_limit + pair_limit * k + pair_limit * (w.n - suc w.place)) (λ v. cost_with w values k v ⊕ h w v) (w.dom w.place)
-        (λ v. most_add (unary_limit + pair_limit * k) (pair_limit * (w.n - suc w.place)) (cost_with w values k v) (h w v) (cost-most values k v) (h-most v))
 
 -- ---- costs that were not refused
 

@@ -22,7 +22,8 @@ use Rattle.table.specs.StreamLaws.{unaries_two, accepted_unary, accepted-cost}
 use Rattle.costs.specs.declared.Cost.{Cost}
 use Rattle.costs.specs.declared.Cost.TheVariants.{Of, Forbidden}
 use Rattle.costs.specs.Cost.{as_number, pair_cost}
-use Rattle.costs.specs.Cost.Laws.{AtMost, most-least, good_cost}
+use Rattle.costs.specs.Cost.Laws.{AtMost, good_cost}
+use Rattle.costs.proofs.LeastOf.{most-least}
 use Rattle.costs.specs.Instance.{cost_number, dom_in, dom_of}
 use Rattle.costs.specs.Gather.{sizes_in}
 use Rattle.costs.specs.Gather.Sizes.{accepted-sizes_good}

@@ -16,7 +16,8 @@ use Rattle.base.specs.Sums.{sum_to}
 use Rattle.costs.specs.declared.Cost.{Cost}
 use Rattle.costs.specs.declared.Cost.TheVariants.{Of, Forbidden}
 use Rattle.costs.specs.Cost.{◌⊕◌}
-use Rattle.costs.specs.Cost.Laws.{◌⊑◌, least_le}
+use Rattle.costs.specs.Cost.Laws.{◌⊑◌}
+use Rattle.costs.proofs.LeastOf.{least_le}
 use Rattle.costs.specs.Instance.{dom_in}
 use Rattle.costs.specs.Bounds.{Valued, total}
 use Rattle.costs.specs.Laws.Stream.{all_four}

@@ -9,7 +9,8 @@ use Rattle.costs.specs.declared.ValueOrder.{ValueOrder}
 use Rattle.costs.specs.declared.Cost.{Cost}
 use Rattle.costs.specs.declared.Cost.TheVariants.{Of}
 use Rattle.costs.specs.Instance.{view_by, instance_of, dom_of}
-use Rattle.costs.specs.Laws.Tried.{laws_by, problem_by}
+use Rattle.costs.specs.Laws.Tried.{problem_by}
+use Rattle.costs.proofs.Laws.Tried.{laws_by}
 use Rattle.costs.specs.Laws.Stream.{sound_of}
 use Rattle.costs.specs.Gather.{sizes_in}
 use Rattle.costs.specs.Gather.Sizes.{length_sizes, sizes_at, accepted-sizes_good}

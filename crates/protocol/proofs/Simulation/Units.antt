@@ -13,7 +13,8 @@ use Rattle.costs.specs.declared.Cost.TheVariants.{Of}
 use Rattle.costs.specs.Instance.{Instance, view_by}
 use Rattle.costs.specs.Order.Laws.{value_of_none}
 use Rattle.costs.specs.Laws.{Sound}
-use Rattle.costs.specs.Laws.Tried.{problem_by, laws_by}
+use Rattle.costs.specs.Laws.Tried.{problem_by}
+use Rattle.costs.proofs.Laws.Tried.{laws_by}
 use Rattle.message.specs.Message.{Packet}
 use Rattle.rules.specs.declared.Unit.{Unit as UnitState}
 use Rattle.rules.specs.State.{fresh, empty_unit}

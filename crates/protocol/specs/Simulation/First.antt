@@ -13,7 +13,8 @@ use Rattle.costs.specs.Order.Laws.{place-least, place-most, value_of_place}
 use Rattle.costs.specs.Least.{Before, LeastFirst}
 use Rattle.costs.specs.Problem.{ClosedBy, closed-next}
 use Rattle.costs.specs.Laws.{Sound, cost_of, problem_of}
-use Rattle.costs.specs.Laws.Prefix.{pre, length_pre, pre_cong, total_prefix, assignment_full, in_dom_prefix}
+use Rattle.costs.specs.Laws.Prefix.{pre, length_pre, pre_cong, total_prefix, in_dom_prefix}
+use Rattle.costs.proofs.Laws.Prefix.{assignment_full}
 use Rattle.costs.specs.Laws.Tried.{values_at, places_at, problem_by, places_of_values, closed_empty}
 use Rattle.rules.specs.declared.Unit.{Unit as UnitState}
 use Rattle.protocol.specs.Problem.{NONE, Full, InDomains, Closed, closed-least, ValidBound, Passed}

@@ -9,7 +9,8 @@ use Rattle.costs.specs.Cost.{as_number}
 use Rattle.costs.specs.Instance.{Instance}
 use Rattle.costs.specs.Bounds.{Reported}
 use Rattle.costs.specs.Laws.{Sound, cost_of, problem_of}
-use Rattle.costs.specs.Laws.Prefix.{pre, length_pre, none_reported, full_reported}
+use Rattle.costs.specs.Laws.Prefix.{pre, length_pre}
+use Rattle.costs.proofs.Laws.Prefix.{none_reported, full_reported}
 use Rattle.costs.specs.Laws.Tried.{values_at, problem_by, closed_empty, full_values}
 use Rattle.rules.specs.declared.Unit.{Unit as UnitState}
 use Rattle.protocol.specs.Problem.{Full, Closed, ValidBound}

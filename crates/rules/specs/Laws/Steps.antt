@@ -17,7 +17,7 @@ use Rattle.costs.specs.Cost.{as_number}
 use Rattle.costs.specs.Cost.Laws.{AtMost, most_mono}
 use Rattle.costs.specs.Instance.{View}
 use Rattle.costs.specs.Bounds.{estimate}
-use Rattle.costs.specs.Lent.Bounds.{estimate-most}
+use Rattle.costs.proofs.Lent.Bounds.{estimate-most}
 use Rattle.message.specs.declared.Message.{Message}
 use Rattle.message.specs.declared.Kind.{Kind}
 use Rattle.message.specs.declared.Kind.TheVariants.{Cpa, Request, Estimate, Solution, Stop}

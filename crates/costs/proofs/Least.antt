@@ -1,0 +1,2 @@
+-- See specs/Least.antt.
+pub mod Laws

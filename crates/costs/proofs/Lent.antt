@@ -1,0 +1,2 @@
+-- See specs/Lent.antt.
+pub mod Bounds
