@@ -17,7 +17,7 @@ use Rattle.costs.specs.Instance.{Instance}
 use Rattle.costs.specs.Bounds.{Valued, Assignment, total, Reported}
 use Rattle.costs.specs.Laws.{Sound}
 use Rattle.costs.proofs.Laws.Prefix.{total_limit_lem}
-use Rattle.sensitivity.specs.Ends.{ends_of, WithinEnds, Between}
+use Rattle.sensitivity.specs.Ends.{WithinEnds}
 use Rattle.sensitivity.specs.Changes.{Which, Unary, Pair, cost_at, There, SameShape, lowered_by, over_values, over_costs, lowerings, raises, OneCost}
 
 -- ---- sums with one term
@@ -202,12 +202,12 @@ module _ (I J : Instance) (same : SameShape I J) where
   total_second : (l : List ℕ) → total J l ≡ total_by (cost_at J) I.n l
   total_second l = total_by_lem J l ∙ ap (λ (n : ℕ). total_by (cost_at J) n l) same.units
 
-  raised-total : (l : List ℕ) → Valued I l → total J l ⊑ total I l ⊕ Of (raises I J)
+  pub raised-total : (l : List ℕ) → Valued I l → total J l ⊑ total I l ⊕ Of (raises I J)
   raised-total l h =
       rw (total_second l, total_by_lem I l)
       (total_near I (cost_at J) (cost_at I) (λ w. lowered_by (cost_at J w) (cost_at I w)) (λ w q. near_lowered (cost_at J w) (cost_at I w) (same.only_forbidden w q)) l h)
 
-  lowered-total : (l : List ℕ) → Valued I l → total I l ⊑ total J l ⊕ Of (lowerings I J)
+  pub lowered-total : (l : List ℕ) → Valued I l → total I l ⊑ total J l ⊕ Of (lowerings I J)
   lowered-total l h =
       rw (total_second l, total_by_lem I l)
       (total_near I (cost_at I) (cost_at J) (λ w. lowered_by (cost_at I w) (cost_at J w)) (λ w q. near_lowered (cost_at I w) (cost_at J w) (same.forbidden w q)) l h)
@@ -215,45 +215,9 @@ module _ (I J : Instance) (same : SameShape I J) where
 -- ---- the least totals
 
 -- the least is at most what any assignment has
-reach : (B x : ℕ) (c : Cost) → B ≤ as_number c → c ⊑ Of x → B ≤ x
+pub reach : (B x : ℕ) (c : Cost) → B ≤ as_number c → c ⊑ Of x → B ≤ x
 reach B x (Of n) h p = omega arith
 reach B x Forbidden h p = absurd p
-
-module _ (I J : Instance) (same : SameShape I J) (t t' : ℕ) (l m : List ℕ) (a : Reported I t l) (b : Reported J t' m) where
-  -- of numbers, so that what is none may count as one
-  sums_apart : (t - lowerings I J ≤ t') × (t' ≤ t + raises I J)
-  sums_apart = go a b
-    where
-      go : Reported I t l → Reported J t' m → (t - lowerings I J ≤ t') × (t' ≤ t + raises I J)
-      go (inl p) (inl q) = (omega (arith, p.0, q.0), omega (arith, p.0, q.0))
-      go (inl p) (inr q) = absurd (p.2 m (same_assignments J I (same_back I J same) m q.0))
-      go (inr p) (inl q) = absurd (q.2 l (same_assignments I J same l p.0))
-      go (inr p) (inr q) =
-          let back : Assignment I m = same_assignments J I (same_back I J same) m q.0 in
-          let up : total J l ⊑ Of (t + raises I J) = subst (λ (c : Cost). total J l ⊑ c ⊕ Of (raises I J)) p.1 (raised-total I J same l p.0.0) in
-          let down : total I m ⊑ Of (t' + lowerings I J) = subst (λ (c : Cost). total I m ⊑ c ⊕ Of (lowerings I J)) q.1 (lowered-total I J same m back.0) in
-          let lower : t ≤ t' + lowerings I J = reach t (t' + lowerings I J) (total I m) (p.2 m back) down in
-          (omega arith, reach t' (t + raises I J) (total J l) (q.2 l (same_assignments I J same l p.0)) up)
-
-  none_kept : Sound I → t ≡ NONE → t' ≡ NONE
-  none_kept sound e = go a b
-    where
-      go : Reported I t l → Reported J t' m → t' ≡ NONE
-      go (inl p) (inl q) = q.0
-      go (inl p) (inr q) = absurd (p.2 m (same_assignments J I (same_back I J same) m q.0))
-      go (inr p) q = absurd (omega (arith, e, most_is total_limit t (total I l) p.1 (total_limit_lem I sound l)))
-
-  -- "the ends add up: lowerings for the lower end, raises for the upper"
-  pub ends_add_up : Sound I → WithinEnds t (lowerings I J) (raises I J) t'
-  ends_add_up sound = go (eqb t NONE) refl
-    where
-      go : (r : Bool) → eqb t NONE ≡ r → (cond r NONE (t - lowerings I J) ≤ t') × (t' ≤ cond r NONE (t + raises I J))
-      go true e = let q : t' ≡ NONE = none_kept sound (eqb-true t NONE e) in (omega arith, omega arith)
-      go false e = sums_apart
-
--- "a table with no lotting keeps none", and only such a one has none
-pub keeps_none : (I J : Instance) → SameShape I J → Sound I → Sound J → (t t' : ℕ) (l m : List ℕ) → Reported I t l → Reported J t' m → (t ≡ NONE → t' ≡ NONE) × (t' ≡ NONE → t ≡ NONE)
-keeps_none I J same sound sound' t t' l m a b = (none_kept I J same t t' l m a b sound, none_kept J I (same_back I J same) t' t m l b a sound')
 
 -- retests one after the other: what is between one pair of ends, and then between another
 pub one_after_another : (t t' t'' down up down' up' : ℕ) → WithinEnds t down up t' → WithinEnds t' down' up' t'' → WithinEnds t (down + down') (up + up') t''
@@ -269,7 +233,7 @@ one_after_another t t' t'' down up down' up' p q = go (eqb t NONE) (eqb t' NONE)
 -- ---- one cost
 
 -- larger sums leave more between the ends
-more_within : (t t' down down' up up' : ℕ) → down ≤ down' → up ≤ up' → WithinEnds t down up t' → WithinEnds t down' up' t'
+pub more_within : (t t' down down' up up' : ℕ) → down ≤ down' → up ≤ up' → WithinEnds t down up t' → WithinEnds t down' up' t'
 more_within t t' down down' up up' d u p = go (eqb t NONE) p
   where
     go : (r : Bool) → (cond r NONE (t - down) ≤ t') × (t' ≤ cond r NONE (t + up)) → (cond r NONE (t - down') ≤ t') × (t' ≤ cond r NONE (t + up'))
@@ -308,20 +272,11 @@ module _ (I J : Instance) (w : Which) (old new : ℕ) (one : OneCost I J w old n
       omega (arith, e, one_cost_sum I f w (λ x h ne. same_lowers_none (cost_at J x) (cost_at I x) (one.others x h ne)))
 
 -- a cost of a table, as the call takes it
-cost_limit : (I : Instance) → Sound I → (w : Which) (x : ℕ) → cost_at I w ≡ Of x → x ≤ pair_limit
+pub cost_limit : (I : Instance) → Sound I → (w : Which) (x : ℕ) → cost_at I w ≡ Of x → x ≤ pair_limit
 cost_limit I s (Unary k v) x e = omega (arith, s.unary_small k v, number_eq (I.unary k v) x e)
 cost_limit I s (Pair i u j v) x e = most_is pair_limit x (I.cost i u j v) e (s.small i u j v)
 
 -- none, or within the limit
-total-given : (I : Instance) → Sound I → (t : ℕ) (l : List ℕ) → Reported I t l → (leb t total_limit || eqb t NONE) ≡ true
+pub total-given : (I : Instance) → Sound I → (t : ℕ) (l : List ℕ) → Reported I t l → (leb t total_limit || eqb t NONE) ≡ true
 total-given I s t l (inl p) = rw p.0
 total-given I s t l (inr p) = rw (le-leb t total_limit (most_is total_limit t (total I l) p.1 (total_limit_lem I s l)))
-
-module _ (I J : Instance) (s : Sound I) (s' : Sound J) (w : Which) (old new : ℕ) (one : OneCost I J w old new) (t t' : ℕ) (l m : List ℕ) (a : Reported I t l) (b : Reported J t' m) where
-  -- "Raising one cost by an amount raises the least total by 0 to that amount; lowering lowers it likewise."
-  pub one_retest : Between (ends_of t old new) t'
-  unfolding ends_of
-  one_retest =
-      let w' : WithinEnds t (old - new) (new - old) t' =
-      more_within t t' (lowerings I J) (old - new) (raises I J) (new - old) (one_lowering I J w old new one) (one_raise I J w old new one) (ends_add_up I J (one_shape I J w old new one) t t' l m a b s) in
-      rw (le-leb old pair_limit (cost_limit I s w old one.was), le-leb new pair_limit (cost_limit J s' w new one.becomes), total-given I s t l a) (record { taken = refl; lower = w'.0; upper = w'.1 })

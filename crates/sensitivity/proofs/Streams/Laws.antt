@@ -22,7 +22,7 @@ use Rattle.search.specs.Search.{branch_and_bound_of}
 use Rattle.search.specs.Laws.{bounded_least-first}
 use Rattle.sensitivity.specs.Ends.{ends_of, WithinEnds, Between}
 use Rattle.sensitivity.specs.Changes.{Which, Unary, Pair, cost_at, There, SameShape, lowerings, raises, OneCost}
-use Rattle.sensitivity.specs.Laws.{ends_add_up, keeps_none, one_retest}
+use Rattle.sensitivity.proofs.Laws.{ends_add_up, keeps_none, one_retest}
 use Rattle.sensitivity.specs.Streams.{number_index, number_at, has_number, OneNumber}
 
 -- ---- each number stands alone

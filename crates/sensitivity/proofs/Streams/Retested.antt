@@ -16,7 +16,7 @@ use Rattle.search.specs.Search.{branch_and_bound_of}
 use Rattle.sensitivity.specs.Ends.{ends_of, Between}
 use Rattle.sensitivity.specs.Changes.{Which, Unary, Pair}
 use Rattle.sensitivity.specs.Streams.{number_index, number_at, has_number, OneNumber, retested}
-use Rattle.sensitivity.specs.Streams.Laws.{Stored, stored_of, same_opening, same_units, same_sizes, same_unaries, retest_found}
+use Rattle.sensitivity.proofs.Streams.Laws.{Stored, stored_of, same_opening, same_units, same_sizes, same_unaries, retest_found}
 
 -- the number's two bytes are in the stream
 inside : (s : List ℕ) → Accepted s → (w : Which) → Stored s w → number_at s w + 2 ≤ length s

@@ -1,0 +1,3 @@
+-- What the specs of this crate lead to: theorems and lemmas.
+pub mod Laws
+pub mod Streams

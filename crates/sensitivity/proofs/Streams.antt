@@ -1,0 +1,3 @@
+-- See specs/Streams.antt.
+pub mod Retested
+pub mod Laws
