@@ -85,8 +85,9 @@ module _ (n : ℕ) (sizes : List ℕ) (k : Kind) (m : Message) (out : List ℕ) 
     write-last = rw (a, b, d)
 
     pub write_puts : packet_into n sizes k m out ≡ put_into k m out 0
+    unfolding put_refusal put_into
     write_puts = go (leb (0 + message_size) (length out)) refl
       where
         go : (t : Bool) → leb (0 + message_size) (length out) ≡ t → packet_into n sizes k m out ≡ put_into k m out 0
-        go true e = let p = put-fits k m out 0 (leb-true (0 + message_size) (length out) e) in write_done (write-last ∙ p.0) ∙ sym p.1
-        go false e = let p = put_short k m out 0 (leb-false (0 + message_size) (length out) e) in sym (write_stops 13 (write-last ∙ p.0) (omega arith)).1 ∙ sym p.1
+        go true e = write_done (write-last ∙ rw e) ∙ sym (rw e)
+        go false e = sym (write_stops 13 (write-last ∙ rw e) (omega arith)).1 ∙ sym (rw e)
