@@ -23,7 +23,8 @@ use Rattle.slots.specs.Settle.Laws as SL
 use Rattle.slots.specs.Made as SM
 use Rattle.report.specs.Agree.{bench_and_shed, bench_and_slots}
 use Rattle.tiny.specs.Tiny.{is_tiny, tables_of, tiny_stream}
-use Rattle.tiny.specs.Once.{two_or_three, each_once, none_of_another}
+use Rattle.tiny.specs.Once.{two_or_three, none_of_another}
+use Rattle.tiny.proofs.Once.{each_once}
 use Rattle.agreement.specs.declared.Pool.{Pool}
 use Rattle.agreement.specs.declared.Pool.TheVariants.{Messages, Slots}
 use Rattle.agreement.specs.declared.Total.{Total}

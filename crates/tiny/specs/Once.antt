@@ -5,9 +5,9 @@ use Rattle.std.specs.Prelude.{Bool, true, false, ◌||◌, ◌≡◌, eqb, take}
 use Rattle.std.proofs.lemmas.Bool.{false≢true}
 use mathlib.Core.List.{List, ◌∷◌, ◌++◌}
 use Rattle.std.proofs.Math.Path.{refl, sym, ap}
-use Rattle.std.proofs.Common.{◌∙◌, subst, arith, eqb-true, length-drop, take-add, take_all}
-use Rattle.std.proofs.Math.ListN.{length, get_or, drop, length-replicate, take-append-drop}
-use Rattle.std.proofs.Math.Seq.{get_or-append-add, drop-cons, drop-drop}
+use Rattle.std.proofs.Common.{◌∙◌, subst, arith, eqb-true, take-add}
+use Rattle.std.proofs.Math.ListN.{length, get_or, drop, length-replicate}
+use Rattle.std.proofs.Math.Seq.{get_or-append-add, drop-drop}
 use Rattle.base.specs.Bytes.{u16_at, le16}
 use Rattle.base.specs.Bytes.Laws.{u16_of_le16, le16_of_u16, two_bytes}
 use Rattle.base.specs.Join.{join_to}
@@ -19,8 +19,8 @@ use Rattle.base.specs.Sums.Laws.{sum_to_same}
 use Rattle.table.specs.Stream.{in_form_two, opening, units_of, sizes_of, pairs_in, sum_list, unaries_in, pairs_at, needed, costs_good, pair_good, Accepted}
 use Rattle.table.specs.StreamLaws.{stream_cost, opening_one, unaries_one, pair_small, costs_each, accepted_by_tests, accepted_length}
 use Rattle.tiny.specs.Binary.{digit, binary}
-use Rattle.tiny.specs.Binary.Laws.{digit-most, binary_below, binary_of_digits, digit_of_binary, binary_same}
-use Rattle.tiny.specs.Tiny.{is_tiny, sizes_for, costs_for, cost_bytes, tables_of, tiny_stream, number_of, Legal, EachOnce}
+use Rattle.tiny.specs.Binary.Laws.{digit-most, binary_below}
+use Rattle.tiny.specs.Tiny.{is_tiny, sizes_for, costs_for, cost_bytes, tables_of, tiny_stream, number_of, Legal}
 
 -- how many there are
 pub sixteen : tables_of 2 ≡ 16
@@ -60,7 +60,7 @@ module _ (n : ℕ) (tiny : is_tiny n ≡ true) where
     unfolding tiny_stream opening
     given_units = two_or_three (λ m. units_of (tiny_stream m x) ≡ m) refl refl
 
-    given-sizes : sizes_of (tiny_stream n x) ≡ sizes_for n
+    pub given-sizes : sizes_of (tiny_stream n x) ≡ sizes_for n
     unfolding tiny_stream opening
     given-sizes = two_or_three (λ m. sizes_of (tiny_stream m x) ≡ sizes_for m) refl refl
 
@@ -84,7 +84,7 @@ module _ (n : ℕ) (tiny : is_tiny n ≡ true) where
         ap (λ (i : ℕ). get_or (tiny_stream n x) i 0) e ∙ get_or-append-add (n ∷ sizes_for n) (cost_bytes (costs_for n) x) j 0
 
     -- cost k is digit k
-    given-cost : (k : ℕ) → k < costs_for n → stream_cost (tiny_stream n x) k ≡ digit (costs_for n) x k
+    pub given-cost : (k : ℕ) → k < costs_for n → stream_cost (tiny_stream n x) k ≡ digit (costs_for n) x k
     given-cost k h =
         let d : ℕ = digit (costs_for n) x k in
         let byte : (b : ℕ) → b < 2 → get_or (tiny_stream n x) (1 + n + (2 * k + b)) 0 ≡ get_or (le16 d) b 0 =
@@ -111,18 +111,13 @@ module _ (n : ℕ) (tiny : is_tiny n ≡ true) where
         (rw (unaries_one s given_form))
         (costs_each pair_good s (pairs_at s) (pairs_in (sizes_of s)) (λ k h. pair_small (stream_cost s k) (omega (arith, given_small k (rw given-sizes at h))))))
 
-    given_legal : Legal n (tiny_stream n x)
+    pub given_legal : Legal n (tiny_stream n x)
     given_legal = record { tiny = tiny; accepted = given-accepted; form = given_form; units = given_units; sizes = given-sizes; costs = given_small }
-
-    given_number : x < tables_of n → number_of (tiny_stream n x) ≡ x
-    given_number h =
-        rw given-sizes
-        (binary_same (stream_cost (tiny_stream n x)) (digit (costs_for n) x) (costs_for n) given-cost ∙ binary_of_digits (costs_for n) x (rw tables_are at h))
 
 -- ---- a legal stream
 
 -- bytes that read as costs of 0 or 1 are those costs
-costs_again : (s : List ℕ) (at m : ℕ) → at + 2 * m ≤ length s → ((k : ℕ) → k < m → u16_at s (at + 2 * k) ≤ 1)
+pub costs_again : (s : List ℕ) (at m : ℕ) → at + 2 * m ≤ length s → ((k : ℕ) → k < m → u16_at s (at + 2 * k) ≤ 1)
     → join_to (λ k. le16 (u16_at s (at + 2 * k))) m ≡ take (2 * m) (drop at s)
 costs_again s at zero h small = refl
 costs_again s at (suc m) h small =
@@ -131,7 +126,7 @@ costs_again s at (suc m) h small =
     rw (e, take-add (2 * m) 2 (drop at s), drop-drop (2 * m) at s, ← costs_again s at m (omega arith) (λ k l. small k (omega arith)), two_bytes s (at + 2 * m) (omega arith))
     (ap (λ (l : List ℕ). join_to (λ k. le16 (u16_at s (at + 2 * k))) m ++ l) (le16_of_u16 (get_or s (at + 2 * m) 0) (get_or s (at + 2 * m + 1) 0) (omega arith) (omega arith)))
 
-join_same : (f g : ℕ → List ℕ) (m : ℕ) → ((k : ℕ) → k < m → f k ≡ g k) → join_to f m ≡ join_to g m
+pub join_same : (f g : ℕ → List ℕ) (m : ℕ) → ((k : ℕ) → k < m → f k ≡ g k) → join_to f m ≡ join_to g m
 join_same f g zero e = refl
 join_same f g (suc m) e = rw (join_same f g m (λ k h. e k (omega arith)), e m (omega arith))
 
@@ -139,44 +134,25 @@ module _ (n : ℕ) (s : List ℕ) (legal : Legal n s) where
   no_opening : opening s ≡ 0
   no_opening = opening_one s legal.form
 
-  first_byte : get_or s 0 0 ≡ n
+  pub first_byte : get_or s 0 0 ≡ n
   first_byte = ap (λ (i : ℕ). get_or s i 0) (sym no_opening) ∙ legal.units
 
-  costs_place : pairs_at s ≡ 1 + n
+  pub costs_place : pairs_at s ≡ 1 + n
   costs_place = omega (arith, no_opening, legal.units, unaries_one s legal.form)
 
   costs_count : pairs_in (sizes_of s) ≡ costs_for n
   costs_count = ap pairs_in legal.sizes
 
-  whole : length s ≡ 1 + n + 2 * costs_for n
+  pub whole : length s ≡ 1 + n + 2 * costs_for n
   whole = accepted_length s legal.accepted ∙ rw (costs_place, costs_count)
 
-  these_sizes : take n (drop 1 s) ≡ sizes_for n
+  pub these_sizes : take n (drop 1 s) ≡ sizes_for n
   these_sizes =
       let e : opening s + 1 ≡ 1 = omega (arith, no_opening) in
       ap (λ (m : ℕ). take m (drop 1 s)) (sym legal.units) ∙ ap (λ (i : ℕ). take (units_of s) (drop i s)) (sym e) ∙ legal.sizes
 
-  number_is : number_of s ≡ binary (stream_cost s) (costs_for n)
+  pub number_is : number_of s ≡ binary (stream_cost s) (costs_for n)
   number_is = ap (binary (stream_cost s)) costs_count
 
-  below : number_of s < tables_of n
+  pub below : number_of s < tables_of n
   below = rw (number_is, tables_are n legal.tiny) (binary_below (stream_cost s) (costs_for n) legal.costs)
-
-  these_costs : cost_bytes (costs_for n) (number_of s) ≡ drop (1 + n) s
-  these_costs =
-      let m : ℕ = costs_for n in
-      let small : (k : ℕ) → k < m → u16_at s (1 + n + 2 * k) ≤ 1 = λ k h. rw (← costs_place) (legal.costs k h) in
-      let digits : (k : ℕ) → k < m → le16 (digit m (number_of s) k) ≡ le16 (u16_at s (1 + n + 2 * k)) =
-      λ k h. rw (number_is, digit_of_binary m (stream_cost s) legal.costs k h, costs_place) in
-      join_same (λ k. le16 (digit m (number_of s) k)) (λ k. le16 (u16_at s (1 + n + 2 * k))) m digits
-      ∙ costs_again s (1 + n) m (omega (arith, whole)) small
-      ∙ take_all (2 * m) (drop (1 + n) s) (simp length-drop (omega (arith, whole)))
-
-  given : tiny_stream n (number_of s) ≡ s
-  unfolding tiny_stream
-  given =
-      let e : s ≡ n ∷ drop 1 s = drop-cons s 0 0 (omega (arith, whole)) ∙ ap (λ (x : ℕ). x ∷ drop 1 s) first_byte in
-      rw (these_costs, ← these_sizes, ← drop-drop n 1 s, take-append-drop n (drop 1 s)) (sym e)
-
-pub each_once : (n : ℕ) → is_tiny n ≡ true → EachOnce n
-each_once n tiny = record { legal = λ x h. given_legal n tiny x; number = given_number n tiny; below = below n; given = given n }

@@ -87,11 +87,11 @@ module _ (n : ℕ) (tiny : is_tiny n ≡ true) where
   few_costs = two_or_three n tiny (λ m. costs_for m ≤ 12) (omega arith) (omega arith)
 
   -- n and the sizes are the first of four bytes
-  shape_first : take (1 + n) (n ∷ 2 ∷ 2 ∷ 2 ∷ []) ≡ n ∷ sizes_for n
+  pub shape_first : take (1 + n) (n ∷ 2 ∷ 2 ∷ 2 ∷ []) ≡ n ∷ sizes_for n
   shape_first = two_or_three n tiny (λ m. take (1 + m) (m ∷ 2 ∷ 2 ∷ 2 ∷ []) ≡ m ∷ sizes_for m) refl refl
 
   -- n and the sizes, then the costs behind them
-  stream-put : (l : List ℕ) (x : ℕ) → stream_size ≤ length l
+  pub stream-put : (l : List ℕ) (x : ℕ) → stream_size ≤ length l
       → put_at (put_within l 0 (n ∷ sizes_for n)) (1 + n) (cost_bytes (costs_for n) x) ≡ tiny_stream n x ++ drop (length (tiny_stream n x)) l
   unfolding tiny_stream
   stream-put l x room =
@@ -109,21 +109,6 @@ module _ (n x : ℕ) (l : List ℕ) where
   pub tiny_refused : (r : ℕ) → r ≡ tiny_refusal n x (length l) → (r ≡ 0 → ⊥) → (record { refusal = r; length = 0 } ≡ tiny_of n x (length l)) × (l ≡ tiny_into n x l)
   unfolding tiny_of tiny_into
   tiny_refused r e h = let f : eqb r 0 ≡ false = ne_eqb r 0 h in rw (← e, f) (refl, refl)
-
-  module _ (e : tiny_refusal n x (length l) ≡ 0) where
-    pub tiny_made : (count : ℕ) → count ≡ 1 + n + 2 * costs_for n → ◌≡◌ {A = Length} (record { refusal = 0; length = count }) (tiny_of n x (length l))
-    unfolding tiny_of
-    tiny_made count c = rw (e, c, given_length n (tiny_count n x (not_refused n x (length l) e).0) x)
-
-    -- n and the sizes were put, then the costs behind them
-    pub tiny_left : (m : List ℕ) (start costs : ℕ) → start ≡ 1 + n → costs ≡ costs_for n → m ≡ put_within l 0 (take (start - 0) (n ∷ 2 ∷ 2 ∷ 2 ∷ []))
-        → put_at m start (cost_bytes costs x) ≡ tiny_into n x l
-    unfolding tiny_into
-    tiny_left m start costs s c put =
-        let g = not_refused n x (length l) e in
-        let tiny = tiny_count n x g.0 in
-        let first : take (start - 0) (n ∷ 2 ∷ 2 ∷ 2 ∷ []) ≡ n ∷ sizes_for n = rw (sub-zero start, s) (shape_first n tiny) in
-        rw (e, put, first, s, c) (stream-put n tiny l x g.1)
 
 -- ---- for who calls: the stream stands in front of what the call leaves
 

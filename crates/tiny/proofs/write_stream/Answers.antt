@@ -7,7 +7,8 @@ use lib.ListN.{length}
 use borrow.Author.Rules.{rules}
 use Rattle.tiny.specs.Tiny.{is_tiny, tiny_refusal}
 use Rattle.tiny.specs.Once.{tables_are}
-use Rattle.tiny.specs.Steps.{not_refused, tiny_count, few_units, few_costs, tiny_refused, tiny_made, tiny_left}
+use Rattle.tiny.specs.Steps.{not_refused, tiny_count, few_units, few_costs, tiny_refused}
+use Rattle.tiny.proofs.Steps.{tiny_made, tiny_left}
 use Rattle.tiny.proofs.write_stream.Goals as goal
 use Rattle.tiny.proofs.write_stream.Goals.{Else-refusal-ne0, After-costs_of-costs}
 

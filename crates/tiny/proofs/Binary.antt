@@ -1,0 +1,2 @@
+-- See specs/Binary.antt.
+pub mod Laws
