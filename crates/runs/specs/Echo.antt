@@ -9,7 +9,7 @@
 --     Echoes                           every echo lends a packet that was sent before
 --     HeardTwice                       what holds of such a list
 --     AsAsked                          02's three claims, of one in which nothing is refused
-use Rattle.base.specs.Library.{ℕ, ◌*◌, ◌%◌, ◌^◌, ◌<◌, ◌≡◌, ◌⊎◌, Bool, true, false, cond, List, [], ◌∷◌, ◌++◌, map, eqb, length}
+use Rattle.std.specs.Prelude.{ℕ, ◌*◌, ◌%◌, ◌^◌, ◌<◌, ◌≡◌, ◌⊎◌, Bool, true, false, cond, List, [], ◌∷◌, ◌++◌, map, eqb, length}
 use Rattle.base.specs.Members.{In}
 use Rattle.costs.specs.declared.ValueOrder.{ValueOrder}
 use Rattle.costs.specs.{Instance.Instance, Instance.instance_of, Bounds.Reported, Least.LeastFirst, Least.Padded}
