@@ -1,6 +1,6 @@
 -- Whether shed and bench total the same of a table, and of how many tiny tables. Document 02, job 13: "Each goes through shed, full search and branch
 -- and bound, and the three totals agree; a program prints how many did". That all do is in All. Assumes nothing.
-use Rattle.base.specs.Library.{ℕ, Bool, cond, ◌&&◌, List, eqb, replicate}
+use Rattle.std.specs.Prelude.{ℕ, Bool, cond, ◌&&◌, List, eqb, replicate}
 use Rattle.base.specs.{Limits.pool_size, Sums.sum_to}
 use Rattle.costs.specs.declared.ValueOrder.{ValueOrder}
 use Rattle.search.specs.{declared.Found.Found, Search.search_of, Search.branch_and_bound_of}

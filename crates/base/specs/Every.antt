@@ -1,5 +1,5 @@
 -- A test that holds of every number below one, index by index. Assumes nothing.
-use Rattle.base.specs.Library.{ℕ, zero, suc, Bool, true, ◌&&◌}
+use Rattle.std.specs.Prelude.{ℕ, zero, suc, Bool, true, ◌&&◌}
 pub mod Laws
 
 -- whether p holds of 0, 1, .., m - 1

@@ -1,5 +1,5 @@
 -- Lists joined, one behind the other. Their laws are in Join/Laws. Assumes nothing.
-use Rattle.base.specs.Library.{ℕ, zero, suc, List, [], ◌++◌}
+use Rattle.std.specs.Prelude.{ℕ, zero, suc, List, [], ◌++◌}
 pub mod Laws
 
 -- f 0 ++ f 1 ++ .., m of them

@@ -1,5 +1,5 @@
 -- The numbers of documents 01 and 02 that more than one place goes by, each here alone; src/lib.rt has the same for code. Assumes nothing.
-use Rattle.base.specs.Library.{ℕ, ◌+◌, ◌*◌, ◌-◌}
+use Rattle.std.specs.Prelude.{ℕ, ◌+◌, ◌*◌, ◌-◌}
 
 -- ---- units and costs
 

@@ -1,6 +1,6 @@
 -- Membership in a list, and what holds of every element. Membership is the library's `List-as-Memᴰ`, a place in the list and not merely its
 -- existence, under short names. Assumes nothing.
-use Rattle.base.specs.Library.{List}
+use Rattle.std.specs.Prelude.{List}
 pub use mathlib.Core.List.Memᴰ.{head as here}
 pub use mathlib.Core.List.Memᴰ.{tail as there}
 pub use mathlib.Core.List.{Memᴰ as In}

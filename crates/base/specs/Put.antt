@@ -1,5 +1,5 @@
 -- Bytes written into a lent buffer, the rest as it was: at a place, or at the front; and that writes one behind the other join. Assumes nothing.
-use Rattle.base.specs.Library.{ℕ, ◌+◌, cond, List, ◌++◌, leb, length, take, drop}
+use Rattle.std.specs.Prelude.{ℕ, ◌+◌, cond, List, ◌++◌, leb, length, take, drop}
 pub mod Laws
 
 -- l with m written at place `at`

@@ -1,5 +1,5 @@
 -- Refusals by number, 0 for none, and the first of two in 01's order. Assumes nothing.
-use Rattle.base.specs.Library.{ℕ, zero, suc}
+use Rattle.std.specs.Prelude.{ℕ, zero, suc}
 pub mod Laws
 
 -- a, or b where a is 0

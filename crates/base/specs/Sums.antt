@@ -1,5 +1,5 @@
 -- Finite sums of numbers. Their laws are in Sums/Laws. Assumes nothing.
-use Rattle.base.specs.Library.{ℕ, zero, suc, ◌+◌}
+use Rattle.std.specs.Prelude.{ℕ, zero, suc, ◌+◌}
 pub mod Laws
 
 -- f lo + f (lo + 1) + .., m of them

@@ -4,7 +4,7 @@
 --     Boxes, boxes_after      the boxes and the air; what a call of one box changes
 --     all_made                each box made, one after the other
 --     hear, hear_all          an event; a list of events
-use Rattle.base.specs.Library.{ℕ, zero, suc, pred, List, [], ◌∷◌, ◌++◌, map, get_or, set, take, drop, replicate}
+use Rattle.std.specs.Prelude.{ℕ, zero, suc, pred, List, [], ◌∷◌, ◌++◌, map, get_or, set, take, drop, replicate}
 use Rattle.base.specs.Limits.{sending_size}
 use Rattle.table.specs.Stream.{units_of}
 use Rattle.costs.specs.{declared.ValueOrder.ValueOrder, Gather.sizes_in, Gathered.gathered}

@@ -4,7 +4,7 @@
 --     stopped_at, all_stopped      which boxes have stopped
 --     most_accepted               the most packets that are accepted
 --     Promised                   what holds after every list of events
-use Rattle.base.specs.Library.{ℕ, suc, ◌+◌, ◌*◌, ◌-◌, ◌≤◌, ◌<◌, ◌≡◌, ◌⊎◌, Bool, true, false, cond, List, eqb}
+use Rattle.std.specs.Prelude.{ℕ, suc, ◌+◌, ◌*◌, ◌-◌, ◌≤◌, ◌<◌, ◌≡◌, ◌⊎◌, Bool, true, false, cond, List, eqb}
 use Rattle.base.specs.{Every.every, Members.In, Sums.sum_to}
 use Rattle.table.specs.Stream.{units_of}
 use Rattle.costs.specs.{declared.ValueOrder.ValueOrder, Instance.Instance, Instance.instance_of, Bounds.prefix_count, Least.LeastFirst, Least.Padded}

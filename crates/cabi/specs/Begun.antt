@@ -2,7 +2,7 @@
 -- state that was handed back is read as it was. Assumes nothing.
 use Rattle.std.proofs.Math.Path.{refl}
 use Rattle.std.proofs.Common.{◌∙◌}
-use Rattle.base.specs.Library.{ℕ, Bool, cond, List, ◌≡◌, eqb}
+use Rattle.std.specs.Prelude.{ℕ, Bool, cond, List, ◌≡◌, eqb}
 use Rattle.start.specs.{declared.Stage.Stage, declared.Start.Start, declared.Started.Started}
 use Rattle.start.specs.declared.Stage.TheVariants.{Opening, Units, Sizes, Low, High, Whole, Long, Misshapen}
 use Rattle.start.specs.Block.{start_of, start_into}

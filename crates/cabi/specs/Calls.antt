@@ -1,7 +1,7 @@
 -- The answers of the calls of documents 01 and 02 in the structs that C is handed, kinds and orders of values by their numbers, and step, delivery, echo and
 -- replay on what C lends.
 -- Assumes nothing.
-use Rattle.base.specs.Library.{ℕ, pred, cond, not, List, eqb, length}
+use Rattle.std.specs.Prelude.{ℕ, pred, cond, not, List, eqb, length}
 use Rattle.base.specs.Shape.{shape_good}
 use Rattle.costs.specs.{declared.ValueOrder.ValueOrder, declared.ValueOrder.TheVariants.Ascending, declared.ValueOrder.TheVariants.CheapestFirst}
 use Rattle.message.specs.{declared.Message.Message, declared.Parsed.Parsed as Reading, declared.Read.Read, Decode.write_refusal, Decode.packet_into}

@@ -5,7 +5,7 @@
 --     network_from, answer_back       of a network over 01's pool
 --     slots_back                     what stands there after a delivery over 02's pool, which has only units and counts beside it
 -- Lent/Laws shows that such a state is out of range, and that what a call leaves alone comes back as lent. Assumes nothing.
-use Rattle.base.specs.Library.{ℕ, zero, suc, Bool, cond, List, [], ◌∷◌, ◌++◌, leb, eqb, get_or, replicate}
+use Rattle.std.specs.Prelude.{ℕ, zero, suc, Bool, cond, List, [], ◌∷◌, ◌++◌, leb, eqb, get_or, replicate}
 use Rattle.rules.specs.{declared.Unit.Unit, declared.Outcome.Outcome, State.unit, State.empty_unit}
 use Rattle.runs.specs.{declared.Core.Core, declared.Network.Network, declared.Answer.Answer}
 use Rattle.slots.specs.{declared.Answer.Answer as SlotsAnswer}

@@ -1,6 +1,6 @@
 -- The check. Document 01: "The check is the sum of (k+1) × byte k for k from 0 to 509, modulo 65,521"; of a message "the same sum".
 -- Its laws are in Sum/Laws. Assumes nothing.
-use Rattle.base.specs.Library.{ℕ, ◌+◌, ◌*◌, ◌%◌, List, [], ◌∷◌}
+use Rattle.std.specs.Prelude.{ℕ, ◌+◌, ◌*◌, ◌%◌, List, [], ◌∷◌}
 pub mod Laws
 
 abbrev pub modulus : ℕ

@@ -1,5 +1,5 @@
 -- The least of costs: it is the greatest that is below all of them, and within their limit. Assumes nothing.
-use Rattle.std.specs.Prelude.{◌≡◌, ℕ, zero, suc, ◌-◌, ◌≤◌, Bool, true, false, nat_le, refl}
+use Rattle.std.specs.Prelude.{◌≡◌, ℕ, zero, suc, ◌≤◌, Bool, true, false, nat_le, refl}
 use Rattle.std.proofs.Common.{subst, arith, leb-true, leb-false}
 use Rattle.costs.specs.Cost.{Cost, Of, Forbidden, ◌⊕◌, least}
 use Rattle.costs.specs.Cost.Laws.{◌⊑◌, AtMost, add_mono, le_trans, lesser-left, lesser_greatest, lesser_right, most-lesser}

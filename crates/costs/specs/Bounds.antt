@@ -1,6 +1,6 @@
 -- What a unit works out from its view: the cost of a value with a prefix, h, the estimate; and assignments, their totals and what is reported of
 -- them. Each cost is a number or forbidden (Cost.antt). Assumes nothing.
-use Rattle.base.specs.Library.{ℕ, zero, suc, ◌*◌, ◌-◌, ◌≤◌, ◌<◌, ◌≡◌, ◌≢◌, ◌⊎◌, List, get_or}
+use Rattle.std.specs.Prelude.{ℕ, zero, suc, ◌*◌, ◌-◌, ◌≤◌, ◌<◌, ◌≡◌, ◌≢◌, ◌⊎◌, List, get_or}
 use Rattle.base.specs.Limits.{NONE}
 use Rattle.base.specs.Sums as Number
 use Rattle.costs.specs.Cost.{Cost, Of, Forbidden, ◌⊕◌, sum_to, least, as_number}

@@ -1,7 +1,7 @@
 -- A cost is a number or forbidden. 02, job 3: "Looking up a cost now gives a number or "barred", and everything that adds costs must heed it."
 -- In order: costs; how they are added; the least of some; what a cost counts as where a number is asked for. Their laws are in Cost/Laws.
 -- Assumes nothing.
-use Rattle.base.specs.Library.{ℕ, zero, suc, ◌+◌, min, Bool, false, cond, ltb, eqb}
+use Rattle.std.specs.Prelude.{ℕ, zero, suc, ◌+◌, min, Bool, false, cond, ltb, eqb}
 use Rattle.base.specs.Limits.{NONE, forbidden_pair}
 pub use Rattle.costs.specs.declared.Cost.{Cost}
 pub use Rattle.costs.specs.declared.Cost.TheVariants.{Of, Forbidden}

@@ -1,5 +1,5 @@
 -- The costs that touch one unit, gathered out of a stream: what is lent with a unit's step. Their bytes are in Gathered. Assumes nothing.
-use Rattle.base.specs.Library.{ℕ, cond, List, ◌++◌, ltb, eqb, length, take, drop, replicate}
+use Rattle.std.specs.Prelude.{ℕ, cond, List, ◌++◌, ltb, eqb, length, take, drop, replicate}
 use Rattle.base.specs.{declared.Length.Length, Limits.places, Refusal.or_else, Shape.is_value}
 use Rattle.table.specs.Stream.{units_of, sizes_of, stream_refusal}
 use Rattle.costs.specs.Gathered.{gathered}

@@ -1,7 +1,7 @@
 -- The bytes of the costs that touch one unit, 02, job 7: "A unit's own costs are lent before its pair costs."; 01: "by the other unit ascending,
 -- each pair in the stream's order". Nobody has to believe it: that the unit sees in them what the stream says is `gathered-view` of Gather/Laws.
 -- Assumes nothing.
-use Rattle.base.specs.Library.{ℕ, ◌+◌, ◌*◌, pred, cond, List, [], ◌++◌, ltb, eqb, take, drop, replicate}
+use Rattle.std.specs.Prelude.{ℕ, ◌+◌, ◌*◌, pred, cond, List, [], ◌++◌, ltb, eqb, take, drop, replicate}
 use Rattle.base.specs.{Join.join_to, Sums.sum_to}
 use Rattle.table.specs.Stream.{in_form_two, units_of, unaries_at, pairs_at}
 use Rattle.costs.specs.Instance.{dom_of, pair_start}

@@ -1,6 +1,6 @@
 -- The instance that a table describes, what one unit sees of it, and where the bytes of a cost stand.
 -- Units count from 0 here: place k is document 01's unit k + 1. Values count from 1, as in document 01. Assumes nothing.
-use Rattle.base.specs.Library.{ℕ, suc, ◌+◌, ◌*◌, ◌-◌, pred, cond, not, ◌&&◌, List, ltb, leb, eqb, length, get_or, take, drop}
+use Rattle.std.specs.Prelude.{ℕ, suc, ◌+◌, ◌*◌, ◌-◌, pred, cond, not, ◌&&◌, List, ltb, leb, eqb, length, get_or, take, drop}
 use Rattle.base.specs.{Bytes.u16_at, Shape.is_value, Sums.sum_from, Sums.sum_to}
 use Rattle.table.specs.Stream.{in_form_two, units_of, after_units, unaries_at, pairs_at}
 use Rattle.costs.specs.Cost.{Cost, Of, Forbidden, sum_from as sumCosts, least, pair_cost}

@@ -1,7 +1,7 @@
 -- Which assignment is meant where several have the least total: the first of them in the order in which the units try their values, unit 1's value
 -- first. 01, of the bench: "the least total with its first lotting in ascending order"; a box's lotting is the same, in the order that it is told.
 -- Least/Laws says that there is only one. Assumes nothing.
-use Rattle.base.specs.Library.{ℕ, ◌≤◌, ◌<◌, ◌≡◌, List, length, get_or}
+use Rattle.std.specs.Prelude.{ℕ, ◌≤◌, ◌<◌, ◌≡◌, List, length, get_or}
 use Rattle.costs.specs.{declared.ValueOrder.ValueOrder, Instance.Instance, Instance.view_by, Cost.as_number, Bounds.Assignment, Bounds.total, Bounds.Reported, Order.place_tried}
 pub mod Laws
 

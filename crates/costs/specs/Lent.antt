@@ -1,5 +1,5 @@
 -- What is checked of the costs lent with one unit. Assumes nothing.
-use Rattle.base.specs.Library.{ℕ, ◌*◌, ◌-◌, pred, Bool, cond, ◌&&◌, List, eqb, length}
+use Rattle.std.specs.Prelude.{ℕ, ◌*◌, ◌-◌, pred, Bool, cond, ◌&&◌, List, eqb, length}
 use Rattle.table.specs.Stream.{unary_good, pair_good, costs_good}
 use Rattle.costs.specs.Instance.{dom_in, other_start}
 pub mod Parts

@@ -7,7 +7,7 @@
 --     next, left          the value after one, 0 where there is none; how many values come after it
 -- A value's place is one more than the number of values before it, so nothing is sorted. That each order is a permutation of 1 to d is in Order/Laws.
 -- Assumes nothing.
-use Rattle.base.specs.Library.{ℕ, zero, suc, ◌+◌, ◌-◌, Bool, true, false, cond, ltb, eqb}
+use Rattle.std.specs.Prelude.{ℕ, zero, suc, ◌+◌, ◌-◌, Bool, true, false, cond, ltb, eqb}
 use Rattle.costs.specs.{Cost.Cost, Cost.Of, Cost.Forbidden, Instance.View, Bounds.h}
 use Rattle.costs.specs.{declared.ValueOrder.ValueOrder, declared.ValueOrder.TheVariants.Ascending, declared.ValueOrder.TheVariants.CheapestFirst}
 pub mod Counted

@@ -1,7 +1,7 @@
 -- The stream, of form one, of an instance whose unary costs are zero. 01: "n, then n sizes, then for pairs (1,2), (1,3) .. (n-1,n) the costs as
 -- 16-bit numbers, by the value of the lower unit, then of the higher." Nobody has to believe it: Streamed/Laws shows that it is accepted, and
 -- that its instance is the one it was made of. Assumes nothing.
-use Rattle.base.specs.Library.{ℕ, suc, ◌+◌, ◌-◌, List, [], ◌∷◌, ◌++◌}
+use Rattle.std.specs.Prelude.{ℕ, suc, ◌+◌, ◌-◌, List, [], ◌∷◌, ◌++◌}
 use Rattle.base.specs.{Bytes.le16, Join.join_to, Limits.forbidden_pair}
 use Rattle.costs.specs.Cost.{Cost, Of, Forbidden}
 use Rattle.costs.specs.Instance.{Instance}

@@ -1,6 +1,6 @@
 -- A message read from bytes and written into a lent buffer, with the refusals in 01's order. Document 01, 'Refusals':
 -- "Reading a message: 5, 8, 10, 9. Writing one: 5, 10, 9, 13." Assumes nothing.
-use Rattle.base.specs.Library.{ℕ, ◌+◌, Bool, cond, not, ◌&&◌, List, leb, eqb, length, take, drop, get_or}
+use Rattle.std.specs.Prelude.{ℕ, ◌+◌, Bool, cond, not, ◌&&◌, List, leb, eqb, length, take, drop, get_or}
 use Rattle.base.specs.{Bytes.u16_at, Bytes.u32_at, Limits.places, Limits.message_size, Put.put_at, Shape.shape_good}
 use Rattle.checksum.specs.Sum.{sum_of}
 use Rattle.message.specs.{declared.Kind.Kind, declared.Read.Read, declared.Read.TheVariants.Good, declared.Read.TheVariants.Refused, declared.Message.Message, declared.Parsed.Parsed, Written.encode}

@@ -3,7 +3,7 @@
 use Rattle.std.specs.Prelude.{ℕ, ◌+◌, ◌<◌, ◌≡◌, refl, Bool, true, false, ◌&&◌, List, leb, eqb, length, get_or}
 use Rattle.std.proofs.Math.Path.{sym}
 use Rattle.std.proofs.Common.{◌∙◌, arith}
-use borrow.Author.Tests.{leb-true, leb-false, eqb-true, ne_eqb}
+use borrow.Author.Tests.{eqb-true, ne_eqb}
 use Rattle.base.specs.Limits.{message_size}
 use Rattle.base.specs.Put.{put_at}
 use Rattle.base.specs.Shape.{shape_good}
@@ -15,7 +15,6 @@ use Rattle.message.specs.declared.Message.{Message}
 use Rattle.message.specs.Message.{kind_of, address_good, well_formed}
 use Rattle.message.specs.Decode.{put_refusal, put_into, message_in, check_good, rest_zero, refused, parse_kind, parse_for, write_refusal, packet_into}
 use Rattle.message.specs.Written.{encode}
-use Rattle.message.specs.EncodeLaws.{put-fits, put_short}
 
 -- check 10
 abbrev pub addressed_to : ℕ → ℕ → Message → Bool

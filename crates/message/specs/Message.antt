@@ -5,7 +5,7 @@
 --     bound_good, none_or_bound, no_bound   a bound with its best assignment
 --     carried_of, cost_fits, bound_fits, direction_good     what each kind carries, from whom to whom
 --     address_good, well_formed           01's checks 10 and 9 on the fields
-use Rattle.base.specs.Library.{ℕ, ◌+◌, ◌-◌, Bool, true, false, cond, not, ◌&&◌, ◌||◌, List, ltb, leb, eqb, get_or, replicate}
+use Rattle.std.specs.Prelude.{ℕ, ◌+◌, ◌-◌, Bool, true, false, cond, not, ◌&&◌, ◌||◌, List, ltb, leb, eqb, get_or, replicate}
 use Rattle.base.specs.{Limits.places, Limits.total_limit, Limits.estimate_limit, Limits.prefix_limit, Limits.NONE, Shape.is_value, Every.every}
 use Rattle.message.specs.{declared.Kind.Kind, declared.Read.Read, declared.Read.TheVariants.Good, declared.Read.TheVariants.Refused, declared.Message.Message, declared.Carried.Carried}
 use Rattle.message.specs.declared.Kind.TheVariants.{Cpa, Request, Estimate, Solution, Stop}

@@ -207,26 +207,13 @@ writable_by : (n : ℕ) (sizes : List ℕ) (k : Kind) (m : Message) (room : ℕ)
 unfolding write_refusal put_refusal
 writable_by n sizes k m room w = rw (w.shape, w.address, w.formed, le-leb (0 + message_size) room w.fits)
 
--- so what `write` accepts is fit to be read
-written_fit : (n : ℕ) (sizes : List ℕ) (k : Kind) (m : Message) (room : ℕ) → write_refusal n sizes k m room ≡ 0
-    → (shape_good n sizes ≡ true) × (address_good n m ≡ true) × (well_formed n sizes k m ≡ true)
-unfolding write_refusal
-written_fit n sizes k m room e = go (shape_good n sizes) refl (address_good n m) refl (well_formed n sizes k m) refl
-  where
-    go : (a : Bool) → shape_good n sizes ≡ a → (b : Bool) → address_good n m ≡ b → (c : Bool) → well_formed n sizes k m ≡ c
-        → (shape_good n sizes ≡ true) × (address_good n m ≡ true) × (well_formed n sizes k m ≡ true)
-    go false p b q c t = let z : ◌≡◌ {A = ℕ} 5 0 = rw p at e in absurd (omega arith)
-    go true p false q c t = let z : ◌≡◌ {A = ℕ} 10 0 = rw (p, q) at e in absurd (omega arith)
-    go true p true q false t = let z : ◌≡◌ {A = ℕ} 9 0 = rw (p, q, t) at e in absurd (omega arith)
-    go true p true q true t = (p, q, t)
-
 -- what `write` accepts and puts first in the output reads back as the same message and kind
 pub parse_written : (n : ℕ) (sizes : List ℕ) (k : Kind) (m : Message) (out : List ℕ) → Sized m → write_refusal n sizes k m (length out) ≡ 0
     → parse_of n sizes (take message_size (packet_into n sizes k m out)) ≡ record { answer = Good k; message = m }
 parse_written n sizes k m out z e =
-    let a = written_fit n sizes k m (length out) e in
+    let a : Writable n sizes k m (length out) = writable n sizes k m (length out) e in
     let g : take message_size (packet_into n sizes k m out) ≡ encode k m = ap (λ (l : List ℕ). take message_size l) (write_done n sizes k m out e) ∙ take_at (encode k m) (drop (0 + length (encode k m)) out) message_size (length_encode k m z) in
-    rw (g, receiver_of_encode k m z) (parse_encode n sizes k m a.0 a.1 a.2 z)
+    rw (g, receiver_of_encode k m z) (parse_encode n sizes k m a.shape a.address a.formed z)
 
 -- ------------------------------------------------------------------------------------------------------------------
 -- Accepted bytes, read and written.
@@ -358,15 +345,12 @@ unpack_parsed n sizes own s k e =
 -- so writing them again, into any buffer that is long enough, is accepted and leaves the same bytes in front of what was there
 pub writes_again : (n : ℕ) (sizes : List ℕ) (own : ℕ) (s : List ℕ) (k : Kind) → AllBytes s → (parse_for n sizes own s).answer ≡ Good k → (out : List ℕ) → message_size ≤ length out
     → (write_refusal n sizes k (parse_for n sizes own s).message (length out) ≡ 0) × (packet_into n sizes k (parse_for n sizes own s).message out ≡ s ++ drop message_size out)
-unfolding write_refusal put_refusal
 writes_again n sizes own s k b e out h =
     let a : ParsedGood n sizes own s k = parsed_good n sizes own s k e in
     let l : length s ≡ message_size = check_length s a.check in
     let m : Message = (parse_for n sizes own s).message in
     let f : m ≡ message_in s = ap (λ (p : Parsed). p.message) a.whole in
-    let q : address_good n m ≡ true = rw f a.address in
-    let g : well_formed n sizes k m ≡ true = rw f a.formed in
-    let w : write_refusal n sizes k m (length out) ≡ 0 = rw (a.shape, q, g, le-leb (0 + message_size) (length out) h) in
+    let w : write_refusal n sizes k m (length out) ≡ 0 = writable_by n sizes k m (length out) record { shape = a.shape; address = rw f a.address; formed = rw f a.formed; fits = h } in
     (w, write_done n sizes k m out w ∙ rw (encode_parse n sizes own s k b e, l))
 
 -- so no two of them read alike

@@ -1,5 +1,5 @@
 -- What the types of the code say of a message. The theorems of RoundTrip take it; no definition does. Assumes nothing.
-use Rattle.base.specs.Library.{◌^◌, ◌<◌, ◌≡◌, length}
+use Rattle.std.specs.Prelude.{◌^◌, ◌<◌, ◌≡◌, length}
 use Rattle.base.specs.Limits.{places}
 use Rattle.message.specs.declared.Message.{Message}
 

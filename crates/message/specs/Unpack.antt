@@ -1,6 +1,6 @@
 -- A message taken as it stands. Nobody has to believe it: of bytes that reading accepts it is what reading gives, `unpack_parsed` of RoundTrip, and a
 -- run hands over no others. Assumes nothing.
-use Rattle.base.specs.Library.{List, ℕ, cond, eqb, length, get_or}
+use Rattle.std.specs.Prelude.{List, ℕ, cond, eqb, length, get_or}
 use Rattle.base.specs.Limits.{message_size}
 use Rattle.message.specs.{declared.Read.Read, declared.Message.Message, declared.Parsed.Parsed}
 use Rattle.message.specs.declared.Read.TheVariants.{Good, Refused}

@@ -1,6 +1,6 @@
 -- A message as its 64 bytes. Nobody has to believe it: that they are read back as the message, and that no others are, is in RoundTrip.
 -- Document 01, 'Radio message, 64 bytes'. Assumes nothing.
-use Rattle.base.specs.Library.{List, ℕ, [], ◌∷◌, ◌++◌}
+use Rattle.std.specs.Prelude.{List, ℕ, [], ◌∷◌, ◌++◌}
 use Rattle.base.specs.Bytes.{le16, le32}
 use Rattle.checksum.specs.Sum.{sum_of}
 use Rattle.message.specs.{declared.Kind.Kind, declared.Message.Message, Message.kind_code}

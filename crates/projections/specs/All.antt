@@ -1,7 +1,7 @@
 -- Everything projected once: for each unit and each of its values the binary projections with every other unit, then the unary projection of each
 -- unit. One move after another, as their calls make them; the first that is refused ends it, and the moves before it stand.
 -- That the floor is then a lower bound is in All/Laws. Assumes nothing.
-use Rattle.base.specs.Library.{ℕ, suc, cond, true, List, eqb}
+use Rattle.std.specs.Prelude.{ℕ, suc, cond, true, List, eqb}
 use Rattle.costs.specs.Instance.{dom_in}
 use Rattle.projections.specs.Held.{Held}
 use Rattle.projections.specs.Moves.{Outcome, in_order, refusal_by, project_of, unary_project_of}

@@ -1,7 +1,7 @@
 -- Costs held in 32 bits: where each stands, what it stands for, and what an assignment is worth by them. Document 02, job 8: "Hold these costs in 32
 -- bits, own costs before pair costs in form two's order, 4,294,967,295 as barred."
 -- Units count from 0 here, values from 1, as in costs/specs/Instance. Assumes nothing.
-use Rattle.base.specs.Library.{ℕ, ◌+◌, ◌-◌, cond, List, ltb, get_or}
+use Rattle.std.specs.Prelude.{ℕ, ◌+◌, ◌-◌, cond, List, ltb, get_or}
 use Rattle.base.specs.Sums.{sum_to}
 use Rattle.costs.specs.declared.Cost.{Cost}
 use Rattle.costs.specs.declared.Cost.TheVariants.{Of, Forbidden}

@@ -1,6 +1,6 @@
 -- The costs held of a table, from its stream. Document 02, job 8: "own costs before pair costs in form two's order, 4,294,967,295 as barred"; "the floor
 -- starts at 0". That an assignment's total by them is the table's is in Made/Laws. Assumes nothing.
-use Rattle.base.specs.Library.{ℕ, cond, List, [], ◌∷◌, ◌++◌, ltb, eqb, length}
+use Rattle.std.specs.Prelude.{ℕ, cond, List, [], ◌∷◌, ◌++◌, ltb, eqb, length}
 use Rattle.base.specs.{declared.Length.Length, Join.join_to, Refusal.or_else, Sums.sum_to}
 use Rattle.table.specs.Stream.{in_form_two, units_of, stream_refusal}
 use Rattle.table.specs.File.{answer, leaves}

@@ -1,7 +1,7 @@
 -- The three moves of held costs. Document 02, job 8, "Costs pushed forward": "do by calls of their own what source document 004 calls binary
 -- projection, unary projection and extension", section 2.2 there. In order: costs changed; the moves; their refusals; the calls.
 -- That they keep what every assignment is worth is in Moves/Worth. Assumes nothing.
-use Rattle.base.specs.Library.{ℕ, zero, suc, pred, ◌+◌, ◌-◌, Bool, true, cond, not, ◌&&◌, List, ltb, leb, eqb, length, get_or, set}
+use Rattle.std.specs.Prelude.{ℕ, zero, suc, pred, ◌+◌, ◌-◌, Bool, true, cond, not, ◌&&◌, List, ltb, leb, eqb, length, get_or, set}
 use Rattle.base.specs.{Every.every, Shape.is_value, Shape.shape_good, Sums.sum_to}
 use Rattle.costs.specs.declared.Cost.{Cost}
 use Rattle.costs.specs.declared.Cost.TheVariants.{Of, Forbidden}

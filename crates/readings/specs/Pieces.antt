@@ -1,6 +1,6 @@
 -- The pieces that the code writes a stream of: n and the sizes, and the costs of two lines, from what they cost in the same lot. How long they are,
 -- and that they are the pieces of the table's stream. Assumes nothing.
-use Rattle.base.specs.Library.{ℕ, suc, ◌+◌, ◌*◌, ◌≤◌, ◌<◌, ◌≡◌, Bool, true, false, cond, List, [], ◌∷◌, eqb, length, get_or, set, take}
+use Rattle.std.specs.Prelude.{ℕ, suc, ◌+◌, ◌*◌, ◌≤◌, ◌<◌, ◌≡◌, Bool, true, false, cond, List, [], ◌∷◌, eqb, length, get_or, set, take}
 use Rattle.std.specs.Prelude.{refl}
 use Rattle.std.proofs.Common.{◌∙◌, mul_comm, arith, length-set, length-take-le, eq-eqb, ne_eqb, eqb-true}
 use Rattle.std.proofs.lemmas.List.Edits.{sets-eq}

@@ -1,5 +1,5 @@
 -- The table of lines of wool whose mean fibre diameters were read. Document 02, job 1, "Costs from the readings". Assumes nothing.
-use Rattle.base.specs.Library.{ℕ, suc, ◌*◌, ◌/◌, Bool, cond, not, ◌&&◌, List, [], ◌∷◌, ltb, leb, eqb, length, get_or}
+use Rattle.std.specs.Prelude.{ℕ, suc, ◌*◌, ◌/◌, Bool, cond, not, ◌&&◌, List, [], ◌∷◌, ltb, leb, eqb, length, get_or}
 use Rattle.base.specs.{declared.Length.Length, Bytes.u16_at, Every.every, Limits.pair_limit, Limits.stream_size, Shape.shape_good}
 use Rattle.std.specs.Prelude.{ℤ, pos, negsuc, ◌-ℤ◌}
 use Rattle.table.specs.File.{answer, leaves}

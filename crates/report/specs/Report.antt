@@ -1,6 +1,6 @@
 -- The number that a program prints of a file: that of reading it, then that of what is done with its stream. What else is printed no contract can say.
 -- Assumes nothing.
-use Rattle.base.specs.Library.{ℕ, List, replicate}
+use Rattle.std.specs.Prelude.{ℕ, List, replicate}
 use Rattle.base.specs.{Limits.pool_size, Limits.stream_size, Refusal.or_else}
 use Rattle.table.specs.File.{stream_of, read_refusal}
 use Rattle.table.specs.Stream.{stream_refusal}

@@ -1,5 +1,5 @@
 -- Lines of wool: those that a sheet holds, and their text. Assumes nothing.
-use Rattle.base.specs.Library.{ℕ, ◌+◌, ◌*◌, ◌/◌, ◌%◌, Bool, false, cond, ◌&&◌, ◌||◌, List, [], ◌∷◌, ◌++◌, ltb, leb, eqb, length, get_or, take, drop}
+use Rattle.std.specs.Prelude.{ℕ, ◌+◌, ◌*◌, ◌/◌, ◌%◌, Bool, false, cond, ◌&&◌, ◌||◌, List, [], ◌∷◌, ◌++◌, ltb, leb, eqb, length, get_or, take, drop}
 use Rattle.base.specs.{Bytes.u16_at, Put.put_at}
 use Rattle.rows.specs.declared.Sheet.{Sheet}
 use Rattle.rows.specs.Row.{sort_of, digit}

@@ -4,7 +4,7 @@
 --     start .. over, table, next   phases, and which comes next
 --     spoiled, missing, fault_by    what is wrong where a row leaves its form, or ends early
 --     fed                          a row after one more byte
-use Rattle.base.specs.Library.{ℕ, ◌+◌, ◌*◌, ◌-◌, Bool, cond, not, ◌&&◌, ◌||◌, List, [], ◌∷◌, ltb, leb, eqb, get_or}
+use Rattle.std.specs.Prelude.{ℕ, ◌+◌, ◌*◌, ◌-◌, Bool, cond, not, ◌&&◌, ◌||◌, List, [], ◌∷◌, ltb, leb, eqb, get_or}
 use Rattle.rows.specs.declared.Row.{Row}
 
 -- ---- sorts of bytes

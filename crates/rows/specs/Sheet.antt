@@ -4,7 +4,7 @@
 --     ended                     a sheet after a row
 --     eaten, kept, sheet_after, names_after    a sheet and its names after more bytes
 --     sheet_of, names_of          what a text comes to
-use Rattle.base.specs.Library.{ℕ, ◌+◌, ◌*◌, ◌-◌, ◌/◌, ◌%◌, Bool, true, false, cond, not, ◌&&◌, List, [], ◌∷◌, ltb, leb, eqb, length, get_or, set, replicate}
+use Rattle.std.specs.Prelude.{ℕ, ◌+◌, ◌*◌, ◌-◌, ◌/◌, ◌%◌, Bool, true, false, cond, not, ◌&&◌, List, [], ◌∷◌, ltb, leb, eqb, length, get_or, set, replicate}
 use Rattle.rows.specs.declared.Row.{Row}
 use Rattle.rows.specs.declared.Sheet.{Sheet}
 use Rattle.rows.specs.Row.{fed, next, sort_of, in_name, over, no_name}

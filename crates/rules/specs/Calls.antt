@@ -1,6 +1,6 @@
 -- The calls: making a unit and a step, refusals in 01's order; 02, job 9: each names the order in which values are tried.
 -- 01: "Making a unit ..: 5, 10 (unit only), 6, 7, 13." "Step: 13, 5 (n, sizes), 10 (own number), 6, 7, 5 (state), 8, 10, 9, 12, 11." Assumes nothing.
-use Rattle.base.specs.Library.{ℕ, zero, suc, pred, cond, not, List, ltb, length}
+use Rattle.std.specs.Prelude.{ℕ, zero, suc, pred, cond, not, List, ltb, length}
 use Rattle.base.specs.{Limits.sending_size, Refusal.or_else, Shape.shape_good}
 use Rattle.costs.specs.{declared.ValueOrder.ValueOrder, Instance.View, Instance.lent_view, Lent.lent_refusal}
 use Rattle.message.specs.{declared.Message.Message, declared.Read.Read, declared.Read.TheVariants.Good, declared.Read.TheVariants.Refused, Message.is_unit, Decode.parse_for}

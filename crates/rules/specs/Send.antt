@@ -1,5 +1,5 @@
 -- The messages of a plan, 01: "Outgoing order: paper first, the rest by receiver ascending", and their bytes in a buffer. Assumes nothing.
-use Rattle.base.specs.Library.{ℕ, zero, suc, ◌*◌, ◌-◌, Bool, true, false, List, [], ◌∷◌, ◌++◌, length, drop}
+use Rattle.std.specs.Prelude.{ℕ, zero, suc, ◌*◌, ◌-◌, Bool, true, false, List, [], ◌∷◌, ◌++◌, length, drop}
 use Rattle.base.specs.Limits.{message_size}
 use Rattle.message.specs.{declared.Message.Message, declared.Kind.Kind, Message.Packet, Written.encode}
 use Rattle.message.specs.declared.Kind.TheVariants.{Cpa, Request, Estimate, Solution, Stop}

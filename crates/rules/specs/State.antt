@@ -4,7 +4,7 @@
 --     order_of, compare_on, same_on           01: "Stamps compare from unit 1 on"
 --     cpa_out_in_range .. inRange             01: "A lent state is in range when .."
 -- Places count from 0: place k of an array is unit k + 1's; numbers of units (`own`) count from 1. Assumes nothing.
-use Rattle.base.specs.Library.{ℕ, zero, suc, pred, ◌-◌, Bool, true, false, cond, ◌&&◌, List, [], ltb, leb, eqb, get_or, replicate}
+use Rattle.std.specs.Prelude.{ℕ, zero, suc, pred, ◌-◌, Bool, true, false, cond, ◌&&◌, List, [], ltb, leb, eqb, get_or, replicate}
 use Rattle.base.specs.{Limits.NONE, Limits.estimate_limit, Limits.prefix_limit, Every.every}
 use Rattle.costs.specs.{Cost.as_number, Instance.View, Bounds.cost_with, Order.place_tried}
 use Rattle.message.specs.Message.{is_unit, filled_to, none_or_bound}

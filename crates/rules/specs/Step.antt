@@ -6,7 +6,7 @@
 --     assign, backtrack                    01: "Assign", "Back up"
 --     on_cpa .. on_stop, respond             01: "Paper", "Copy", "Estimate", "News", "Stop"
 -- Places count from 0: the unit at place k is 01's unit i = k + 1. Assumes nothing.
-use Rattle.base.specs.Library.{ℕ, zero, suc, ◌+◌, ◌-◌, Bool, true, false, cond, ◌&&◌, ◌||◌, List, [], ◌∷◌, ltb, leb, eqb, get_or, set, take}
+use Rattle.std.specs.Prelude.{ℕ, zero, suc, ◌+◌, ◌-◌, Bool, true, false, cond, ◌&&◌, ◌||◌, List, [], ◌∷◌, ltb, leb, eqb, get_or, set, take}
 use Rattle.base.specs.Sums.{sum_from}
 use Rattle.costs.specs.{declared.Cost.TheVariants.Of, Cost.◌⊕◌, Cost.below, Cost.as_number, Instance.View, Bounds.cost_with, Bounds.h, Bounds.estimate, Order.next, Order.left}
 use Rattle.message.specs.{declared.Message.Message, declared.Kind.Kind, Message.no_message}

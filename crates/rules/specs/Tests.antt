@@ -1,7 +1,7 @@
 -- Parts of a step that its proofs speak of: small ones, and each test with what either answer leads to. Nobody has to believe these: Step has
 -- the same.
 -- Assumes nothing.
-use Rattle.base.specs.Library.{ℕ, suc, ◌-◌, Bool, false, cond, List, eqb, get_or, set}
+use Rattle.std.specs.Prelude.{ℕ, suc, ◌-◌, Bool, false, cond, List, eqb, get_or, set}
 use Rattle.base.specs.Sums.{sum_from}
 use Rattle.costs.specs.{declared.Cost.Cost, declared.Cost.TheVariants.Of, Cost.◌⊕◌, Instance.View, Bounds.cost_with}
 use Rattle.message.specs.{declared.Message.Message, declared.Kind.Kind, Message.no_message}

@@ -1,7 +1,7 @@
 -- What a unit does on what is known to be good: a run checks its table once and knows h of its values, and its units send what can be read. Nobody
 -- has to believe it: on what a step accepts it is the step, `trusted_steps` of Laws/Trusted, and a run hands it nothing else (runs/specs/Trusted).
 -- Assumes nothing.
-use Rattle.base.specs.Library.{ℕ, pred, ◌*◌, ◌-◌, Bool, cond, ◌&&◌, ◌||◌, List, [], ltb, leb, eqb, get_or, length}
+use Rattle.std.specs.Prelude.{ℕ, pred, ◌*◌, ◌-◌, Bool, cond, ◌&&◌, ◌||◌, List, [], ltb, leb, eqb, get_or, length}
 use Rattle.base.specs.Limits.{sending_size, message_size}
 use Rattle.costs.specs.{declared.Seat.Seat, Instance.view_knowing}
 use Rattle.message.specs.{declared.Message.Message, declared.Kind.Kind, declared.Read.Read, declared.Read.TheVariants.Good, declared.Read.TheVariants.Refused, Message.is_unit, Message.Packet, Unpack.unpack_of}

@@ -1,5 +1,5 @@
 -- Many units, by place: the one that a packet is for and its step, and the records that they write together. No pool is met here. Assumes nothing.
-use Rattle.base.specs.Library.{ℕ, pred, ◌≡◌, List, [], ◌∷◌, get_or}
+use Rattle.std.specs.Prelude.{ℕ, pred, ◌≡◌, List, [], ◌∷◌, get_or}
 use Rattle.base.specs.Members.{Every}
 use Rattle.costs.specs.{declared.ValueOrder.ValueOrder, Instance.Instance, Instance.view_by}
 use Rattle.message.specs.Message.{Packet}

@@ -1,6 +1,6 @@
 -- The way of a message: whether it changes so little that a run need not carry the whole state through a step. Nobody has to believe it: a unit
 -- decides what the way says, `way_decides` of Laws/Ways. Assumes nothing.
-use Rattle.base.specs.Library.{ℕ, ◌+◌, ◌-◌, Bool, cond, ◌&&◌, List, [], ltb, leb, get_or, set}
+use Rattle.std.specs.Prelude.{ℕ, ◌+◌, ◌-◌, Bool, cond, ◌&&◌, List, [], ltb, leb, get_or, set}
 use Rattle.base.specs.Sums.{sum_from}
 use Rattle.costs.specs.declared.Seat.{Seat}
 use Rattle.costs.specs.{Cost.as_number, Instance.View, Instance.view_knowing, Bounds.estimate}

@@ -1,6 +1,6 @@
 -- The calls on bytes: making a network, a delivery and an echo (02, job 2), refusals in 01's order.
 -- 01: "Making .. a shed: 5, 6, 7, 13." "Delivery: 13, 5 (n, sizes), 6, 7, 5 (any unit's state, pool count), 12, 15, the step's from 8 on, 14." Assumes nothing.
-use Rattle.base.specs.Library.{ℕ, zero, suc, ◌+◌, ◌-◌, pred, cond, List, ltb, leb, length, get_or, set, take, replicate}
+use Rattle.std.specs.Prelude.{ℕ, zero, suc, ◌+◌, ◌-◌, pred, cond, List, ltb, leb, length, get_or, set, take, replicate}
 use Rattle.base.specs.{Limits.pool_size, Limits.pool_cells, Limits.costs_size, Refusal.or_else, Every.every}
 use Rattle.table.specs.Stream.{units_of, stream_refusal}
 use Rattle.costs.specs.declared.ValueOrder.{ValueOrder}

@@ -1,5 +1,5 @@
 -- Definitions. What is proved of them, and by them, is in proofs/CodeLaws.antt. Assumes nothing.
-use Prim.Native.Nat.{ℕ, pred, ◌+◌, ◌*◌, ◌-◌, ◌≤◌, ◌<◌}
+use Prim.Native.Nat.{ℕ, pred, ◌+◌, ◌*◌, ◌≤◌, ◌<◌}
 use Rattle.std.specs.Prelude.{◌≡◌, Bool, leb}
 use Rattle.std.proofs.Math.Bool.{true, cond}
 use mathlib.Core.List.{List}

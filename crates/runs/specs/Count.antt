@@ -1,5 +1,5 @@
 -- A count in two 64-bit words, 01: "each in two 64-bit words, as 16 units can pass one word, modulo 2^128". Assumes nothing.
-use Rattle.base.specs.Library.{ℕ, ◌+◌, ◌*◌, ◌/◌, ◌%◌, ◌^◌}
+use Rattle.std.specs.Prelude.{ℕ, ◌+◌, ◌*◌, ◌/◌, ◌%◌, ◌^◌}
 use Rattle.runs.specs.declared.Count.{Count}
 pub mod Laws
 

@@ -1,6 +1,6 @@
 -- A list of deliveries to a shed, whatever pool it has: what it leaves, how many of them are accepted, and what these handed over.
 -- Assumes nothing.
-use Rattle.base.specs.Library.{ℕ, ◌+◌, cond, List, [], ◌∷◌, ◌++◌, eqb}
+use Rattle.std.specs.Prelude.{ℕ, ◌+◌, cond, List, [], ◌∷◌, ◌++◌, eqb}
 pub mod Laws
 pub mod Ending
 

@@ -6,7 +6,7 @@
 --     Follows                       what the bytes have to do with the run over messages (Run.antt)
 --     Served                        what holds of one run
 --     Demand3                       two runs of one table
-use Rattle.base.specs.Library.{ℕ, ◌+◌, ◌*◌, ◌-◌, ◌≤◌, ◌≡◌, ◌⊎◌, Bool, true, false, cond, List, [], ◌∷◌, map, length, take}
+use Rattle.std.specs.Prelude.{ℕ, ◌+◌, ◌*◌, ◌-◌, ◌≤◌, ◌≡◌, ◌⊎◌, Bool, true, false, cond, List, [], ◌∷◌, map, length, take}
 use Rattle.base.specs.Limits.{message_size}
 use Rattle.costs.specs.declared.ValueOrder.{ValueOrder}
 use Rattle.costs.specs.{Instance.Instance, Instance.instance_of, Bounds.Reported, Bounds.N, Least.LeastFirst, Least.Padded}

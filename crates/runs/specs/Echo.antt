@@ -1,5 +1,15 @@
--- Definitions. What is proved of them, and by them, is in proofs/Echo.antt. Assumes nothing.
-use Rattle.base.specs.Library.{ℕ, ◌*◌, ◌%◌, ◌^◌, ◌<◌, ◌≡◌, ◌⊎◌, Bool, true, false, cond, List, [], ◌∷◌, ◌++◌, map, eqb, length}
+-- PACKETS HEARD TWICE, 02, job 2, stated: "Let any message that was sent be delivered any number of times .. Still no beginning is written twice, box 1's report
+-- is the least total when it stops, and until then some message that was never delivered is waiting. The limit on deliveries holds only for runs without
+-- echoes." About `make_of`, `deliver_of` and `echo_of`, which the contracts of `network::make_by`, `deliver_by` and `echo_by` cite. 02 asks this of runs "where no
+-- delivery is refused"; here refused ones may stand in the list too, as they change nothing. Proved in proofs/Echo/Theorem.antt (`heard-twice`, and 02's own words from it: `as_asked`). Assumes nothing.
+--     Event                            a delivery that names a cell, or an echo that lends a packet
+--     hear, hear_from, heard            over messages: an event, and a list of events
+--     result_of, hear_bytes, heard_bytes  on bytes: the same
+--     taken_in                          the bytes that accepted events handed over
+--     Echoes                           every echo lends a packet that was sent before
+--     HeardTwice                       what holds of such a list
+--     AsAsked                          02's three claims, of one in which nothing is refused
+use Rattle.std.specs.Prelude.{ℕ, ◌*◌, ◌%◌, ◌^◌, ◌<◌, ◌≡◌, ◌⊎◌, Bool, true, false, cond, List, [], ◌∷◌, ◌++◌, map, eqb, length}
 use Rattle.base.specs.Members.{In}
 use Rattle.costs.specs.declared.ValueOrder.{ValueOrder}
 use Rattle.costs.specs.{Instance.Instance, Instance.instance_of, Bounds.Reported, Least.LeastFirst, Least.Padded}

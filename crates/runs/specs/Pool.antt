@@ -1,5 +1,5 @@
 -- The pool's bytes, 01: "The pool is 1,024 cells of 64 bytes." Assumes nothing.
-use Rattle.base.specs.Library.{ℕ, suc, ◌+◌, ◌*◌, ◌-◌, List, ◌++◌, length, take, drop}
+use Rattle.std.specs.Prelude.{ℕ, suc, ◌+◌, ◌*◌, ◌-◌, List, ◌++◌, length, take, drop}
 use Rattle.base.specs.Limits.{message_size}
 use Rattle.message.specs.Message.{Packet}
 use Rattle.rules.specs.Send.{encode_all}

@@ -5,7 +5,8 @@
 --     cells                          01's pool: the messages that wait, one after the other
 --     begin, hand_over, run           making, one delivery, and a run, over 01's pool
 --     written                        the records that a run writes
-use Rattle.base.specs.Library.{ℕ, suc, Bool, cond, List, [], ◌∷◌, ◌++◌, Option, none, some, leb, length, set, take, drop, replicate}
+use Rattle.std.specs.Prelude.{ℕ, suc, Bool, cond, List, [], ◌∷◌, ◌++◌, leb, length, set, take, drop, replicate}
+use Rattle.std.proofs.Math.Option.{Option, none, some}
 use Rattle.base.specs.Limits.{pool_cells}
 use Rattle.costs.specs.{declared.ValueOrder.ValueOrder, Instance.Instance, Instance.view_by, Instance.instance_of}
 use Rattle.message.specs.Message.{Packet}

@@ -1,6 +1,6 @@
 -- Running a network to its end: cell 0 delivered until unit 1 stops. It is the run of (3n - 1) × N zeros, as demand 3 says that no run accepts more,
 -- and once unit 1 has stopped a delivery changes nothing. Assumes nothing.
-use Rattle.base.specs.Library.{ℕ, zero, suc, List, replicate}
+use Rattle.std.specs.Prelude.{ℕ, zero, suc, List, replicate}
 use Rattle.costs.specs.declared.ValueOrder.{ValueOrder}
 use Rattle.costs.specs.Instance.{instance_of}
 use Rattle.runs.specs.{Calls.Result, Calls.make_of, Demand3.Shed, Demand3.run_bytes, Demand3.most}

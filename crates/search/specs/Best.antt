@@ -3,7 +3,7 @@
 -- and goes no further where that is forbidden. Branch and bound (02, job 6) is the same search that goes no further where that cost reaches the best total,
 -- and so has the same answer (`best_reached` of specs/Steps).
 -- Nobody has to believe it: that the answer is the one that costs/specs/Least describes, and no other, is in specs/Laws. Assumes nothing.
-use Rattle.base.specs.Library.{ℕ, zero, suc, cond, List, ltb, set, replicate}
+use Rattle.std.specs.Prelude.{ℕ, zero, suc, cond, List, ltb, set, replicate}
 use Rattle.base.specs.Limits.{NONE}
 use Rattle.costs.specs.{Instance.Instance, Cost.as_number, Bounds.total}
 use Rattle.search.specs.declared.Best.{Best}

@@ -1,7 +1,7 @@
 -- What the two searches give. 01: ".. gives the least total with its first lotting in ascending order." 02: "If no lotting remains, stop and
 -- bench give *none* with best all zero." They differ in what they refuse alone.
 -- costs/specs/Least says of the answer, without a search, which one it is; specs/Best is the search. Assumes nothing.
-use Rattle.base.specs.Library.{ℕ, cond, List, ltb, eqb, replicate}
+use Rattle.std.specs.Prelude.{ℕ, cond, List, ltb, eqb, replicate}
 use Rattle.base.specs.Limits.{search_limit}
 use Rattle.table.specs.Stream.{stream_refusal}
 use Rattle.costs.specs.{Instance.Instance, Instance.instance_of, Bounds.prefix_count}

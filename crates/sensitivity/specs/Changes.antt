@@ -1,7 +1,7 @@
 -- Two tables of one shape, and by how much costs are lowered and raised from the one to the other. 02, job 12: "for two tables of the same n, sizes
 -- and barred marks the ends add up: lowerings for the lower end, raises for the upper." In order: which cost; tables of one shape; lowerings and
 -- raises; two tables that differ in one cost. Units count from 0, as in costs/specs/Instance. Assumes nothing.
-use Rattle.base.specs.Library.{ℕ, ◌+◌, ◌-◌, ◌≤◌, ◌<◌, ◌≡◌, ◌≢◌}
+use Rattle.std.specs.Prelude.{ℕ, ◌+◌, ◌-◌, ◌≤◌, ◌<◌, ◌≡◌, ◌≢◌}
 use Rattle.base.specs.Sums.{sum_from, sum_to}
 use Rattle.costs.specs.{declared.Cost.Cost, declared.Cost.TheVariants.Of, declared.Cost.TheVariants.Forbidden, Instance.Instance}
 

@@ -1,6 +1,6 @@
 -- A retest, of streams. In order: where the number of a cost stands; two accepted tables whose bytes differ in one number; a stream with another
 -- number for one cost. proofs/Streams/Laws and Retested say of both that what branch and bound finds lies between the ends. Assumes nothing.
-use Rattle.base.specs.Library.{ℕ, ◌+◌, ◌*◌, ◌-◌, ◌≡◌, ◌≢◌, Bool, true, cond, ◌&&◌, List, ltb, eqb, get_or}
+use Rattle.std.specs.Prelude.{ℕ, ◌+◌, ◌*◌, ◌-◌, ◌≡◌, ◌≢◌, Bool, true, cond, ◌&&◌, List, ltb, eqb, get_or}
 use Rattle.base.specs.{Bytes.le16, Put.put_at, Shape.is_value, Sums.sum_to}
 use Rattle.table.specs.Stream.{in_form_two, units_of, unaries_in, unaries_at, stream_refusal, Accepted}
 use Rattle.costs.specs.Instance.{dom_of, pair_start, in_pair}

@@ -1,5 +1,6 @@
 -- The pool's bytes. 02, job 4: "The pool is 19,200 bytes"; a cell is 64 of them, as in 01's pool. Assumes nothing.
-use Rattle.base.specs.Library.{ℕ, ◌*◌, Bool, ◌||◌, List, [], ◌∷◌, Option, none, some, leb, replicate}
+use Rattle.std.specs.Prelude.{ℕ, ◌*◌, Bool, ◌||◌, List, [], ◌∷◌, leb, replicate}
+use Rattle.std.proofs.Math.Option.{Option, none, some}
 use Rattle.base.specs.{Limits.message_size, Put.put_at}
 use Rattle.table.specs.Block.{all_zero}
 use Rattle.message.specs.Message.{Packet}

@@ -1,7 +1,7 @@
 -- The calls on bytes: making a network over 02's pool and a delivery, refusals in 01's order. Units, counts, the step and its refusals are those of runs/specs/Calls.
 -- 01: "Making .. a shed: 5, 6, 7, 13." "Delivery: 13, 5 (n, sizes), 6, 7, 5 (any unit's state, pool count), 12, 15, the step's from 8 on, 14."
 -- 02, job 4: "This pool has no count for check 5", and no 14. Assumes nothing.
-use Rattle.base.specs.Library.{ℕ, zero, suc, pred, Bool, false, cond, not, List, ltb, eqb, length}
+use Rattle.std.specs.Prelude.{ℕ, zero, suc, pred, Bool, false, cond, not, List, ltb, eqb, length}
 use Rattle.base.specs.{Refusal.or_else}
 use Rattle.table.specs.Stream.{units_of}
 use Rattle.costs.specs.declared.ValueOrder.{ValueOrder}

@@ -6,7 +6,7 @@
 --     Served                        what holds of one run
 --     Demand3                       two runs of one table
 -- What it counts, and what a report is, are those of runs/specs/Demand3.
-use Rattle.base.specs.Library.{ℕ, ◌+◌, ◌≤◌, ◌<◌, ◌≡◌, ◌⊎◌, Bool, true, false, List, map, length}
+use Rattle.std.specs.Prelude.{ℕ, ◌+◌, ◌≤◌, ◌<◌, ◌≡◌, ◌⊎◌, Bool, true, false, List, map, length}
 use Rattle.base.specs.Members.{Every}
 use Rattle.costs.specs.declared.ValueOrder.{ValueOrder}
 use Rattle.costs.specs.{Instance.instance_of, Gather.sizes_in, Bounds.Reported, Least.LeastFirst, Least.Padded}

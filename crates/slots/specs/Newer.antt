@@ -5,7 +5,7 @@
 --     choice_of                                the first, the second, or neither with a refusal
 --     newer_refusal, which_newer, newer_of       the answers of the three calls
 -- Assumes nothing.
-use Rattle.base.specs.Library.{ℕ, Bool, true, false, cond, ◌&&◌, List, [], ltb, eqb}
+use Rattle.std.specs.Prelude.{ℕ, Bool, true, false, cond, ◌&&◌, List, [], ltb, eqb}
 use Rattle.base.specs.Limits.{places}
 use Rattle.message.specs.{declared.Kind.Kind, declared.Read.Read, declared.Read.TheVariants.Good, declared.Read.TheVariants.Refused, declared.Message.Message, Message.kind_code, Decode.parse_of}
 use Rattle.message.specs.declared.Kind.TheVariants.{Cpa, Request, Estimate, Solution, Stop}

@@ -4,7 +4,7 @@
 --     deliver_until, replay_of        the call
 --     Replayed                      what it has to do with the deliveries one after another
 --     Parts                         a list that was cut
-use Rattle.base.specs.Library.{ℕ, ◌%◌, ◌<◌, ◌≡◌, ◌≢◌, ◌⊎◌, cond, List, [], ◌∷◌, ◌++◌, eqb, length, get_or, take}
+use Rattle.std.specs.Prelude.{ℕ, ◌%◌, ◌<◌, ◌≡◌, ◌≢◌, ◌⊎◌, cond, List, [], ◌∷◌, ◌++◌, eqb, length, get_or, take}
 use Rattle.base.specs.Bytes.{u16_at}
 use Rattle.costs.specs.declared.ValueOrder.{ValueOrder}
 use Rattle.runs.specs.{declared.Core.Core, Deliveries.deliver_all, Deliveries.accepted_in}

@@ -4,7 +4,8 @@
 --     place, overwritten_by                      others put in, and what they overwrite
 --     Slots, slots                              the pool
 --     begin, run, written                       making and a run over it
-use Rattle.base.specs.Library.{ℕ, List, [], ◌∷◌, ◌++◌, Option, none, some, get_or, set, replicate}
+use Rattle.std.specs.Prelude.{ℕ, List, [], ◌∷◌, ◌++◌, get_or, set, replicate}
+use Rattle.std.proofs.Math.Option.{Option, none, some}
 use Rattle.costs.specs.{declared.ValueOrder.ValueOrder, Instance.Instance, Instance.view_by, Instance.instance_of}
 use Rattle.message.specs.Message.{Packet}
 use Rattle.rules.specs.{State.fresh, Step.Written, Step.assign}

@@ -1,6 +1,6 @@
 -- Running over 02's pool to its end: the lowest cell in use is delivered until unit 1 stops. It is a run of (3n - 1) × N deliveries, as demand 3 says that no run accepts
 -- more, and once unit 1 has stopped a delivery changes nothing. Assumes nothing.
-use Rattle.base.specs.Library.{ℕ, zero, suc, cond, List, [], ◌∷◌}
+use Rattle.std.specs.Prelude.{ℕ, zero, suc, cond, List, [], ◌∷◌}
 use Rattle.table.specs.Block.{all_zero}
 use Rattle.table.specs.Stream.{units_of}
 use Rattle.costs.specs.declared.ValueOrder.{ValueOrder}

@@ -5,7 +5,7 @@
 --     used_slots                   how many there are for n units
 --     slot_number, slot_of          the cell of a triple, and of a message
 -- Slot/Laws has that this numbers the triples, each with a cell of its own, in 02's order. Assumes nothing.
-use Rattle.base.specs.Library.{ℕ, ◌+◌, ◌*◌, ◌-◌, ◌/◌, Bool, cond, ◌&&◌, ltb}
+use Rattle.std.specs.Prelude.{ℕ, ◌+◌, ◌*◌, ◌-◌, ◌/◌, Bool, cond, ◌&&◌, ltb}
 use Rattle.message.specs.declared.Kind.{Kind}
 use Rattle.message.specs.declared.Kind.TheVariants.{Cpa, Request, Estimate, Solution, Stop}
 use Rattle.message.specs.Message.{Packet, is_unit, direction_good}

@@ -1,6 +1,6 @@
 -- A box that is handed the blocks of its table one after the other: what each gives, with the lent costs. A block that is refused changes nothing,
 -- so it can be handed over again. Nothing of the costs is to be used before the last block is in. Assumes nothing.
-use Rattle.base.specs.Library.{ℕ, zero, suc, ◌+◌, ◌%◌, Bool, true, false, cond, List, eqb, ltb, length, take, drop}
+use Rattle.std.specs.Prelude.{ℕ, zero, suc, ◌+◌, ◌%◌, Bool, true, false, cond, List, eqb, ltb, length, take, drop}
 use Rattle.base.specs.{Limits.block_size, Limits.costs_size, Refusal.or_else, Shape.is_value}
 use Rattle.table.specs.Block.{block_refusal, payload_of}
 use Rattle.start.specs.declared.Reader.{Reader}

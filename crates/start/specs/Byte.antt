@@ -2,7 +2,7 @@
 -- 01, "Stored table": "n, then n sizes, then for pairs (1,2), (1,3) .. (n-1,n) the costs as 16-bit numbers"; 02, job 7: "the stream opens with byte
 -- 200, then n, sizes, own costs unit by unit, pair costs". Costs that units have alone are a row before the first, as with a unit of one value.
 -- Assumes nothing.
-use Rattle.base.specs.Library.{ℕ, ◌+◌, ◌*◌, ◌-◌, ◌≤◌, ◌≡◌, Bool, cond, ◌&&◌, ◌||◌, List, [], ◌∷◌, ◌++◌, eqb, leb, ltb, length, get_or, set, replicate}
+use Rattle.std.specs.Prelude.{ℕ, ◌+◌, ◌*◌, ◌-◌, ◌≤◌, ◌≡◌, Bool, cond, ◌&&◌, ◌||◌, List, [], ◌∷◌, ◌++◌, eqb, leb, ltb, length, get_or, set, replicate}
 use Rattle.base.specs.{Limits.places, Limits.form_two, Shape.is_value, Put.put_within}
 use Rattle.table.specs.Stream.{unary_good, pair_good, costs_good}
 use Rattle.start.specs.declared.Reader.{Reader}

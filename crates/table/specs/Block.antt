@@ -1,6 +1,6 @@
 -- A block of the stored table, read alone; and how many there are. The facts about these are in BlockLaws.
 -- Document 01: "Blocks of 512 bytes. 0-1 block number from 0; 2-3 payload count; 4-509 payload; 510-511 check." Assumes nothing.
-use Rattle.base.specs.Library.{ℕ, ◌+◌, ◌-◌, ◌/◌, Bool, true, cond, ◌&&◌, List, [], ◌∷◌, eqb, length, take, drop}
+use Rattle.std.specs.Prelude.{ℕ, ◌+◌, ◌-◌, ◌/◌, Bool, true, cond, ◌&&◌, List, [], ◌∷◌, eqb, length, take, drop}
 use Rattle.base.specs.{Limits.block_size, Limits.payload_size, Limits.checked_size, Bytes.u16_at, Shape.is_value}
 use Rattle.checksum.specs.Sum.{sum_of}
 

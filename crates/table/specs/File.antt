@@ -1,6 +1,6 @@
 -- A stored table whole: the stream of a file, the file of a stream, and what reading and writing give.
 -- Document 01, "Stored table" and "Refusals". The facts about these are in FileLaws and RoundTrip. Assumes nothing.
-use Rattle.base.specs.Library.{ℕ, zero, suc, ◌*◌, ◌/◌, ◌%◌, Bool, cond, ◌&&◌, not, List, [], ◌++◌, eqb, leb, ltb, length, take, drop}
+use Rattle.std.specs.Prelude.{ℕ, zero, suc, ◌*◌, ◌/◌, ◌%◌, Bool, cond, ◌&&◌, not, List, [], ◌++◌, eqb, leb, ltb, length, take, drop}
 use Rattle.base.specs.{declared.Length.Length, Limits.block_size, Limits.file_size, Limits.stream_size, Refusal.or_else}
 use Rattle.table.specs.{Stream.stream_refusal, Block.block_refusal, Block.payload_of, Block.blocks_for, Written.file_of}
 

@@ -1,6 +1,6 @@
 -- The two forms of a stored table, and converting one into the other. 02, job 7: "A mover turns form one into form two and back". That a table
 -- converted there and back is the first file again is in Form/Laws. Assumes nothing.
-use Rattle.base.specs.Library.{ℕ, ◌+◌, ◌*◌, Bool, true, cond, List, ◌∷◌, ◌++◌, ltb, length, take, drop, replicate}
+use Rattle.std.specs.Prelude.{ℕ, ◌+◌, ◌*◌, Bool, true, cond, List, ◌∷◌, ◌++◌, ltb, length, take, drop, replicate}
 use Rattle.base.specs.{declared.Length.Length, Limits.form_two, Limits.block_size, Limits.stream_size, Refusal.or_else}
 use Rattle.table.specs.declared.Form.{Form}
 use Rattle.table.specs.declared.Form.TheVariants.{One, Two}

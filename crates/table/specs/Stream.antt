@@ -1,6 +1,6 @@
 -- The stream of a table: n, the n sizes, in form two the unary costs (02: "own costs"), the costs of all pairs; and what is wrong with a list
 -- that is none. Document 01, "Stored table" and refusals 5, 6, 7; 02, job 7. The facts about these are in StreamLaws. Assumes nothing.
-use Rattle.base.specs.Library.{ℕ, zero, suc, ◌+◌, ◌*◌, Bool, true, cond, ◌&&◌, ◌||◌, List, [], ◌∷◌, ◌≡◌, eqb, leb, length, get_or, take, drop}
+use Rattle.std.specs.Prelude.{ℕ, zero, suc, ◌+◌, ◌*◌, Bool, true, cond, ◌&&◌, ◌||◌, List, [], ◌∷◌, ◌≡◌, eqb, leb, length, get_or, take, drop}
 use Rattle.base.specs.{Limits.form_two, Limits.pair_limit, Limits.forbidden_pair, Limits.unary_limit, Bytes.u16_at, Shape.shape_good}
 
 -- 02, job 7: "Stored form two: the stream opens with byte 200, then n, sizes, own costs unit by unit, pair costs"

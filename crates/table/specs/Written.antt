@@ -1,7 +1,7 @@
 -- The blocks and the file of a stream. Nobody has to believe it: that a file is read back as its stream, and that no other is accepted
 -- and holds that stream, is in RoundTrip.
 -- Document 01: "Blocks of 512 bytes. 0-1 block number from 0; 2-3 payload count; 4-509 payload; 510-511 check." Assumes nothing.
-use Rattle.base.specs.Library.{ℕ, zero, suc, ◌-◌, List, [], ◌++◌, length, take, drop, replicate}
+use Rattle.std.specs.Prelude.{ℕ, zero, suc, ◌-◌, List, [], ◌++◌, length, take, drop, replicate}
 use Rattle.base.specs.{Limits.payload_size, Bytes.le16}
 use Rattle.checksum.specs.Sum.{sum_of}
 use Rattle.table.specs.Block.{blocks_for}

@@ -1,5 +1,5 @@
 -- Binary digits, the first as the top one. Their laws are in Binary/Laws. Assumes nothing.
-use Rattle.base.specs.Library.{ℕ, zero, suc, ◌+◌, ◌*◌, ◌-◌, ◌/◌, ◌%◌, ◌^◌}
+use Rattle.std.specs.Prelude.{ℕ, zero, suc, ◌+◌, ◌*◌, ◌-◌, ◌/◌, ◌%◌, ◌^◌}
 pub mod Laws
 
 -- digit k, counted from 0, of the m digits of x

@@ -4,7 +4,7 @@
 -- In order: `Overwrites`; what is kept (`KeptSlots`); the same messages in another order; what is sent is held, and making; a message that waits;
 -- CPAs and slots; a message that is accepted.
 -- Assumes nothing.
-use Rattle.std.specs.Prelude.{ℕ, zero, suc, ◌+◌, ◌-◌, ◌≤◌, ◌<◌, pred, ◌≡◌, refl, ◌≢◌, ◌⊎◌, false, List, ◌++◌}
+use Rattle.std.specs.Prelude.{ℕ, suc, ◌-◌, ◌≤◌, ◌<◌, pred, ◌≡◌, refl, ◌≢◌, ◌⊎◌, false, List, ◌++◌}
 use Rattle.std.proofs.Common.{sym, ap, ◌∙◌, subst, inl, inr, arith}
 use Rattle.base.specs.Members.{In, Every}
 use Rattle.base.specs.Members.Laws.{in_left, in_right, every_nil}
@@ -14,7 +14,6 @@ use Rattle.protocol.specs.Tests.{true_not_false}
 use Rattle.protocol.specs.Totals.{total}
 use Rattle.protocol.specs.Safety.Logs.{logs, Recorded}
 use Rattle.protocol.proofs.Safety.Network.{safe_fewer}
-use Rattle.protocol.specs.Liveness.Moves.{IsCpa, sender}
 use Rattle.protocol.specs.Liveness.Chain.{Delivered}
 use Rattle.protocol.proofs.Liveness.Chain.{live_mono}
 use Rattle.protocol.specs.Liveness.Run.{Chain}

@@ -1,5 +1,4 @@
 -- Definitions. What is proved of them, and by them, is in proofs/Air/Theorem.antt. Assumes nothing.
-use Rattle.std.specs.Prelude.{◌-◌}
 use Rattle.protocol.specs.Problem.{Problem}
 use Rattle.protocol.specs.Machine.{Network}
 use Rattle.protocol.specs.Safety.Network.{SafeNetwork}

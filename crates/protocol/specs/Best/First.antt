@@ -1,5 +1,5 @@
 -- Definitions. What is proved of them, and by them, is in proofs/Best/First.antt. Assumes nothing.
-use Rattle.std.specs.Prelude.{ℕ, suc, ◌-◌, ◌<◌, pred, List}
+use Rattle.std.specs.Prelude.{ℕ, suc, ◌<◌, pred, List}
 use Rattle.base.specs.Members.{In}
 use Rattle.protocol.specs.Problem.{Problem, Passed}
 use Rattle.protocol.specs.Machine.{Record, values_of, Network}

@@ -1,5 +1,5 @@
 -- Definitions. What is proved of them, and by them, is in proofs/Best/Told.antt. Assumes nothing.
-use Rattle.std.specs.Prelude.{ℕ, suc, ◌-◌, ◌≤◌, ◌<◌, ◌≡◌, ◌⊎◌, List}
+use Rattle.std.specs.Prelude.{ℕ, suc, ◌≤◌, ◌<◌, ◌≡◌, ◌⊎◌, List}
 use Rattle.base.specs.Members.{Every}
 use Rattle.protocol.specs.Problem.{Problem}
 use Rattle.protocol.specs.Machine.{Msg, down, back, request, estimate, solution, stop, to, Agent, Result, refused, done}

@@ -1,5 +1,5 @@
 -- Definitions. What is proved of them, and by them, is in proofs/Echo/Run.antt. Assumes nothing.
-use Rattle.std.specs.Prelude.{◌-◌, ◌≡◌, ◌≢◌, ◌⊎◌, true, List, length}
+use Rattle.std.specs.Prelude.{◌≡◌, ◌≢◌, ◌⊎◌, true, List, length}
 use Rattle.base.specs.Members.{In, Every}
 use Rattle.protocol.specs.Problem.{Problem}
 use Rattle.protocol.specs.Machine.{Msg, counted, Network}

@@ -1,5 +1,5 @@
 -- Definitions. What is proved of them, and by them, is in proofs/Progress/Asked.antt. Assumes nothing.
-use Rattle.std.specs.Prelude.{ℕ, suc, ◌*◌, ◌-◌, ◌≤◌, ◌<◌, ◌⊎◌}
+use Rattle.std.specs.Prelude.{ℕ, suc, ◌*◌, ◌≤◌, ◌<◌, ◌⊎◌}
 use Rattle.base.specs.Members.{In}
 use Rattle.protocol.specs.Problem.{Problem}
 use Rattle.protocol.specs.Machine.{Msg, request, Record, stamp_of, values_of, Result, refused, done, Network}

@@ -1,5 +1,5 @@
 -- Definitions. What is proved of them, and by them, is in proofs/Simulation/Step.antt. Assumes nothing.
-use Prim.Native.Nat.{ℕ, ◌-◌}
+use Prim.Native.Nat.{ℕ}
 use Rattle.std.specs.Prelude.{◌≡◌}
 use Rattle.costs.specs.declared.Cost.TheVariants.{Of}
 use Rattle.costs.specs.Instance.{Instance}

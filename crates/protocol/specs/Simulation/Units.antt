@@ -1,5 +1,5 @@
 -- Definitions. What is proved of them, and by them, is in proofs/Simulation/Units.antt. Assumes nothing.
-use Rattle.std.specs.Prelude.{ℕ, ◌+◌, ◌<◌, ◌≡◌, List, ◌∷◌, ◌++◌, length, set}
+use Rattle.std.specs.Prelude.{ℕ, ◌<◌, ◌≡◌, List, ◌∷◌, ◌++◌, length, set}
 use Rattle.base.specs.Sums.{sum_to}
 use Rattle.base.specs.Members.{Every}
 use Rattle.costs.specs.declared.ValueOrder.{ValueOrder}

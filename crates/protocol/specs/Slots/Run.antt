@@ -1,5 +1,5 @@
 -- Definitions, and CPAs by kind and sender. What is proved of them, and by them, is in proofs/Slots/Run.antt. Assumes nothing.
-use Rattle.std.specs.Prelude.{ℕ, zero, suc, ◌+◌, ◌-◌, ◌≤◌, ◌≡◌, refl, ◌≢◌, ◌⊎◌, List}
+use Rattle.std.specs.Prelude.{ℕ, zero, suc, ◌+◌, ◌≤◌, ◌≡◌, refl, ◌≢◌, ◌⊎◌, List}
 use Rattle.std.proofs.Common.{arith}
 use Rattle.base.specs.Members.{In, Every}
 use Rattle.protocol.specs.Problem.{Problem}

@@ -1,5 +1,5 @@
 -- Definitions. What is proved of them, and by them, is in proofs/Slots/Sends.antt. Assumes nothing.
-use Rattle.std.specs.Prelude.{ℕ, ◌-◌, ◌≡◌, ◌≢◌}
+use Rattle.std.specs.Prelude.{ℕ, ◌≡◌, ◌≢◌}
 use Rattle.base.specs.Members.{Every}
 use Rattle.protocol.specs.Machine.{Msg, to, Result, refused, done}
 use Rattle.protocol.specs.Slots.Slot.{from, Apart}

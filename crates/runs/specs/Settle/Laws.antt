@@ -1,5 +1,5 @@
 -- Definitions. What is proved of them, and by them, is in proofs/Settle/Laws.antt. Assumes nothing.
-use Rattle.std.specs.Prelude.{ℕ, ◌-◌, ◌≡◌, true, List}
+use Rattle.std.specs.Prelude.{ℕ, ◌≡◌, true, List}
 use Rattle.costs.specs.declared.ValueOrder.{ValueOrder}
 use Rattle.runs.specs.declared.Network.{Network}
 use Rattle.runs.specs.Count.{value_of}
