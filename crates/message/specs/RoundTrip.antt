@@ -35,11 +35,11 @@ use Rattle.message.specs.declared.Parsed.{Parsed}
 use Rattle.message.specs.Layout.{stamp_byte, values_byte, cost_byte, bound_byte, best_byte, zero_byte, check_byte}
 use Rattle.message.specs.Message.{kind_code, kind_of, no_message, address_good, well_formed}
 use Rattle.message.specs.Sized.{Sized}
-use Rattle.message.specs.Decode.{message_in, check_good, rest_zero, parse_kind, parse_for, parse_of, refused, put_refusal, write_refusal, packet_into}
+use Rattle.message.specs.Decode.{message_in, check_good, rest_zero, parse_kind, parse_for, refused, put_refusal, write_refusal}
 use Rattle.message.specs.Unpack.{unpack_of}
 use Rattle.message.specs.Written.{body, encode}
 use Rattle.message.specs.EncodeLaws.{head, length_body, length_encode}
-use Rattle.message.specs.DecodeLaws.{addressed_to, check_length, parse_5, parse_8, parse_10, parse_on, kind_refused, kind_rest, kind_unfit, kind_good, write_done}
+use Rattle.message.specs.DecodeLaws.{addressed_to, check_length, parse_5, parse_8, parse_10, parse_on, kind_refused, kind_rest, kind_unfit, kind_good}
 
 -- ------------------------------------------------------------------------------------------------------------------
 -- Fields in bytes.
@@ -203,17 +203,9 @@ writable n sizes k m room e = go (shape_good n sizes) refl (address_good n m) re
     go true p true q true t false u = never 13 (omega arith) (rw (p, q, t, u) at e)
     go true p true q true t true u = record { shape = p; address = q; formed = t; fits = leb-true (0 + message_size) room u }
 
-writable_by : (n : ℕ) (sizes : List ℕ) (k : Kind) (m : Message) (room : ℕ) → Writable n sizes k m room → write_refusal n sizes k m room ≡ 0
+pub writable_by : (n : ℕ) (sizes : List ℕ) (k : Kind) (m : Message) (room : ℕ) → Writable n sizes k m room → write_refusal n sizes k m room ≡ 0
 unfolding write_refusal put_refusal
 writable_by n sizes k m room w = rw (w.shape, w.address, w.formed, le-leb (0 + message_size) room w.fits)
-
--- what `write` accepts and puts first in the output reads back as the same message and kind
-pub parse_written : (n : ℕ) (sizes : List ℕ) (k : Kind) (m : Message) (out : List ℕ) → Sized m → write_refusal n sizes k m (length out) ≡ 0
-    → parse_of n sizes (take message_size (packet_into n sizes k m out)) ≡ record { answer = Good k; message = m }
-parse_written n sizes k m out z e =
-    let a : Writable n sizes k m (length out) = writable n sizes k m (length out) e in
-    let g : take message_size (packet_into n sizes k m out) ≡ encode k m = ap (λ (l : List ℕ). take message_size l) (write_done n sizes k m out e) ∙ take_at (encode k m) (drop (0 + length (encode k m)) out) message_size (length_encode k m z) in
-    rw (g, receiver_of_encode k m z) (parse_encode n sizes k m a.shape a.address a.formed z)
 
 -- ------------------------------------------------------------------------------------------------------------------
 -- Accepted bytes, read and written.
@@ -341,17 +333,6 @@ unfolding unpack_of
 unpack_parsed n sizes own s k e =
     let a : ParsedGood n sizes own s k = parsed_good n sizes own s k e in
     rw (eq-eqb (length s) message_size (check_length s a.check), a.kind) (sym a.whole)
-
--- so writing them again, into any buffer that is long enough, is accepted and leaves the same bytes in front of what was there
-pub writes_again : (n : ℕ) (sizes : List ℕ) (own : ℕ) (s : List ℕ) (k : Kind) → AllBytes s → (parse_for n sizes own s).answer ≡ Good k → (out : List ℕ) → message_size ≤ length out
-    → (write_refusal n sizes k (parse_for n sizes own s).message (length out) ≡ 0) × (packet_into n sizes k (parse_for n sizes own s).message out ≡ s ++ drop message_size out)
-writes_again n sizes own s k b e out h =
-    let a : ParsedGood n sizes own s k = parsed_good n sizes own s k e in
-    let l : length s ≡ message_size = check_length s a.check in
-    let m : Message = (parse_for n sizes own s).message in
-    let f : m ≡ message_in s = ap (λ (p : Parsed). p.message) a.whole in
-    let w : write_refusal n sizes k m (length out) ≡ 0 = writable_by n sizes k m (length out) record { shape = a.shape; address = rw f a.address; formed = rw f a.formed; fits = h } in
-    (w, write_done n sizes k m out w ∙ rw (encode_parse n sizes own s k b e, l))
 
 -- so no two of them read alike
 pub parse_injective : (n : ℕ) (sizes : List ℕ) (own : ℕ) (s t : List ℕ) (k : Kind) → AllBytes s → AllBytes t

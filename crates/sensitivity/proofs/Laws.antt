@@ -1,8 +1,5 @@
 -- The least totals of two tables of one shape are as far apart as the sums of lowerings and raises allow, and where one cost alone changes, the new
--- least total lies between the ends that the call gives. Every assignment of the one is one of the other, and its two totals differ by at most the
--- sums, as it uses no cost twice; so do the least ones. Where one cost changes, the sums have one term.
--- In order: sums with one term; an assignment's two totals; the same assignments; the least totals; one cost.
--- Assumes nothing.
+-- least total lies between the ends that the call gives. Assumes nothing.
 use Rattle.std.specs.Prelude.{ℕ, ◌+◌, ◌-◌, ◌≤◌, ◌≡◌, refl, Bool, true, false, cond, List, eqb}
 use Rattle.std.proofs.Common.{subst, inl, inr, arith}
 use borrow.Author.Tests.{le-leb, eqb-true}

@@ -1,5 +1,4 @@
--- How the code comes by the answer: the refusals in their order, the pieces of a stream, and what a call gives and leaves. Each by its tests. Assumes
--- nothing.
+-- What a call that is not refused gives and leaves. Assumes nothing.
 use Rattle.std.specs.Prelude.{ℕ, ◌+◌, ◌*◌, ◌-◌}
 use Rattle.std.proofs.Math.Path.{◌≡◌}
 use mathlib.Core.List.{List, [], ◌∷◌}

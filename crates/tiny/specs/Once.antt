@@ -1,5 +1,5 @@
 -- Each legal table comes once: the stream that a number gives is legal and reads as the number, and a legal stream is the one that its number
--- gives. By the digits' laws, and by taking a stream apart into n, sizes and costs. Assumes nothing.
+-- gives: so says proofs/Once.antt, of these parts. By the digits' laws, and by taking a stream apart into n, sizes and costs. Assumes nothing.
 use Prim.Native.Nat.{ℕ, zero, suc, ◌+◌, ◌*◌, ◌^◌, ◌≤◌, ◌<◌}
 use Rattle.std.specs.Prelude.{Bool, true, false, ◌||◌, ◌≡◌, eqb, take}
 use Rattle.std.proofs.lemmas.Bool.{false≢true}

@@ -1,5 +1,4 @@
--- Digits and the number that they read as are inverses. By induction on how many there are: the last digit is the remainder by 2, those before
--- it are the digits of the half. Assumes nothing.
+-- Digits and the number that they read as are inverses. Assumes nothing.
 use Rattle.std.specs.Prelude.{ℕ, zero, suc, ◌+◌, ◌*◌, ◌/◌, ◌^◌, ◌≤◌, ◌<◌, Bool, true, false, ◌≡◌, refl, ltb}
 use Rattle.std.proofs.Common.{◌∙◌, arith, ltb-true, ltb-false}
 use Rattle.tiny.specs.Binary.{digit, binary}
