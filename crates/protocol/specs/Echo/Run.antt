@@ -2,7 +2,7 @@
 use Rattle.std.specs.Prelude.{◌≡◌, ◌≢◌, ◌⊎◌, true, List, length}
 use Rattle.base.specs.Members.{In, Every}
 use Rattle.protocol.specs.Problem.{Problem}
-use Rattle.protocol.specs.Machine.{Msg, counted, Network}
+use Rattle.protocol.specs.Machine.{Msg, Network}
 use Rattle.protocol.specs.Safety.Network.{SafeNetwork}
 use Rattle.protocol.specs.Liveness.Chain.{Live}
 use Rattle.protocol.specs.Count.Tally.{Stops}
