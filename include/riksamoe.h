@@ -62,30 +62,30 @@
  *   riksamoe_start_block                512
  *   riksamoe_message_parse              768
  *   riksamoe_message_write              768
- *   riksamoe_unit_make                2,560
- *   riksamoe_unit_make_by             2,560
+ *   riksamoe_unit_make                2,816
+ *   riksamoe_unit_make_by             2,816
  *   riksamoe_unit_in_range            1,280
  *   riksamoe_unit_in_range_by         1,280
- *   riksamoe_unit_step                5,376
- *   riksamoe_unit_step_by             5,376
- *   riksamoe_unit_step_in_place       5,632
- *   riksamoe_unit_step_in_place_by    5,376
+ *   riksamoe_unit_step                5,888
+ *   riksamoe_unit_step_by             5,632
+ *   riksamoe_unit_step_in_place       6,144
+ *   riksamoe_unit_step_in_place_by    5,888
  *   riksamoe_network_make            13,312
  *   riksamoe_network_make_by         13,312
  *   riksamoe_network_deliver         40,704
  *   riksamoe_network_deliver_by      38,400
  *   riksamoe_network_echo            40,704
  *   riksamoe_network_echo_by         38,400
- *   riksamoe_network_settle         157,696
- *   riksamoe_network_settle_by      157,696
+ *   riksamoe_network_settle         161,280
+ *   riksamoe_network_settle_by      161,280
  *   riksamoe_slots_make              14,336
  *   riksamoe_slots_make_by           14,336
- *   riksamoe_slots_deliver           44,544
- *   riksamoe_slots_deliver_by        42,240
- *   riksamoe_slots_replay            44,544
- *   riksamoe_slots_replay_by         42,240
- *   riksamoe_slots_settle            37,888
- *   riksamoe_slots_settle_by         37,888
+ *   riksamoe_slots_deliver           47,616
+ *   riksamoe_slots_deliver_by        45,312
+ *   riksamoe_slots_replay            47,616
+ *   riksamoe_slots_replay_by         45,312
+ *   riksamoe_slots_settle            40,960
+ *   riksamoe_slots_settle_by         40,960
  *   riksamoe_slot_of                    256
  *   riksamoe_newer                    1,024
  *   riksamoe_newer_refusal            1,024

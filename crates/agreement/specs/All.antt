@@ -1,5 +1,5 @@
 -- Shed, full search and branch and bound give the same total of every table that the full search takes, and so of every tiny one: as many agree as
--- there are. By bench-and-shed and bench-and-slots of report/specs/Agree, of runs that have come to their end. Assumes nothing.
+-- there are. By bench_and_shed and bench_and_slots of report/specs/Agree, of runs that have come to their end. Assumes nothing.
 use Rattle.std.specs.Prelude.{ℕ, zero, suc, ◌<◌, ◌≡◌, Bool, false, cond, List, ltb, replicate}
 use Rattle.std.proofs.Math.Path.{refl, sym, ap}
 use Rattle.std.proofs.Common.{◌∙◌, arith, eq-eqb}

@@ -1,4 +1,4 @@
--- What every layer counts with: the library's symbols, 01's numbers, bytes as numbers, domain sizes in range, finite sums, tests of every index, members of a list, refusals, bytes put into a buffer, lists joined.
+-- What every layer counts with: 01's numbers, bytes as numbers, domain sizes in range, finite sums, tests of every index, members of a list, refusals, bytes put into a buffer, lists joined.
 pub mod Limits
 pub mod Bytes
 pub mod Sums

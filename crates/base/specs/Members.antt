@@ -1,4 +1,4 @@
--- Membership in a list, and what holds of every element. Membership is the library's `List-as-Memᴰ`, a place in the list and not merely its
+-- Membership in a list, and what holds of every element. Membership is the library's `Memᴰ`, a place in the list and not merely its
 -- existence, under short names. Assumes nothing.
 use Rattle.std.specs.Prelude.{List}
 pub use mathlib.Core.List.Memᴰ.{head as here}

@@ -1,7 +1,7 @@
 -- Laws of a message's bytes: how long they are, and that fields laid one after the other over zeros make them.
---     length-body, length-encode     62 and 64
+--     length_body, length_encode     62 and 64
 --     fields_laid, sum_laid          the fields laid over zeros make the body, and the checksum goes behind it
---     put-fits, put-short            into a lent buffer
+--     put-fits, put_short            into a lent buffer
 -- Assumes nothing.
 use Rattle.std.specs.Prelude.{ℕ, ◌+◌, ◌/◌, ◌%◌, ◌≤◌, ◌<◌, Bool, List, [], ◌∷◌, ◌++◌, ◌≡◌, refl, length, drop, set, replicate}
 use Rattle.std.proofs.Math.Bool.{cond}

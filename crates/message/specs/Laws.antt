@@ -1,8 +1,8 @@
 -- Laws of a message's fields: what a filled stamp or assignment holds place by place, and the parts of checks 9 and 10.
---     filled_at, filled-past, filled-by     `filled_to`, place by place
---     bound_by, bound-parts, not-none-is, no-bound-by, blank-filled     a bound with its best assignment
---     cost-by, none-by, cost-most, cost-or-none     a cost within what a kind carries
---     address-by, addressed; formed-by, formed     checks 10 and 9 from their parts, and their parts
+--     filled_at, filled_past, filled_by     `filled_to`, place by place
+--     bound_by, bound_parts, not_none_is, no_bound_by, blank-filled     a bound with its best assignment
+--     cost_by, none_by, cost-most, cost_or_none     a cost within what a kind carries
+--     address_by, addressed; formed_by, formed     checks 10 and 9 from their parts, and their parts
 -- Assumes nothing.
 use Rattle.std.specs.Prelude.{ℕ, ◌-◌, ◌≤◌, ◌<◌, ◌⊎◌, ◌≡◌, refl, Bool, true, false, cond, ◌&&◌, ◌||◌, List, ltb, leb, eqb, get_or, replicate}
 use Rattle.std.proofs.Common.{inl, inr, ⊎_elim, sym, ◌∙◌, arith, leb-true, le-leb, ltb-true, ltb-false, lt-ltb, le-ltb, eqb-true, eq-eqb, ne_eqb}

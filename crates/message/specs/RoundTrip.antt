@@ -1,10 +1,10 @@
 -- Reading and writing are inverse. A message that writing accepts reads back as itself, and accepted bytes are written again as
--- the same bytes, so reading is injective on them.
+-- the same bytes, so reading is injective on them; of the calls themselves `parse_written` and `writes_again` say so, in proofs/RoundTrip.
 --     Fields in bytes           a field laid at its place is read there, and read bytes are laid again
---     parse-encode, parse-written     a message written and read
---     ParsedGood, parsed-good   what is known of bytes that reading accepts
---     encode-parse, writes_again, parse-injective     accepted bytes read and written; unpack-parsed: read with no check
---     one-byte-refused          accepted bytes with one of them changed are refused by 8
+--     parse_encode              a message written and read
+--     ParsedGood, parsed_good   what is known of bytes that reading accepts
+--     encode_parse, parse_injective     accepted bytes read and written; unpack_parsed: read with no check
+--     one_byte_refused          accepted bytes with one of them changed are refused by 8
 --     refused-blank             beside a refusal every field is zero
 -- Assumes nothing.
 use Prim.Native.Nat.{ℕ, ◌+◌, ◌≤◌, ◌<◌}

@@ -1,14 +1,14 @@
 -- Demand 3 as one statement about a network that a run has come to. proofs/Theorem.antt proves it of every list of cells:
 --
 --     demand3     Laws P → 0 < P.n → (room : ℕ) (cells : List ℕ) → Demand3 P (run P room (make P) cells)
---     two-runs    of any two lists after which unit 1 has stopped, and any two rooms, the bounds are equal
---     counts-fit  with at most 16 units the records and the accepted deliveries are fewer than 2 ^ 128
+--     two_runs    of any two lists after which unit 1 has stopped, and any two rooms, the bounds are equal
+--     counts_fit  with at most 16 units the records and the accepted deliveries are fewer than 2 ^ 128
 --     progress    in a pool with room for n × n + n messages some cell's delivery is accepted until unit 1 stops
 --
 -- proofs/Oldest/Run.antt proves of deliveries of cell 0 alone, for a pool with room for 3 × (n × n + 3 × n) + n messages:
 --
---     oldest-accepted  each is accepted until unit 1 stops
---     oldest-ends      after as many as demand 3 allows it has stopped
+--     oldest_accepted  each is accepted until unit 1 stops
+--     oldest_ends      after as many as demand 3 allows it has stopped
 --
 -- That no prefix is written twice is said of the records themselves: Simulation/Units.antt (`Matches`).
 --

@@ -1,8 +1,8 @@
 -- "What it accepts and writes again as text reads back as the same rows." The lines of an accepted text are good (Fair); the text of good lines,
 -- scanned from a row's start, adds them to those that the sheet holds (Scan, Held, Read), line by line. Assumes nothing.
 --     round_trip    the theorem
---     lines-back    the text of any 1 to 16 good lines is accepted, and read as these
---     printed-back  and so is what `desk` prints of them, with titles before and a listing behind
+--     lines_back    the text of any 1 to 16 good lines is accepted, and read as these
+--     printed_back  and so is what `desk` prints of them, with titles before and a listing behind
 use Rattle.std.specs.Prelude.{ℕ, ◌≤◌, ◌<◌, ◌≡◌, refl, true, false, List, [], ◌∷◌, ◌++◌, ltb, eqb, length}
 use Rattle.std.proofs.Common.{ap, subst, ◌∙◌, append-nil, arith, le-ltb, length-append}
 use Rattle.std.proofs.lemmas.List.Edits.{sets}

@@ -2,7 +2,7 @@
 --     fresh, the setters `with..`          a new unit; one idea changed, the rest kept
 --     own_value, own_cost                    the own value and its costs
 --     order_of, compare_on, same_on           01: "Stamps compare from unit 1 on"
---     cpa_out_in_range .. inRange             01: "A lent state is in range when .."
+--     cpa_out_in_range .. in_range             01: "A lent state is in range when .."
 -- Places count from 0: place k of an array is unit k + 1's; numbers of units (`own`) count from 1. Assumes nothing.
 use Rattle.std.specs.Prelude.{ℕ, zero, suc, pred, ◌-◌, Bool, true, false, cond, ◌&&◌, List, [], ltb, leb, eqb, get_or, replicate}
 use Rattle.base.specs.{Limits.NONE, Limits.estimate_limit, Limits.prefix_limit, Every.every}

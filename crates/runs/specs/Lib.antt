@@ -1,4 +1,4 @@
--- A network of units. The statement: counts, the run over messages, the calls on bytes, demand 3. The pool. The proof; packets heard twice; and how the code of network does
+-- A network of units. The statement: counts, the run over messages, the calls on bytes, demand 3. The pool. What the proof in proofs/ goes by; packets heard twice; and how the code of network does
 -- what the calls say.
 pub mod Count
 pub mod Digits

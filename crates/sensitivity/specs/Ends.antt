@@ -1,5 +1,5 @@
 -- How far the least total may go when one cost changes. 02, job 12: "Make it a call that gives both ends from the old total and the change, the
--- lower end never below 0." Laws says that the new least total lies between them. Assumes nothing.
+-- lower end never below 0." proofs/Laws says that the new least total lies between them. Assumes nothing.
 use Rattle.std.specs.Prelude.{ℕ, ◌+◌, ◌-◌, ◌≤◌, ◌≡◌, Bool, cond, ◌&&◌, ◌||◌, leb, eqb}
 use Rattle.base.specs.Limits.{pair_limit, total_limit, NONE}
 use Rattle.sensitivity.specs.declared.Range.{Range}

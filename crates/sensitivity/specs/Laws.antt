@@ -1,6 +1,7 @@
 -- The least totals of two tables of one shape are as far apart as the sums of lowerings and raises allow, and where one cost alone changes, the new
 -- least total lies between the ends that the call gives. Every assignment of the one is one of the other, and its two totals differ by at most the
 -- sums, as it uses no cost twice; so do the least ones. Where one cost changes, the sums have one term.
+-- These theorems are in proofs/Laws; what they go by is here.
 -- In order: sums with one term; an assignment's two totals; the same assignments; the least totals; one cost.
 -- Assumes nothing.
 use Rattle.std.specs.Prelude.{ℕ, zero, suc, ◌+◌, ◌-◌, ◌≤◌, ◌<◌, ◌≡◌, refl, ◌≢◌, Bool, true, false, cond, ◌||◌, List, leb, eqb, get_or}

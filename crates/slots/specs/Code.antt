@@ -1,6 +1,6 @@
 -- How the pieces of the code make up making and a delivery over this pool, in the order of their code: the checks, the step, and what is placed.
 --     make-.., makeable, first-..                making
---     lent-.., cell-stops, Open, opened          the checks before a delivery (they are in Checks): a refusal, and what they have passed
+--     lent-.., cell_stops, Open, opened          the checks before a delivery (they are in Checks): a refusal, and what they have passed
 --     stray-..                                   a message that stands in a cell not its own
 --     hand-..                                    the message at a cell goes to its unit
 -- The units and counts, the step and its limits are those of runs/specs/Code. Assumes nothing.

@@ -1,7 +1,7 @@
 -- Reading and writing undo each other. Over the definitions that the contracts of `read` and `write` cite:
--- 1. what an accepted writing left in any buffer is accepted, and reads back as the stream (reads-back; accepted-back, stream-back);
--- 2. what an accepted reading left in any buffer is written again as the file, byte for byte (writes-back; file-back);
--- 3. two accepted files with one stream are equal (one-file).
+-- 1. what an accepted writing left in any buffer is accepted, and reads back as the stream (reads_back; accepted_back, stream_back);
+-- 2. what an accepted reading left in any buffer is written again as the file, byte for byte (writes_back; file_back);
+-- 3. two accepted files with one stream are equal (one_file).
 -- Each by recursion on the number of blocks, a block at a time (BlockLaws). Assumes nothing.
 use Prim.Native.Nat.{ℕ, zero, suc, ◌+◌, ◌*◌, ◌-◌, ◌/◌, ◌%◌, ◌≤◌, ◌<◌}
 use Rattle.std.proofs.Common.{arith, append-nil, ◌∙◌, length-take, length-drop, length-append, take-append-drop, take_at, drop_at, take_all, leb-true, eq-eqb, ne_eqb, le-leb}

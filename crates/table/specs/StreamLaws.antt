@@ -1,4 +1,4 @@
--- Streams: what holds of an accepted one (accepted-units, -size, -length, -unary, -cost, -most), by taking streamRefusal's tests apart.
+-- Streams: what holds of an accepted one (accepted_units, -size, -length, -unary, -cost, -most), by taking stream_refusal's tests apart.
 -- In order: a cost that passes check 7; what the first byte says; how pairs_in and costs_good grow; turns of the loops over sizes and costs; the
 -- answers of stream_refusal; an accepted stream.
 -- Assumes nothing.

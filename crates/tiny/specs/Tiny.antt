@@ -1,5 +1,5 @@
 -- The tiny tables: which they are, their order, the stream that a number gives, and what is refused. Document 02, job 13, "Every tiny shed". That
--- each of them comes once is in Once. Assumes nothing.
+-- each of them comes once is in proofs/Once. Assumes nothing.
 use Rattle.std.specs.Prelude.{ℕ, ◌^◌, ◌≤◌, ◌<◌, ◌≡◌, Bool, true, false, cond, ◌||◌, List, ◌∷◌, ◌++◌, eqb, ltb, length, replicate}
 use Rattle.base.specs.{declared.Length.Length, Bytes.le16, Join.join_to, Limits.stream_size}
 use Rattle.table.specs.{Stream.Accepted, Stream.in_form_two, Stream.units_of, Stream.sizes_of, Stream.pairs_in, StreamLaws.stream_cost, File.answer, File.leaves}

@@ -1,5 +1,5 @@
 -- Laws of costs: they add in any order, `⊑` orders them with forbidden above every number, sums keep that order and the least is the greatest
--- below all; when a cost is a number, and how large it then is; what a cost counts as. By cases on what is forbidden, then on numbers.
+-- below all (proofs/LeastOf); when a cost is a number, and how large it then is; what a cost counts as. By cases on what is forbidden, then on numbers.
 -- In order: sums; the order; the least; costs that are numbers; limits; as numbers; costs of a table.
 -- Assumes nothing.
 use Rattle.std.specs.Prelude.{◌≡◌, ℕ, zero, suc, ◌+◌, ◌-◌, ◌*◌, ◌<◌, ◌≤◌, min, Bool, true, false, cond, ◌||◌, ◌≢◌, ◌==◌, nat_le, nat_lt, refl}

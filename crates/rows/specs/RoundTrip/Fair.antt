@@ -1,8 +1,8 @@
 -- Whatever bytes come, the lines that a sheet holds are good ones (`Fair`): it holds of the blank sheet, and each byte keeps it, since a row is taken
 -- only without a fault, and bytes of its name stand behind the names of the lines. Assumes nothing.
 --     Ordered, fed-order                     a row's places among the names, after a byte
---     Fair, kept-fair .. taken-fair          what holds of a sheet, after a byte of a name, after a row
---     eaten-fair, text-fair, accepted-good   after a byte, a text, and of an accepted one
+--     Fair, kept_fair .. taken_fair          what holds of a sheet, after a byte of a name, after a row
+--     eaten_fair, text_fair, accepted_good   after a byte, a text, and of an accepted one
 use Rattle.std.specs.Prelude.{ℕ, ◌+◌, ◌-◌, ◌≤◌, ◌<◌, ◌≡◌, Bool, cond, ◌&&◌, ◌||◌, List, [], ◌∷◌, ltb, leb, eqb, length, get_or, set, drop}
 use Rattle.std.proofs.Math.Path.{refl}
 use Rattle.std.proofs.Common.{sym, ap, subst, ◌∙◌, arith, ltb-true, leb-false, eqb-true, length-drop, length-take-le}

@@ -1,7 +1,7 @@
 -- Good lines read from their text: at a row's start (`Ready`) a line's text leads to a row's start again, with that line behind the others; then
 -- lines, one after another; and what may come behind them, nothing or a listing. Assumes nothing.
---     Ready, line-ready, Reads, lines-read    lines
---     Ends, ends-here, ends-listing           what comes behind them
+--     Ready, line_ready, Reads, lines_read    lines
+--     Ends, ends_here, ends_listing           what comes behind them
 use Rattle.std.specs.Prelude.{ℕ, ◌+◌, ◌-◌, ◌≤◌, ◌<◌, ◌≡◌, refl, Bool, true, false, cond, not, ◌&&◌, List, [], ◌∷◌, ◌++◌, eqb, length, set, take, drop}
 use Rattle.std.proofs.Common.{sym, ap, subst, ◌∙◌, append_assoc, append-nil, arith, ne_eqb, length-append, length-take-le, take_at, drop_at}
 use Rattle.std.proofs.lemmas.Bool.{false≢true}

@@ -1,10 +1,10 @@
 -- The text of a line of wool, read byte by byte: from a row's start it leads to the sheet with that line in it, and its name among the names.
 -- A text leads from one sheet to another, whatever comes behind it (`Leads`); so pieces join, and each byte is one turn of `eaten` and `kept`. Assumes nothing.
---     Leads, leads-join, byte-leads       texts that lead from sheet to sheet; one byte
---     sort-small .. quoted-next           sorts of the bytes of a line's text, and which phase comes next
+--     Leads, leads_join, byte_leads       texts that lead from sheet to sheet; one byte
+--     sort_small .. quoted-next           sorts of the bytes of a line's text, and which phase comes next
 --     named, counted, bare-fed ..         rows in a name and behind it, and these after a byte
---     row_of, row-sound                    the whole row has no fault
---     name-leads, micron-leads, lots-leads, feed-leads, line-leads    the pieces of a line's text, and the whole
+--     row_of, row_sound                    the whole row has no fault
+--     name_leads, micron_leads, lots_leads, feed_leads, line_leads    the pieces of a line's text, and the whole
 use Prim.Native.Nat.{ℕ, ◌+◌, ◌*◌, ◌-◌, ◌/◌, ◌%◌, ◌≤◌, ◌<◌}
 use Rattle.std.specs.Prelude.{◌≡◌, Bool, cond, not, ◌&&◌, ◌||◌, ltb, leb, set}
 use Rattle.std.proofs.Math.Path.{refl, subst}

@@ -1,4 +1,4 @@
--- A state in range, as facts: what 01's long sentence says of each part, from the tests of `inRange` and back.
+-- A state in range, as facts: what 01's long sentence says of each part, from the tests of `in_range` and back.
 -- Each test is taken apart or put together once, here. Assumes nothing.
 use Rattle.std.specs.Prelude.{ℕ, suc, ◌+◌, ◌-◌, ◌≤◌, ◌<◌, ◌≡◌, refl, Bool, ◌&&◌, List, length, get_or}
 use Rattle.std.proofs.Math.Bool.{true, false, cond}

@@ -1,7 +1,7 @@
 -- What the newer of two is, for readers: one of the two lent buffers, whole; the first on a tie; without one the same whichever comes first.
---     Pair, read-pair                              what is known of two that are not refused
---     one_of_two, whole-message, refused-neither   what is handed back
---     Tied, first-on-a-tie, either_way             which one
+--     Pair, read_pair                              what is known of two that are not refused
+--     one_of_two, whole_message, refused_neither   what is handed back
+--     Tied, first_on_a_tie, either_way             which one
 --     one_cell                                     two messages of one cell are never refused
 -- Assumes nothing.
 use Rattle.std.specs.Prelude.{◌≡◌, ℕ, zero, suc, Bool, true, false, cond, ◌&&◌, ◌⊎◌, List, [], length, ◌==◌, ◌≢◌, nat_lt, slice_index}

@@ -1,11 +1,11 @@
 -- The numbering is one to one between the triples that the rules allow and the cells that n units use, in 02's order.
---     twice-triangle, triangle-next, triangle-mono, triangle-row     the pairs of m units
---     Units, slot_if_allowed, Allowed, fields-allowed, read-allowed     what the tests say, and that a message that reads is allowed
---     slot-used                             an allowed triple's cell is one of those used
---     Before, slot-order                    02: "ordered by kind, sender, receiver"
+--     twice-triangle, triangle-next, triangle_mono, triangle-row     the pairs of m units
+--     Units, slot_if_allowed, Allowed, fields_allowed, read_allowed     what the tests say, and that a message that reads is allowed
+--     slot_used                             an allowed triple's cell is one of those used
+--     Before, slot_order                    02: "ordered by kind, sender, receiver"
 --     slot_apart                            no two share a cell
---     slot-each                             each of those used is a triple's
---     three-hundred, used-fits, slot-bytes  02: "300 cells for 16 units", "The pool is 19,200 bytes"
+--     slot_each                             each of those used is a triple's
+--     three_hundred, used_fits, slot_bytes_lem  02: "300 cells for 16 units", "The pool is 19,200 bytes"
 -- Assumes nothing.
 use Rattle.std.specs.Prelude.{◌≡◌, ℕ, zero, suc, ◌+◌, ◌-◌, ◌*◌, ◌/◌, ◌<◌, ◌≤◌, Bool, true, false, cond, ◌&&◌, ◌||◌, ◌≢◌, ◌⊎◌, List, ◌==◌, nat_lt}
 use Rattle.std.specs.Prelude.{refl}

@@ -1,11 +1,11 @@
 -- Converting a stored table loses nothing: there and back gives the first file's bytes, a file already in the form wanted stays as it is, and the
 -- converted file reads back as the stream in the other form. By the parts of a stream (Form/Parts), and RoundTrip for the blocks.
 -- Over the definitions that the contract of `convert` cites, in order:
--- 1. an accepted stream in the other form is accepted, with the same n, sizes and pair costs (accepted-in, same_shape, in-form);
--- 2. the two conversions of a stream undo each other (one-and-back, two-and-back);
--- 3. a file already in the form wanted (already-there);
--- 4. there and back (there_and_back, and of what the calls leave in buffers, converts-back);
--- 5. the converted file is accepted, and reads back (converted-accepted, converted-reads).
+-- 1. an accepted stream in the other form is accepted, with the same n, sizes and pair costs (accepted_in_lem, same_shape, in_form_lem);
+-- 2. the two conversions of a stream undo each other (one_and_back, two_and_back);
+-- 3. a file already in the form wanted (already_there);
+-- 4. there and back (there_and_back, and of what the calls leave in buffers, converts_back);
+-- 5. the converted file is accepted, and reads back (converted-accepted, converted_reads).
 -- Assumes nothing.
 use Rattle.std.specs.Prelude.{ℕ, ◌*◌, ◌≤◌, ◌<◌, Bool, true, false, cond, List, ◌++◌, ◌≡◌, ltb, eqb, length, take, drop, replicate}
 use Rattle.std.proofs.Common.{arith, ap, ◌∙◌}
