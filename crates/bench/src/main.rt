@@ -13,7 +13,7 @@ const STDIN_FILENO: i32 = 0;
 const STDERR_FILENO: i32 = 2;
 
 fn main(rt: HostRuntime) {
-    if is_arg(&rt, 2) {
+    if inputs::is_arg(&rt, 2) {
         usage();
         return;
     }
@@ -30,15 +30,6 @@ fn word(rt: &impl Env, buf: &mut [u8]) -> usize
         Ok(n) => n,
         Err(FillError::TooLong) => buf.len(),
         Err(FillError::NotPresent) => 0,
-    }
-}
-
-// Whether there is an argument i.
-fn is_arg(rt: &impl Env, i: usize) -> bool {
-    let mut text = [0u8; 1];
-    match rt.arg(i, &mut text) {
-        Err(FillError::NotPresent) => false,
-        _ => true,
     }
 }
 

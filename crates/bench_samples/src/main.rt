@@ -8,8 +8,6 @@ use std::rt::Files;
 
 const STDOUT_FILENO: i32 = 1;
 
-const STDERR_FILENO: i32 = 2;
-
 fn main(rt: HostRuntime) {
     exhaustive(&rt);
     bound(&rt);
@@ -65,7 +63,7 @@ fn bound(rt: &(impl Files<File = File> + Eprint)) {
 
 fn show(rt: &(impl Files<File = File> + Eprint), bounded: bool, name: &str) {
     let mut file = [0u8; FILE_ROOM];
-    let Some(input) = open(rt, name) else {
+    let Some(input) = inputs::open(rt, name) else {
         return;
     };
     let n = io::read_full(input.as_raw_fd(), &mut file);
@@ -76,17 +74,4 @@ fn show(rt: &(impl Files<File = File> + Eprint), bounded: bool, name: &str) {
         return;
     }
     report::print_search(&file[..n]);
-}
-
-// The named file, open for reading; where it can't be opened, its name and why are told on standard error.
-fn open(rt: &(impl Files<File = File> + Eprint), name: &str) -> Option<File> {
-    match File::open(rt, name) {
-        Ok(file) => Some(file),
-        Err(error) => {
-            io::write_all(STDERR_FILENO, name.as_bytes());
-            io::write_all(STDERR_FILENO, b": ");
-            let _ = rt.eprintln(error);
-            None
-        }
-    }
 }

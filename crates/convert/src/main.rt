@@ -5,7 +5,6 @@
 ghost use Rattle.std.specs.Prelude.{◌≤◌, length};
 
 use base::{FILE_ROOM, FILE_SIZE};
-use std::env::Env;
 use table::Form;
 
 const STDIN_FILENO: i32 = 0;
@@ -16,7 +15,7 @@ const STDERR_FILENO: i32 = 2;
 
 fn main(rt: HostRuntime) {
     let mut word = [0u8; 4];
-    let n = arg(&rt, 1, &mut word);
+    let n = inputs::arg(&rt, 1, &mut word);
     if check::same(&word[..n], b"one") {
         write_converted(Form::One);
         return;
@@ -26,16 +25,6 @@ fn main(rt: HostRuntime) {
         return;
     }
     io::write_all(STDERR_FILENO, b"convert: say one or two, the form wanted\n");
-}
-
-// Argument i at the start of buf; nothing where there is none, or it is longer.
-fn arg(rt: &impl Env, i: usize, buf: &mut [u8]) -> usize
-    ensures { result ≤ length buf.new }
-{
-    match rt.arg(i, buf) {
-        Ok(n) => n,
-        Err(_) => 0,
-    }
 }
 
 // The table on standard input, in that form.

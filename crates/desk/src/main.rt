@@ -38,7 +38,7 @@ fn main(rt: HostRuntime) {
     };
     let one = with_word(&rt, none, 1);
     let two = with_word(&rt, one, 2);
-    if is_arg(&rt, 3) {
+    if inputs::is_arg(&rt, 3) {
         usage(STDERR_FILENO);
         return;
     }
@@ -60,15 +60,6 @@ fn word(rt: &impl Env, k: usize, buf: &mut [u8]) -> usize
         Ok(n) => n,
         Err(FillError::TooLong) => buf.len(),
         Err(FillError::NotPresent) => 0,
-    }
-}
-
-// Whether there is an argument i.
-fn is_arg(rt: &impl Env, i: usize) -> bool {
-    let mut text = [0u8; 1];
-    match rt.arg(i, &mut text) {
-        Err(FillError::NotPresent) => false,
-        _ => true,
     }
 }
 

@@ -13,8 +13,6 @@ use std::rt::Files;
 
 const STDOUT_FILENO: i32 = 1;
 
-const STDERR_FILENO: i32 = 2;
-
 // The most turns of a run, each with a delivery and an echo.
 const TURNS: usize = 10000;
 // How many packets are kept, the last ones delivered.
@@ -36,24 +34,11 @@ fn main(rt: HostRuntime) {
 // The runs of the stored table with this name.
 fn show(rt: &(impl Files<File = File> + Eprint), name: &str) {
     let mut file = [0u8; FILE_ROOM];
-    let Some(input) = open(rt, name) else {
+    let Some(input) = inputs::open(rt, name) else {
         return;
     };
     let n = io::read_full(input.as_raw_fd(), &mut file);
     show_table(name.as_bytes(), &file[..n]);
-}
-
-// The named file, open for reading; where it can't be opened, its name and why are told on standard error.
-fn open(rt: &(impl Files<File = File> + Eprint), name: &str) -> Option<File> {
-    match File::open(rt, name) {
-        Ok(file) => Some(file),
-        Err(error) => {
-            io::write_all(STDERR_FILENO, name.as_bytes());
-            io::write_all(STDERR_FILENO, b": ");
-            let _ = rt.eprintln(error);
-            None
-        }
-    }
 }
 
 fn show_table(name: &[u8], file: &[u8]) {

@@ -11,31 +11,16 @@ use std::rt::Files;
 
 const STDOUT_FILENO: i32 = 1;
 
-const STDERR_FILENO: i32 = 2;
-
 // 4 units' domain sizes.
 const SIZES: [u8; 16] = [2, 3, 4, 5, 0, 0, 0, 0, 0, 0, 0, 0, 0, 0, 0, 0];
 
 fn main(rt: HostRuntime) {
     let mut file = [0u8; 16384];
-    let Some(input) = open(&rt, "packets") else {
+    let Some(input) = inputs::open(&rt, "packets") else {
         return;
     };
     let n = io::read_full(input.as_raw_fd(), &mut file);
     show_all(&file[..n]);
-}
-
-// The named file, open for reading; where it can't be opened, its name and why are told on standard error.
-fn open(rt: &(impl Files<File = File> + Eprint), name: &str) -> Option<File> {
-    match File::open(rt, name) {
-        Ok(file) => Some(file),
-        Err(error) => {
-            io::write_all(STDERR_FILENO, name.as_bytes());
-            io::write_all(STDERR_FILENO, b": ");
-            let _ = rt.eprintln(error);
-            None
-        }
-    }
 }
 
 // Each record, one to a line.

@@ -9,8 +9,6 @@ use std::rt::Files;
 
 const STDOUT_FILENO: i32 = 1;
 
-const STDERR_FILENO: i32 = 2;
-
 fn main(rt: HostRuntime) {
     // two lines of one lot: gaps of -20, -19, -1, 0, 1, 19 and 20
     pair(&rt, 200, 180);
@@ -130,25 +128,12 @@ fn tell(made: Length, stream: &[u8]) {
 // Whether these are the bytes of the sample table.
 fn compare(rt: &(impl Files<File = File> + Eprint), file: &[u8]) {
     let mut sample = [0u8; FILE_ROOM];
-    let Some(input) = open(rt, "readings-sixteen.table") else {
+    let Some(input) = inputs::open(rt, "readings-sixteen.table") else {
         return;
     };
     let n = io::read_full(input.as_raw_fd(), &mut sample);
     if check::same(front(&sample, n), file) {
         io::write_all(STDOUT_FILENO, b"the sample table\n");
-    }
-}
-
-// The named file, open for reading; where it can't be opened, its name and why are told on standard error.
-fn open(rt: &(impl Files<File = File> + Eprint), name: &str) -> Option<File> {
-    match File::open(rt, name) {
-        Ok(file) => Some(file),
-        Err(error) => {
-            io::write_all(STDERR_FILENO, name.as_bytes());
-            io::write_all(STDERR_FILENO, b": ");
-            let _ = rt.eprintln(error);
-            None
-        }
     }
 }
 

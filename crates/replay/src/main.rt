@@ -9,9 +9,8 @@ ghost use Rattle.std.specs.Prelude.{◌≤◌, length};
 use base::FILE_ROOM;
 use costs::ValueOrder;
 use slots::Core;
-use std::env::{Env, FillError};
+use std::env::Env;
 use std::fs::File;
-use std::io::{Error, ErrorKind};
 use std::os::fd::AsRawFd;
 use std::rt::Files;
 
@@ -47,7 +46,7 @@ struct Ended {
 }
 
 fn main(rt: HostRuntime) {
-    let count = arg_count(&rt);
+    let count = inputs::arg_count(&rt);
     if count < 4 {
         usage();
         return;
@@ -69,16 +68,16 @@ fn show(rt: &(impl Files<File = File> + Env + Eprint), i: usize)
     requires { i ≤ 18446744073709551613 }
 {
     let mut word = [0u8; 10];
-    let n = arg(rt, i, &mut word);
+    let n = inputs::arg(rt, i, &mut word);
     let named = order_named(&word[..n]);
     let Named::Order(order) = named else {
         usage();
         return;
     };
     let mut table = io::buffer();
-    let n = arg(rt, i + 1, &mut table);
+    let n = inputs::arg(rt, i + 1, &mut table);
     let mut list = io::buffer();
-    let m = arg(rt, i + 2, &mut list);
+    let m = inputs::arg(rt, i + 2, &mut list);
     show_files(rt, order, &table[..n], &list[..m]);
 }
 
@@ -107,7 +106,7 @@ fn show_files(
         refuse(22);
         return;
     }
-    let Some(input) = open(rt, table) else {
+    let Some(input) = inputs::open_named(rt, table) else {
         return;
     };
     let mut file = [0u8; FILE_ROOM];
@@ -117,7 +116,7 @@ fn show_files(
 
 // How many bytes the file has.
 fn measure(rt: &(impl Files<File = File> + Eprint), name: &[u8]) -> Measured {
-    let Some(input) = open(rt, name) else {
+    let Some(input) = inputs::open_named(rt, name) else {
         return Measured::Unread;
     };
     let fd = input.as_raw_fd();
@@ -167,7 +166,7 @@ fn show_stream(
         refuse(refusal);
         return;
     }
-    let Some(input) = open(rt, list) else {
+    let Some(input) = inputs::open_named(rt, list) else {
         return;
     };
     let begun = made.core;
@@ -244,56 +243,4 @@ fn usage() {
         STDERR_FILENO,
         b"replay: for each run say ascending or cheapest, the order of values, then the file of its table, then that of its cells\n",
     );
-}
-
-// ---- arguments and files
-
-// How many arguments there are, the program's name with them.
-fn arg_count(rt: &impl Env) -> usize {
-    for i in 0..usize::MAX {
-        if !is_arg(rt, i) {
-            return i;
-        }
-    }
-    usize::MAX
-}
-
-// Whether there is an argument i.
-fn is_arg(rt: &impl Env, i: usize) -> bool {
-    let mut text = [0u8; 1];
-    match rt.arg(i, &mut text) {
-        Err(FillError::NotPresent) => false,
-        _ => true,
-    }
-}
-
-// Argument i at the start of buf; nothing where there is none, or it is longer.
-fn arg(rt: &impl Env, i: usize, buf: &mut [u8]) -> usize
-    ensures { result ≤ length buf.new }
-{
-    match rt.arg(i, buf) {
-        Ok(n) => n,
-        Err(_) => 0,
-    }
-}
-
-// The named file, open for reading; where it can't be opened, its name and why are told on standard error.
-fn open(rt: &(impl Files<File = File> + Eprint), name: &[u8]) -> Option<File> {
-    match open_text(rt, name) {
-        Ok(file) => Some(file),
-        Err(error) => {
-            io::write_all(STDERR_FILENO, name);
-            io::write_all(STDERR_FILENO, b": ");
-            let _ = rt.eprintln(error);
-            None
-        }
-    }
-}
-
-// The same; a file's name is text.
-fn open_text(rt: &impl Files<File = File>, name: &[u8]) -> Result<File, Error> {
-    match std::str::from_utf8(name) {
-        Ok(path) => File::open(rt, path),
-        Err(_) => Err(Error::from(ErrorKind::InvalidInput)),
-    }
 }

@@ -7,9 +7,8 @@
 ghost use Rattle.std.specs.Prelude.{◌+◌, ◌≤◌, ◌<◌, ◌≡◌, length};
 
 use base::{FILE_ROOM, FILE_SIZE};
-use std::env::{Env, FillError};
+use std::env::Env;
 use std::fs::File;
-use std::io::{Error, ErrorKind};
 use std::os::fd::AsRawFd;
 use std::rt::Files;
 use table::Form;
@@ -34,7 +33,7 @@ struct Asked {
 }
 
 fn main(rt: HostRuntime) {
-    let count = arg_count(&rt);
+    let count = inputs::arg_count(&rt);
     if count < 2 {
         usage();
         return;
@@ -143,7 +142,7 @@ fn is_word(rt: &impl Env, i: usize, word: &[u8]) -> bool {
 // Argument i as a decimal number.
 fn number(rt: &impl Env, i: usize) -> u32 {
     let mut text = [0u8; 10];
-    let n = arg(rt, i, &mut text);
+    let n = inputs::arg(rt, i, &mut text);
     if n == 0 {
         return NO_NUMBER;
     }
@@ -178,8 +177,8 @@ fn with_digit(sum: u32, digit: u8) -> u32 {
 // Of the table in the file that argument i names.
 fn show_named(rt: &(impl Files<File = File> + Env + Eprint), i: usize, asked: Asked) {
     let mut name = io::buffer();
-    let n = arg(rt, i, &mut name);
-    let Some(input) = open(rt, &name[..n]) else {
+    let n = inputs::arg(rt, i, &mut name);
+    let Some(input) = inputs::open_named(rt, &name[..n]) else {
         return;
     };
     show_file(input.as_raw_fd(), asked);
@@ -294,56 +293,4 @@ fn usage() {
         STDERR_FILENO,
         b"retest: say own UNIT VALUE NEW, or pair UNIT VALUE UNIT VALUE NEW; before it, unless the table is standard input, table FILE\n",
     );
-}
-
-// ---- arguments and files
-
-// How many arguments there are, the program's name with them.
-fn arg_count(rt: &impl Env) -> usize {
-    for i in 0..usize::MAX {
-        if !is_arg(rt, i) {
-            return i;
-        }
-    }
-    usize::MAX
-}
-
-// Whether there is an argument i.
-fn is_arg(rt: &impl Env, i: usize) -> bool {
-    let mut text = [0u8; 1];
-    match rt.arg(i, &mut text) {
-        Err(FillError::NotPresent) => false,
-        _ => true,
-    }
-}
-
-// Argument i at the start of buf; nothing where there is none, or it is longer.
-fn arg(rt: &impl Env, i: usize, buf: &mut [u8]) -> usize
-    ensures { result ≤ length buf.new }
-{
-    match rt.arg(i, buf) {
-        Ok(n) => n,
-        Err(_) => 0,
-    }
-}
-
-// The named file, open for reading; where it can't be opened, its name and why are told on standard error.
-fn open(rt: &(impl Files<File = File> + Eprint), name: &[u8]) -> Option<File> {
-    match open_text(rt, name) {
-        Ok(file) => Some(file),
-        Err(error) => {
-            io::write_all(STDERR_FILENO, name);
-            io::write_all(STDERR_FILENO, b": ");
-            let _ = rt.eprintln(error);
-            None
-        }
-    }
-}
-
-// The same; a file's name is text.
-fn open_text(rt: &impl Files<File = File>, name: &[u8]) -> Result<File, Error> {
-    match std::str::from_utf8(name) {
-        Ok(path) => File::open(rt, path),
-        Err(_) => Err(Error::from(ErrorKind::InvalidInput)),
-    }
 }

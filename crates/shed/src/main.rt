@@ -15,7 +15,7 @@ const STDIN_FILENO: i32 = 0;
 const STDERR_FILENO: i32 = 2;
 
 fn main(rt: HostRuntime) {
-    if is_arg(&rt, 3) {
+    if inputs::is_arg(&rt, 3) {
         usage();
         return;
     }
@@ -34,15 +34,6 @@ fn word(rt: &impl Env, i: usize, buf: &mut [u8]) -> usize
         Ok(n) => n,
         Err(FillError::TooLong) => buf.len(),
         Err(FillError::NotPresent) => 0,
-    }
-}
-
-// Whether there is an argument i.
-fn is_arg(rt: &impl Env, i: usize) -> bool {
-    let mut text = [0u8; 1];
-    match rt.arg(i, &mut text) {
-        Err(FillError::NotPresent) => false,
-        _ => true,
     }
 }
 

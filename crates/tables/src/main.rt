@@ -10,8 +10,6 @@ use table::Form;
 
 const STDOUT_FILENO: i32 = 1;
 
-const STDERR_FILENO: i32 = 2;
-
 fn main(rt: HostRuntime) {
     accepted(&rt);
     refused(&rt);
@@ -175,23 +173,10 @@ fn show_length(done: Length, out: &[u8]) {
 
 // The named file's bytes, and how many they are.
 fn load(rt: &(impl Files<File = File> + Eprint), name: &str, file: &mut [u8]) -> usize {
-    let Some(input) = open(rt, name) else {
+    let Some(input) = inputs::open(rt, name) else {
         return 0;
     };
     io::read_full(input.as_raw_fd(), file)
-}
-
-// The named file, open for reading; where it can't be opened, its name and why are told on standard error.
-fn open(rt: &(impl Files<File = File> + Eprint), name: &str) -> Option<File> {
-    match File::open(rt, name) {
-        Ok(file) => Some(file),
-        Err(error) => {
-            io::write_all(STDERR_FILENO, name.as_bytes());
-            io::write_all(STDERR_FILENO, b": ");
-            let _ = rt.eprintln(error);
-            None
-        }
-    }
 }
 
 // The first n bytes, or all that there are.

@@ -17,28 +17,13 @@ use unit::{Outcome, Unit, ValueOrder};
 
 const STDOUT_FILENO: i32 = 1;
 
-const STDERR_FILENO: i32 = 2;
-
 fn main(rt: HostRuntime) {
     let mut file = [0u8; 20480];
-    let Some(input) = open(&rt, "steps") else {
+    let Some(input) = inputs::open(&rt, "steps") else {
         return;
     };
     let n = io::read_full(input.as_raw_fd(), &mut file);
     run(&file[..n]);
-}
-
-// The named file, open for reading; where it can't be opened, its name and why are told on standard error.
-fn open(rt: &(impl Files<File = File> + Eprint), name: &str) -> Option<File> {
-    match File::open(rt, name) {
-        Ok(file) => Some(file),
-        Err(error) => {
-            io::write_all(STDERR_FILENO, name.as_bytes());
-            io::write_all(STDERR_FILENO, b": ");
-            let _ = rt.eprintln(error);
-            None
-        }
-    }
 }
 
 // Each record, from the state that the one before left.
