@@ -1,6 +1,6 @@
 -- Whether shed and bench total the same of a table, and of how many tiny tables. Document 02, job 13: "Each goes through shed, full search and branch
 -- and bound, and the three totals agree; a program prints how many did". That all do is in All. Assumes nothing.
-use Rattle.std.specs.Prelude.{ℕ, Bool, cond, ◌&&◌, List, eqb, replicate}
+use Rattle.std.specs.Prelude.{ℕ, Bool, false, cond, ◌&&◌, List, eqb, replicate, Option, Some, None}
 use Rattle.base.specs.{Limits.pool_size, Sums.sum_to}
 use Rattle.costs.specs.declared.ValueOrder.{ValueOrder}
 use Rattle.search.specs.{declared.Found.Found, Search.search_of, Search.branch_and_bound_of}
@@ -11,33 +11,37 @@ use Rattle.slots.specs.Settle as S
 use Rattle.tiny.specs.Tiny.{tables_of, tiny_stream}
 use Rattle.agreement.specs.declared.Pool.{Pool}
 use Rattle.agreement.specs.declared.Pool.TheVariants.{Messages, Slots}
-use Rattle.agreement.specs.declared.Total.{Total}
 
--- ---- what each totals: its refusal, or 0 and the total
+-- ---- what each totals: none where it refuses
 
-abbrev pub first_total : ℕ → Core → Total
-first_total refusal core = record { refusal = refusal; total = (unit_at core.units 0).bound }
+abbrev pub unless_refused : ℕ → ℕ → Option ℕ
+unless_refused refusal total = cond (eqb refusal 0) (Some total) None
+
+abbrev pub first_total : ℕ → Core → Option ℕ
+first_total refusal core = unless_refused refusal (unit_at core.units 0).bound
 
 -- of a shed, what box 1 holds at the end of the run, in a pool of zeros
-unfoldable pub messages_total : ValueOrder → List ℕ → Total
+unfoldable pub messages_total : ValueOrder → List ℕ → Option ℕ
 messages_total order s = let r = (settle_of order s (replicate pool_size 0)).answer in first_total r.refusal r.network.core
 
-unfoldable pub slots_total : ValueOrder → List ℕ → Total
+unfoldable pub slots_total : ValueOrder → List ℕ → Option ℕ
 slots_total order s = let r = (S.settle_of order s (replicate slot_pool_size 0)).answer in first_total r.refusal r.core
 
-abbrev pub shed_total : Pool → ValueOrder → List ℕ → Total
+abbrev pub shed_total : Pool → ValueOrder → List ℕ → Option ℕ
 shed_total Messages order s = messages_total order s
 shed_total Slots order s = slots_total order s
 
 -- of a search
-abbrev pub found_total : Found → Total
-found_total f = record { refusal = f.refusal; total = f.total }
+abbrev pub found_total : Found → Option ℕ
+found_total f = unless_refused f.refusal f.total
 
 -- ---- that they agree
 
 -- neither is refused, and the totals are the same
-abbrev pub same_total : Total → Total → Bool
-same_total a b = eqb a.refusal 0 && (eqb b.refusal 0 && eqb a.total b.total)
+abbrev pub same_total : Option ℕ → Option ℕ → Bool
+same_total (Some a) (Some b) = eqb a b
+same_total (Some a) None = false
+same_total None b = false
 
 -- 02: "the three totals agree"
 unfoldable pub agree_of : Pool → ValueOrder → List ℕ → Bool

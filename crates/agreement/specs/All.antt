@@ -1,6 +1,6 @@
 -- Shed, full search and branch and bound give the same total of every table that the full search takes, and so of every tiny one: as many agree as
 -- there are. By bench_and_shed and bench_and_slots of report/specs/Agree, of runs that have come to their end. Assumes nothing.
-use Rattle.std.specs.Prelude.{ℕ, zero, suc, ◌<◌, ◌≡◌, Bool, false, cond, List, ltb, replicate}
+use Rattle.std.specs.Prelude.{ℕ, zero, suc, ◌<◌, ◌≡◌, Bool, false, cond, List, ltb, replicate, Some}
 use Rattle.std.proofs.Math.Path.{refl, sym, ap}
 use Rattle.std.proofs.Common.{◌∙◌, arith, eq-eqb}
 use Rattle.std.proofs.Math.Bool.{true}
@@ -12,6 +12,7 @@ use Rattle.costs.specs.declared.ValueOrder.{ValueOrder}
 use Rattle.costs.specs.Instance.{instance_of}
 use Rattle.search.specs.Search.{assignment_count, search_refusal, search_of, branch_and_bound_of}
 use Rattle.search.specs.Laws.{searched, search_refusal_lem, bounded_is_search}
+use Rattle.rules.specs.Units.{unit_at}
 use Rattle.runs.specs.Demand3.{Made, over, shed_of, report_of}
 use Rattle.runs.specs.Settle.{settle_of, unless_unmade}
 use Rattle.runs.proofs.Settle.Laws.{settle_ends}
@@ -27,11 +28,10 @@ use Rattle.tiny.specs.Once.{two_or_three, none_of_another}
 use Rattle.tiny.proofs.Once.{each_once}
 use Rattle.agreement.specs.declared.Pool.{Pool}
 use Rattle.agreement.specs.declared.Pool.TheVariants.{Messages, Slots}
-use Rattle.agreement.specs.declared.Total.{Total}
-use Rattle.agreement.specs.Agreement.{messages_total, slots_total, shed_total, found_total, same_total, agree_of, agreeing_of}
+use Rattle.agreement.specs.Agreement.{unless_refused, messages_total, slots_total, shed_total, found_total, agree_of, agreeing_of}
 
-same_by : (a b : Total) → a.refusal ≡ 0 → b.refusal ≡ 0 → a.total ≡ b.total → same_total a b ≡ true
-same_by a b e f g = simp (eq-eqb a.refusal 0 e, eq-eqb b.refusal 0 f, eq-eqb a.total b.total g)
+total_by : (refusal total m : ℕ) → refusal ≡ 0 → total ≡ m → unless_refused refusal total ≡ Some m
+total_by refusal total m e f = rw (e, f)
 
 -- ---- a table that the full search takes
 
@@ -43,46 +43,48 @@ module _ (order : ValueOrder) (s : List ℕ) (taken : search_refusal s ≡ 0) wh
   made : Made order s (replicate pool_size 0)
   made = accepted-made order s (replicate pool_size 0) ok (omega (arith, length-replicate {A = ℕ} pool_size 0))
 
-  messages_refusal : (messages_total order s).refusal ≡ 0
+  messages_totals : messages_total order s ≡ Some (branch_and_bound_of s).total
   unfolding messages_total settle_of
-  messages_refusal = ap (λ r. (unless_unmade order r s (replicate pool_size 0)).answer.refusal) made
-
-  messages_total_lem : (messages_total order s).total ≡ (branch_and_bound_of s).total
-  unfolding messages_total settle_of
-  messages_total_lem =
-      ap (λ r. (report_of (shed_of (unless_unmade order r s (replicate pool_size 0)))).total) made
-      ∙ sym (bench_and_shed s ok (branch_and_bound_of s) refl order (replicate pool_size 0) made _ (sym (ap (λ r. over (shed_of (unless_unmade order r s (replicate pool_size 0)))) made) ∙ settle_ends order s (replicate pool_size 0) made))
+  messages_totals =
+      let r = (settle_of order s (replicate pool_size 0)).answer in
+      total_by r.refusal (unit_at r.network.core.units 0).bound (branch_and_bound_of s).total
+      (ap (λ r. (unless_unmade order r s (replicate pool_size 0)).answer.refusal) made)
+      (ap (λ r. (report_of (shed_of (unless_unmade order r s (replicate pool_size 0)))).total) made
+      ∙ sym (bench_and_shed s ok (branch_and_bound_of s) refl order (replicate pool_size 0) made _ (sym (ap (λ r. over (shed_of (unless_unmade order r s (replicate pool_size 0)))) made) ∙ settle_ends order s (replicate pool_size 0) made)))
 
   -- over 02's
   slots-made : SD.Made order s (replicate slot_pool_size 0)
   slots-made = SM.accepted-made order s (replicate slot_pool_size 0) ok (omega (arith, length-replicate {A = ℕ} slot_pool_size 0))
 
-  slots_refusal_lem : (slots_total order s).refusal ≡ 0
+  slots_totals : slots_total order s ≡ Some (branch_and_bound_of s).total
   unfolding slots_total S.settle_of
-  slots_refusal_lem = ap (λ r. (S.unless_unmade order r s (replicate slot_pool_size 0)).answer.refusal) slots-made
+  slots_totals =
+      let r = (S.settle_of order s (replicate slot_pool_size 0)).answer in
+      total_by r.refusal (unit_at r.core.units 0).bound (branch_and_bound_of s).total
+      (ap (λ r. (S.unless_unmade order r s (replicate slot_pool_size 0)).answer.refusal) slots-made)
+      (ap (λ r. (SD.report_of (SD.shed_of (S.unless_unmade order r s (replicate slot_pool_size 0)))).total) slots-made
+      ∙ sym (bench_and_slots s ok (branch_and_bound_of s) refl order (replicate slot_pool_size 0) slots-made _ (sym (ap (λ r. SD.over (SD.shed_of (S.unless_unmade order r s (replicate slot_pool_size 0)))) slots-made) ∙ SL.settle_ends order s (replicate slot_pool_size 0) slots-made)))
 
-  slots-total : (slots_total order s).total ≡ (branch_and_bound_of s).total
-  unfolding slots_total S.settle_of
-  slots-total =
-      ap (λ r. (SD.report_of (SD.shed_of (S.unless_unmade order r s (replicate slot_pool_size 0)))).total) slots-made
-      ∙ sym (bench_and_slots s ok (branch_and_bound_of s) refl order (replicate slot_pool_size 0) slots-made _ (sym (ap (λ r. SD.over (SD.shed_of (S.unless_unmade order r s (replicate slot_pool_size 0)))) slots-made) ∙ SL.settle_ends order s (replicate slot_pool_size 0) slots-made))
+  shed_totals : (pool : Pool) → shed_total pool order s ≡ Some (branch_and_bound_of s).total
+  shed_totals Messages = messages_totals
+  shed_totals Slots = slots_totals
 
+  -- of a search
   full : branch_and_bound_of s ≡ search_of s
   full = bounded_is_search s taken
 
   not_refused : (search_of s).refusal ≡ 0
   not_refused = search_refusal_lem s ∙ taken
 
-  shed_same : (pool : Pool) → same_total (shed_total pool order s) (found_total (search_of s)) ≡ true
-  shed_same Messages = same_by _ _ messages_refusal not_refused (messages_total_lem ∙ ap (λ f. f.total) full)
-  shed_same Slots = same_by _ _ slots_refusal_lem not_refused (slots-total ∙ ap (λ f. f.total) full)
+  full_totals : found_total (search_of s) ≡ Some (branch_and_bound_of s).total
+  full_totals = total_by (search_of s).refusal (search_of s).total (branch_and_bound_of s).total not_refused (sym (ap (λ f. f.total) full))
+
+  bounded_totals : found_total (branch_and_bound_of s) ≡ Some (branch_and_bound_of s).total
+  bounded_totals = ap found_total full ∙ full_totals
 
   pub totals_agree : (pool : Pool) → agree_of pool order s ≡ true
   unfolding agree_of
-  totals_agree pool =
-      let bounded : same_total (found_total (search_of s)) (found_total (branch_and_bound_of s)) ≡ true =
-      rw full (same_by (found_total (search_of s)) (found_total (search_of s)) not_refused not_refused refl) in
-      rw (shed_same pool, bounded)
+  totals_agree pool = rw (shed_totals pool, full_totals, bounded_totals, eq-eqb (branch_and_bound_of s).total (branch_and_bound_of s).total refl)
 
 -- ---- the tiny tables
 

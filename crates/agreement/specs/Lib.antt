@@ -1,4 +1,3 @@
--- Whether shed and bench total the same, and of how many tiny tables: of all; how the code finds it.
+-- Whether shed and bench total the same, and of how many tiny tables: of all.
 pub mod Agreement
 pub mod All
-pub mod Steps

@@ -1,22 +1,19 @@
 -- What a call leaves as it was comes back as lent, a byte that is no flag too. Assumes nothing.
 use Rattle.std.specs.Prelude.{ℕ, ◌<◌, ◌≡◌, refl, Bool, true, false, List, eqb, length, get_or, set}
-use Rattle.std.proofs.Common.{sym, ◌∙◌, ap, arith, eqb-true, length-set, get_or-set_same, get_or-set_other, ext_get_or}
+use Rattle.std.proofs.Common.{sym, ◌∙◌, ap, arith, eqb-true, length-set, get_or-set_same, get_or-set_other}
 use Rattle.std.proofs.lemmas.Bool.{eqb-false}
 use Rattle.rules.specs.declared.Unit.{Unit}
 use Rattle.rules.specs.State.{empty_unit}
 use Rattle.cabi.specs.declared.LentUnit.{LentUnit}
-use Rattle.cabi.specs.Lent.{unit_from, unit_back, empty_lent, up_to, units_from, units_back}
-use Rattle.cabi.specs.Lent.Laws.{comes_back, length_up_to, up_to_at}
+use Rattle.cabi.specs.Lent.{unit_from, unit_back, empty_lent, units_from, units_back}
+use Rattle.cabi.specs.Lent.Laws.{comes_back, length_up_to, up_to_at, up_to_of}
 
 module _ (ss : List LentUnit) (sixteen : length ss ≡ 16) where
   kept : (us : List Unit) (i : ℕ) → i < 16 → get_or us i empty_unit ≡ get_or (units_from ss) i empty_unit → unit_back (get_or ss i empty_lent) (get_or us i empty_unit) ≡ get_or ss i empty_lent
   kept us i h e = ap (λ (u : Unit). unit_back (get_or ss i empty_lent) u) (e ∙ up_to_at 16 (λ (k : ℕ). unit_from (get_or ss k empty_lent)) i empty_unit h) ∙ comes_back (get_or ss i empty_lent)
 
   by_places : (us : List Unit) (ts : List LentUnit) → length ts ≡ 16 → ((i : ℕ) → i < 16 → unit_back (get_or ss i empty_lent) (get_or us i empty_unit) ≡ get_or ts i empty_lent) → units_back ss us ≡ ts
-  by_places us ts l each =
-      let f : ℕ → LentUnit = λ k. unit_back (get_or ss k empty_lent) (get_or us k empty_unit) in
-      let long : length (up_to 16 f) ≡ 16 = length_up_to 16 f in
-      ext_get_or empty_lent (up_to 16 f) ts (long ∙ sym l) (λ i h. let i16 : i < 16 = omega (arith, long, h) in up_to_at 16 f i empty_lent i16 ∙ each i i16)
+  by_places us ts l each = sym (up_to_of 16 (λ k. unit_back (get_or ss k empty_lent) (get_or us k empty_unit)) ts empty_lent l (λ i h. sym (each i h)))
 
   -- a network that no call changes comes back as it was lent
   pub all_come_back : units_back ss (units_from ss) ≡ ss

@@ -1,11 +1,12 @@
 -- How far a box is with the blocks of its table, as C lends it: the stage is a number there, and any number stands for one. `again` shows that a
 -- state that was handed back is read as it was. Assumes nothing.
 use Rattle.std.proofs.Math.Path.{refl}
-use Rattle.std.proofs.Common.{◌∙◌}
-use Rattle.std.specs.Prelude.{ℕ, Bool, cond, List, ◌≡◌, eqb}
-use Rattle.start.specs.{declared.Stage.Stage, declared.Start.Start, declared.Started.Started}
+use Rattle.std.proofs.Common.{◌∙◌, arith}
+use borrow.Author.Tests.{ne_eqb}
+use Rattle.std.specs.Prelude.{ℕ, zero, suc, Bool, false, cond, List, ◌≡◌, eqb, Result, Ok, Err}
+use Rattle.start.specs.{declared.Stage.Stage, declared.Start.Start}
 use Rattle.start.specs.declared.Stage.TheVariants.{Opening, Units, Sizes, Low, High, Whole, Long, Misshapen}
-use Rattle.start.specs.Block.{start_of, start_into}
+use Rattle.start.specs.Block.{Started, answer_of, accepted_as, refused_by, start_refusal, start_after, start_of, start_into}
 use Rattle.cabi.specs.{declared.LentStart.LentStart, declared.LentStarted.LentStarted}
 
 -- the stage of a number; any other stands for the last
@@ -52,6 +53,11 @@ lent_start t = record {
 abbrev pub started_back : LentStart → Started → LentStarted
 started_back s r = record { refusal = r.refusal; length = r.length; start = cond (eqb r.refusal 0) (lent_start r.start) s }
 
+-- the same from what the code answers, and the state then
+abbrev pub started_by : LentStart → Result ℕ ℕ → Start → LentStarted
+started_by s (Ok count) t = record { refusal = 0; length = count; start = lent_start t }
+started_by s (Err x) t = record { refusal = x; length = 0; start = s }
+
 -- a block on what C lends
 unfoldable pub start_block : LentStart → List ℕ → Bool → ℕ → LentStarted
 start_block s block last room = started_back s (start_of (start_from s) block last room)
@@ -59,10 +65,26 @@ start_block s block last room = started_back s (start_of (start_from s) block la
 unfoldable pub started_costs : LentStart → List ℕ → Bool → List ℕ → List ℕ
 started_costs s block last costs = start_into (start_from s) block last costs
 
+-- a refused block tells no length
+answered_back : (s : LentStart) (read : Start) (block : List ℕ) (last : Bool) (room : ℕ)
+    → started_by s (answer_of (start_of read block last room)) (start_of read block last room).start ≡ started_back s (start_of read block last room)
+unfolding start_of
+answered_back s read block last room = go (start_refusal read block last room)
+  where
+    gives : ℕ → Started
+    gives x = cond (eqb x 0) (accepted_as last (start_after read block)) (refused_by x read)
+
+    go : (x : ℕ) → started_by s (answer_of (gives x)) (gives x).start ≡ started_back s (gives x)
+    go zero = refl
+    go (suc x) =
+        let e : eqb (suc x) 0 ≡ false = ne_eqb (suc x) 0 (λ z. omega arith) in
+        simp e
+
 module _ (s : LentStart) (block : List ℕ) (last : Bool) {read : Start} (is : read ≡ start_from s) where
-  pub block_is : (room : ℕ) {r : Started} {x : LentStarted} → r ≡ start_of read block last room → x ≡ started_back s r → x ≡ start_block s block last room
+  pub block_is : (room : ℕ) {r : Result ℕ ℕ} {t : Start} {x : LentStarted} → r ≡ answer_of (start_of read block last room) → t ≡ (start_of read block last room).start → x ≡ started_by s r t
+      → x ≡ start_block s block last room
   unfolding start_block
-  block_is room e f = f ∙ rw (e, is) refl
+  block_is room e q f = f ∙ rw (e, q, is) (answered_back s (start_from s) block last room)
 
   pub costs_are : (out : List ℕ) {left : List ℕ} → left ≡ start_into read block last out → left ≡ started_costs s block last out
   unfolding started_costs

@@ -1,12 +1,13 @@
 -- The answers of the calls of documents 01 and 02 in the structs that C is handed, kinds and orders of values by their numbers, and step, delivery, echo and
 -- replay on what C lends.
 -- Assumes nothing.
-use Rattle.std.specs.Prelude.{ℕ, pred, cond, not, List, eqb, length}
+use Rattle.std.specs.Prelude.{ℕ, pred, cond, not, List, eqb, length, Result, Ok, Err}
+use Rattle.base.specs.declared.Refusal.{Refusal}
+use Rattle.base.specs.Refusal.{number_of}
 use Rattle.base.specs.Shape.{shape_good}
 use Rattle.costs.specs.{declared.ValueOrder.ValueOrder, declared.ValueOrder.TheVariants.Ascending, declared.ValueOrder.TheVariants.CheapestFirst}
-use Rattle.message.specs.{declared.Message.Message, declared.Parsed.Parsed as Reading, declared.Read.Read, Decode.write_refusal, Decode.packet_into}
-use Rattle.message.specs.declared.Read.TheVariants.{Good, Refused}
-use Rattle.message.specs.Message.{kind_code, refusal_of, address_good}
+use Rattle.message.specs.{declared.Kind.Kind, declared.Message.Message, Decode.write_refusal, Decode.packet_into}
+use Rattle.message.specs.Message.{kind_code, no_message, address_good}
 use Rattle.rules.specs.{declared.Report.Report, Calls.outcome_of, Calls.bytes_of, Calls.step_out}
 use Rattle.runs.specs.Calls.{deliver_of, echo_of}
 use Rattle.slots.specs.{Slot.slot_cells, Slot.slot_or_none, Calls.deliver_of as slotsDeliverOf, Replay.replay_of}
@@ -14,13 +15,10 @@ use Rattle.cabi.specs.{declared.LentAnswer.LentAnswer, declared.LentCore.LentCor
 use Rattle.cabi.specs.Lent.{unit_from, outcome_back, core_from, network_from, answer_back, slots_back}
 pub mod Laws
 
--- 01's number of the kind that was read, 0 beside a refusal
-abbrev pub code_of : Read → ℕ
-code_of (Good k) = kind_code k
-code_of (Refused r) = 0
-
-abbrev pub parsed_of : Reading → Parsed
-parsed_of p = record { refusal = refusal_of p.answer; kind = code_of p.answer; message = p.message }
+-- 0, 01's number of the kind that was read and the fields; or the refusal's number, and all else zero
+abbrev pub parsed_of : Result (Kind × Message) Refusal → Parsed
+parsed_of (Ok (k, m)) = record { refusal = 0; kind = kind_code k; message = m }
+parsed_of (Err r) = record { refusal = number_of r; kind = 0; message = no_message }
 
 -- 01: "Writing one: 5, 10, 9, 13", where no kind has the number: what goes with no kind is against it
 unfoldable pub unknown_kind : ℕ → List ℕ → Message → ℕ
@@ -35,18 +33,18 @@ order_of code = cond (eqb code 0) Ascending CheapestFirst
 -- ---- a kind by its number
 
 -- the cell of a message whose kind is read from its number, or 300, past every cell, where no kind has it
-unfoldable pub slot_as : Read → ℕ → ℕ → ℕ → ℕ
-slot_as (Good k) n sender receiver = slot_or_none n k sender receiver
-slot_as (Refused r) n sender receiver = slot_cells
+unfoldable pub slot_as : Result Kind Refusal → ℕ → ℕ → ℕ → ℕ
+slot_as (Ok k) n sender receiver = slot_or_none n k sender receiver
+slot_as (Err r) n sender receiver = slot_cells
 
 -- writing a message whose kind is read from its number: the refusal, and what is left in the lent output
-unfoldable pub write_as : Read → ℕ → List ℕ → Message → ℕ → ℕ
-write_as (Good k) n sizes m room = write_refusal n sizes k m room
-write_as (Refused r) n sizes m room = unknown_kind n sizes m
+unfoldable pub write_as : Result Kind Refusal → ℕ → List ℕ → Message → ℕ → ℕ
+write_as (Ok k) n sizes m room = write_refusal n sizes k m room
+write_as (Err r) n sizes m room = unknown_kind n sizes m
 
-unfoldable pub written_as : Read → ℕ → List ℕ → Message → List ℕ → List ℕ
-written_as (Good k) n sizes m out = packet_into n sizes k m out
-written_as (Refused r) n sizes m out = out
+unfoldable pub written_as : Result Kind Refusal → ℕ → List ℕ → Message → List ℕ → List ℕ
+written_as (Ok k) n sizes m out = packet_into n sizes k m out
+written_as (Err r) n sizes m out = out
 
 -- ---- a step on a lent state: unit's, on the state that is read
 

@@ -1,10 +1,10 @@
 // How far a box is with the blocks of its table, as C lends it, with a number for the stage: read, and handed back.
 
 ghost use Rattle.std.specs.Prelude.{◌≡◌};
-ghost use Rattle.cabi.specs.Begun.{stage_of, stage_number, start_from, lent_start, started_back};
+ghost use Rattle.cabi.specs.Begun.{stage_of, stage_number, start_from, lent_start, started_by};
 
 use crate::{LentStart, LentStarted, Sizes};
-use start::{Reader, Stage, Start, Started};
+use start::{Reader, Stage, Start};
 
 // The state that is lent.
 pub(crate) fn start_from(s: LentStart) -> Start
@@ -54,23 +54,24 @@ pub(crate) fn lent_start(t: Start) -> LentStart
     }
 }
 
-// What a block gives: refused, the state as it was lent.
-pub(crate) fn started_back(s: LentStart, r: Started) -> LentStarted
-    ensures { result ≡ started_back s r }
+// What a block gives, and the state then: refused, it is as it was lent.
+pub(crate) fn started_back(s: LentStart, r: Result<usize, u8>, t: Start) -> LentStarted
+    ensures { result ≡ started_by s r t }
 {
-    if r.refusal != 0 {
-        return LentStarted {
-            refusal: r.refusal,
-            length: r.length,
+    match r {
+        Ok(length) => {
+            let start = lent_start(t);
+            LentStarted {
+                refusal: 0,
+                length,
+                start,
+            }
+        }
+        Err(refusal) => LentStarted {
+            refusal,
+            length: 0,
             start: s,
-        };
-    }
-    let t = r.start;
-    let start = lent_start(t);
-    LentStarted {
-        refusal: r.refusal,
-        length: r.length,
-        start,
+        },
     }
 }
 

@@ -1,31 +1,43 @@
 // A unit's state, and a network over either pool, as C lends them, with a byte for the flag `stopped`: read, and handed back.
 
 ghost use Rattle.std.specs.Prelude.{◌≡◌, cond, replicate};
-ghost use Rattle.cabi.specs.Lent.{flag_good, unit_from, lent_of, unit_back, outcome_back, units_from, units_back, core_from, core_back, network_from, answer_back, slots_back};
+ghost use Rattle.cabi.specs.Lent.{flag_good, unit_back, outcome_back, units_from, units_back, core_back, answer_back, slots_back};
 
 use crate::{LentAnswer, LentCore, LentNetwork, LentOutcome, LentSlotsAnswer, LentUnit};
 use network::{Answer, Core, Network};
 use unit::{Outcome, Unit};
 
 // The state that is lent, or where the byte is no flag, one out of range.
-pub(crate) fn unit_from(s: LentUnit) -> Unit
-    ensures { result ≡ unit_from s }
-{
-    let threshold = threshold_from(s);
-    let best = s.best;
-    let estimates = s.estimates;
-    let stamp = s.stamp;
-    let values = s.values;
-    Unit {
-        threshold,
-        bound: s.bound,
-        best,
-        estimates,
-        stamp,
-        values,
-        cost: s.cost,
-        counter: s.counter,
-        stopped: s.stopped == 1,
+impl From<LentUnit> for Unit {
+    ghost use Rattle.cabi.specs.Lent.{unit_from};
+
+    ghost from_gives = { λ s u. u ≡ unit_from s };
+
+    #[tactic(auto, unfolding(crate::specs::Lent::unit_from))]
+    fn from(s: LentUnit) -> Unit {
+        let threshold = threshold_from(s);
+        let LentUnit {
+            bound,
+            best,
+            estimates,
+            stamp,
+            values,
+            cost,
+            counter,
+            stopped,
+            ..
+        } = s;
+        Unit {
+            threshold,
+            bound,
+            best,
+            estimates,
+            stamp,
+            values,
+            cost,
+            counter,
+            stopped: stopped == 1,
+        }
     }
 }
 
@@ -33,62 +45,59 @@ fn threshold_from(s: LentUnit) -> [u8; 16]
     ensures { result ≡ cond (flag_good s) s.threshold (replicate 16 255) }
 {
     if s.stopped <= 1 {
-        let threshold = s.threshold;
-        return threshold;
+        s.threshold
+    } else {
+        [255; 16]
     }
-    [255u8; 16]
 }
 
 // A state with its flag as a byte.
-fn lent_of(u: Unit) -> LentUnit
-    ensures { result ≡ lent_of u }
-{
-    let threshold = u.threshold;
-    let best = u.best;
-    let estimates = u.estimates;
-    let stamp = u.stamp;
-    let values = u.values;
-    LentUnit {
-        threshold,
-        bound: u.bound,
-        best,
-        estimates,
-        stamp,
-        values,
-        cost: u.cost,
-        counter: u.counter,
-        stopped: flag(u.stopped),
-    }
-}
+impl From<Unit> for LentUnit {
+    ghost use Rattle.cabi.specs.Lent.{lent_of};
 
-fn flag(b: bool) -> u8
-    ensures { result ≡ cond b 1 0 }
-{
-    if b {
-        return 1;
+    ghost from_gives = { λ u s. s ≡ lent_of u };
+
+    fn from(u: Unit) -> LentUnit {
+        let Unit {
+            threshold,
+            bound,
+            best,
+            estimates,
+            stamp,
+            values,
+            cost,
+            counter,
+            stopped,
+        } = u;
+        LentUnit {
+            threshold,
+            bound,
+            best,
+            estimates,
+            stamp,
+            values,
+            cost,
+            counter,
+            stopped: u8::from(stopped),
+        }
     }
-    0
 }
 
 // What stands where s was lent, once a call leaves the unit u there.
+#[tactic(auto, unfolding(crate::specs::Lent::unit_back))]
 fn unit_back(s: LentUnit, u: Unit) -> LentUnit
     ensures { result ≡ unit_back s u }
 {
-    if s.stopped <= 1 {
-        return lent_of(u);
-    }
-    s
+    if s.stopped <= 1 { LentUnit::from(u) } else { s }
 }
 
 // What a step by value hands back.
 pub(crate) fn outcome_back(s: LentUnit, r: Outcome) -> LentOutcome
     ensures { result ≡ outcome_back s r }
 {
-    let u = r.unit;
-    let unit = unit_back(s, u);
     LentOutcome {
         refusal: r.refusal,
-        unit,
+        unit: unit_back(s, r.unit),
         sent: r.sent,
         records: r.records,
     }
@@ -97,42 +106,32 @@ pub(crate) fn outcome_back(s: LentUnit, r: Outcome) -> LentOutcome
 fn units_from(ss: [LentUnit; 16]) -> [Unit; 16]
     ensures { result ≡ units_from ss }
 {
-    let blank = unit::no_unit();
-    let mut us = [blank; 16];
-    let mut i = 0;
-    while i < 16 {
-        let s = ss[i];
-        us[i] = unit_from(s);
-        i += 1;
-    }
-    us
+    ss.map(|s| Unit::from(s))
 }
 
 fn units_back(ss: [LentUnit; 16], us: [Unit; 16]) -> [LentUnit; 16]
     ensures { result ≡ units_back ss us }
 {
+    // by index: `from_fn` with both arrays was tried, and its clause doesn't say that each call sees the same two
     let mut back = ss;
-    let mut i = 0;
-    while i < 16 {
-        let s = ss[i];
-        let u = us[i];
-        back[i] = unit_back(s, u);
-        i += 1;
+    for i in 0..16 {
+        back[i] = unit_back(ss[i], us[i]);
     }
     back
 }
 
 // The units and counts that are lent.
-pub(crate) fn core_from(s: LentCore) -> Core
-    ensures { result ≡ core_from s }
-{
-    let ss = s.units;
-    let records = s.records;
-    let deliveries = s.deliveries;
-    Core {
-        units: units_from(ss),
-        records,
-        deliveries,
+impl From<LentCore> for Core {
+    ghost use Rattle.cabi.specs.Lent.{core_from};
+
+    ghost from_gives = { λ s t. t ≡ core_from s };
+
+    fn from(s: LentCore) -> Core {
+        Core {
+            units: units_from(s.units),
+            records: s.records,
+            deliveries: s.deliveries,
+        }
     }
 }
 
@@ -140,25 +139,24 @@ pub(crate) fn core_from(s: LentCore) -> Core
 fn core_back(s: LentCore, left: Core) -> LentCore
     ensures { result ≡ core_back s left }
 {
-    let ss = s.units;
-    let us = left.units;
-    let records = left.records;
-    let deliveries = left.deliveries;
     LentCore {
-        units: units_back(ss, us),
-        records,
-        deliveries,
+        units: units_back(s.units, left.units),
+        records: left.records,
+        deliveries: left.deliveries,
     }
 }
 
 // The network that is lent.
-pub(crate) fn network_from(s: LentNetwork) -> Network
-    ensures { result ≡ network_from s }
-{
-    let lent = s.core;
-    Network {
-        core: core_from(lent),
-        used: s.used,
+impl From<LentNetwork> for Network {
+    ghost use Rattle.cabi.specs.Lent.{network_from};
+
+    ghost from_gives = { λ s t. t ≡ network_from s };
+
+    fn from(s: LentNetwork) -> Network {
+        Network {
+            core: Core::from(s.core),
+            used: s.used,
+        }
     }
 }
 
@@ -166,14 +164,11 @@ pub(crate) fn network_from(s: LentNetwork) -> Network
 pub(crate) fn answer_back(s: LentNetwork, a: Answer) -> LentAnswer
     ensures { result ≡ answer_back s a }
 {
-    let lent = s.core;
-    let net = a.network;
-    let left = net.core;
     LentAnswer {
         refusal: a.refusal,
         network: LentNetwork {
-            core: core_back(lent, left),
-            used: net.used,
+            core: core_back(s.core, a.network.core),
+            used: a.network.used,
         },
     }
 }
@@ -182,9 +177,8 @@ pub(crate) fn answer_back(s: LentNetwork, a: Answer) -> LentAnswer
 pub(crate) fn slots_back(s: LentCore, a: slots::Answer) -> LentSlotsAnswer
     ensures { result ≡ slots_back s a }
 {
-    let left = a.core;
     LentSlotsAnswer {
         refusal: a.refusal,
-        core: core_back(s, left),
+        core: core_back(s, a.core),
     }
 }

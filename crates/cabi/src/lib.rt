@@ -7,6 +7,7 @@ mod lent; // a state, and a network over either pool, as C lends them
 
 ghost use Rattle.std.specs.Prelude.{◌≡◌, not, pred, eqb, length};
 ghost use Rattle.checksum.specs.Sum.{sum_of};
+ghost use Rattle.base.specs.Refusal.{told};
 ghost use Rattle.table.specs.Block.{block_refusal};
 ghost use Rattle.table.specs.Stream.{units_of};
 ghost use Rattle.table.specs.File.{read_of, read_into, store_of, store_into};
@@ -33,19 +34,30 @@ ghost use Rattle.projections.specs.Made.{hold_of, hold_into, bound_of, bound_int
 ghost use Rattle.start.specs.Block.{fresh};
 ghost use Rattle.cabi.specs.Begun.{lent_start, start_block, started_costs};
 ghost use Rattle.cabi.specs.Lent.{unit_from};
-ghost use Rattle.cabi.specs.Calls.{code_of, parsed_of, order_of, slot_as, write_as, written_as, unknown_kind, step_of, stepped_bytes, report_by, delivered_to, delivered_pool, echoed_to, echoed_pool, slots_delivered_to, slots_delivered_pool, replayed_to, replayed_pool};
+ghost use Rattle.cabi.specs.Calls.{parsed_of, order_of, slot_as, write_as, written_as, unknown_kind, step_of, stepped_bytes, report_by, delivered_to, delivered_pool, echoed_to, echoed_pool, slots_delivered_to, slots_delivered_pool, replayed_to, replayed_pool};
 
-use base::Length;
-use message::{Message, Read};
-use network::{Answer, Count};
+use base::{Length, Refusal};
+use message::{Kind, Message};
+use network::{Answer, Core, Count, Network};
 use projections::Moved;
 use search::Found;
 use sensitivity::Range;
 use table::Form;
-use unit::{Outcome, Report, ValueOrder};
+use unit::{Outcome, Report, Unit, ValueOrder};
 
 // The number of the order that is taken where none is named.
 const CHEAPEST_FIRST: u8 = 1;
+
+// What stands beside a refusal.
+const NO_MESSAGE: Message = Message {
+    sender: 0,
+    receiver: 0,
+    stamp: [0; 16],
+    values: [0; 16],
+    cost: 0,
+    bound: 0,
+    best: [0; 16],
+};
 
 // A domain size for each of 16 units, zero past n.
 #[repr(C)]
@@ -54,7 +66,7 @@ pub struct Sizes {
     pub places: [u8; 16],
 }
 
-// `start::Start` as C lends it, and `start::Started`: any number can stand where the stage is.
+// `start::Start` as C lends it, and what a block gives: any number can stand where the stage is, and where the refusal is.
 #[repr(C)]
 #[derive(Clone, Copy)]
 pub struct LentStart {
@@ -89,7 +101,7 @@ pub struct Parsed {
 }
 
 // `unit::Unit` as C lends it: any byte can stand where the flag is. Making, which is lent no state, gives `unit::Outcome`, of the same
-// layout.
+// layout. It and the structs below are twins of the library's but for that byte, as C lays them out.
 #[repr(C)]
 #[derive(Clone, Copy)]
 pub struct LentUnit {
@@ -159,21 +171,21 @@ pub extern "C" fn riksamoe_checksum(bytes: &[u8]) -> u32
 pub extern "C" fn riksamoe_block_refusal(block: &[u8], number: u16, last: u8) -> u8
     ensures { result ≡ block_refusal number (not (eqb last 0)) block.now }
 {
-    table::block_refusal(block, number, last != 0)
+    base::told(table::check_block(block, number, last != 0))
 }
 
 #[unsafe(no_mangle)]
 pub extern "C" fn riksamoe_table_read(file: &[u8], stream: &mut [u8]) -> Length
     ensures { (result ≡ read_of file.now (length stream.old)) × (stream.new ≡ read_into file.now stream.old) }
 {
-    table::read(file, stream)
+    table::read(file, stream).into()
 }
 
 #[unsafe(no_mangle)]
 pub extern "C" fn riksamoe_table_write(stream: &[u8], file: &mut [u8]) -> Length
     ensures { (result ≡ store_of stream.now (length file.old)) × (file.new ≡ store_into stream.now file.old) }
 {
-    table::write(stream, file)
+    table::write(stream, file).into()
 }
 
 // A stored table in form one, or in form two.
@@ -181,14 +193,14 @@ pub extern "C" fn riksamoe_table_write(stream: &[u8], file: &mut [u8]) -> Length
 pub extern "C" fn riksamoe_to_form_one(file: &[u8], out: &mut [u8]) -> Length
     ensures { (result ≡ convert_of One file.now (length out.old)) × (out.new ≡ convert_into One file.now out.old) }
 {
-    table::convert(file, Form::One, out)
+    table::convert(file, Form::One, out).into()
 }
 
 #[unsafe(no_mangle)]
 pub extern "C" fn riksamoe_to_form_two(file: &[u8], out: &mut [u8]) -> Length
     ensures { (result ≡ convert_of Two file.now (length out.old)) × (out.new ≡ convert_into Two file.now out.old) }
 {
-    table::convert(file, Form::Two, out)
+    table::convert(file, Form::Two, out).into()
 }
 
 // The stream of a table made of readings.
@@ -201,8 +213,7 @@ pub extern "C" fn riksamoe_readings_stream(
 ) -> Length
     ensures { (result ≡ table_of n sizes.places readings.now (length stream.old)) × (stream.new ≡ table_into n sizes.places readings.now stream.old) }
 {
-    let places = sizes.places;
-    readings::write_stream(n, places, readings, stream)
+    readings::write_stream(n, sizes.places, readings, stream).into()
 }
 
 // The stream of a tiny table, by its number.
@@ -210,7 +221,7 @@ pub extern "C" fn riksamoe_readings_stream(
 pub extern "C" fn riksamoe_tiny_stream(n: u8, number: u32, stream: &mut [u8]) -> Length
     ensures { (result ≡ tiny_of n number (length stream.old)) × (stream.new ≡ tiny_into n number stream.old) }
 {
-    tiny::write_stream(n, number, stream)
+    tiny::write_stream(n, number, stream).into()
 }
 
 // ---- what a unit is lent, out of a stream
@@ -227,15 +238,16 @@ pub extern "C" fn riksamoe_units(stream: &[u8]) -> u8
 pub extern "C" fn riksamoe_sizes(stream: &[u8]) -> Sizes
     ensures { result.places ≡ sizes_in stream.now }
 {
-    let places = costs::sizes_of(stream);
-    Sizes { places }
+    Sizes {
+        places: costs::sizes_of(stream),
+    }
 }
 
 #[unsafe(no_mangle)]
-pub extern "C" fn riksamoe_costs(stream: &[u8], own: u8, out: &mut [u8]) -> base::Length
+pub extern "C" fn riksamoe_costs(stream: &[u8], own: u8, out: &mut [u8]) -> Length
     ensures { (result ≡ gather_of stream.now own (length out.old)) × (out.new ≡ gather_into stream.now own out.old) }
 {
-    costs::gather(stream, own, out)
+    costs::gather(stream, own, out).into()
 }
 
 // ---- a box's start from blocks
@@ -258,9 +270,9 @@ pub extern "C" fn riksamoe_start_block(
 ) -> LentStarted
     ensures { (result ≡ start_block state block.now (not (eqb last 0)) (length costs.old)) × (costs.new ≡ started_costs state block.now (not (eqb last 0)) costs.old) }
 {
-    let read = begun::start_from(state);
-    let r = start::take_block(read, block, last != 0, costs);
-    begun::started_back(state, r)
+    let mut read = begun::start_from(state);
+    let r = start::take_block(&mut read, block, last != 0, costs);
+    begun::started_back(state, r, read)
 }
 
 // ---- messages
@@ -269,31 +281,42 @@ pub extern "C" fn riksamoe_start_block(
 pub extern "C" fn riksamoe_message_parse(n: u8, sizes: Sizes, bytes: &[u8]) -> Parsed
     ensures { result ≡ parsed_of (parse_of n sizes.places bytes.now) }
 {
-    let places = sizes.places;
-    let p = message::parse(n, places, bytes);
-    let answer = p.answer;
-    // by its fields: copied whole, across where they begin, it takes a third of the time of reading
-    let m = p.message;
-    let stamp = m.stamp;
-    let values = m.values;
-    let best = m.best;
-    let message = Message {
-        sender: m.sender,
-        receiver: m.receiver,
-        stamp,
-        values,
-        cost: m.cost,
-        bound: m.bound,
-        best,
-    };
-    Parsed {
-        refusal: message::refusal_of(answer),
-        kind: code_of(answer),
-        message,
+    match message::parse(n, sizes.places, bytes) {
+        Ok((kind, m)) => {
+            // by its fields: copied whole, across where they begin, it takes a third of the time of reading
+            let Message {
+                sender,
+                receiver,
+                stamp,
+                values,
+                cost,
+                bound,
+                best,
+            } = m;
+            Parsed {
+                refusal: 0,
+                kind: u8::from(kind),
+                message: Message {
+                    sender,
+                    receiver,
+                    stamp,
+                    values,
+                    cost,
+                    bound,
+                    best,
+                },
+            }
+        }
+        Err(refusal) => Parsed {
+            refusal: refusal.number(),
+            kind: 0,
+            message: NO_MESSAGE,
+        },
     }
 }
 
 // A kind that is none of 01's is refused by 9, after 5 and 10.
+#[tactic(auto, unfolding(crate::specs::Calls::write_as, crate::specs::Calls::written_as))]
 #[unsafe(no_mangle)]
 pub extern "C" fn riksamoe_message_write(
     n: u8,
@@ -304,12 +327,10 @@ pub extern "C" fn riksamoe_message_write(
 ) -> u8
     ensures { (result ≡ write_as (kind_of kind) n sizes.places m (length out.old)) × (out.new ≡ written_as (kind_of kind) n sizes.places m out.old) }
 {
-    let places = sizes.places;
-    let answer = message::kind_of(kind);
-    let Read::Good(known) = answer else {
-        return unknown_kind(n, places, m);
-    };
-    message::write(n, places, known, m, out)
+    match Kind::try_from(kind) {
+        Ok(kind) => base::told(message::write(n, sizes.places, kind, m, out)),
+        Err(_) => base::told(check_unknown(n, sizes.places, m)),
+    }
 }
 
 // ---- one unit. Each of the calls below that try values has `by` one whose first argument is the number of an order of values: 0 for
@@ -325,8 +346,7 @@ pub extern "C" fn riksamoe_unit_make(
 ) -> Outcome
     ensures { (result ≡ outcome_of n (pred own) no_unit (make_out default_order own n sizes.places costs.now (length out.old))) × (out.new ≡ bytes_of n (pred own) out.old (make_out default_order own n sizes.places costs.now (length out.old))) }
 {
-    let places = sizes.places;
-    unit::make(own, n, places, costs, out)
+    unit::make(own, n, sizes.places, costs, out)
 }
 
 #[unsafe(no_mangle)]
@@ -340,8 +360,7 @@ pub extern "C" fn riksamoe_unit_make_by(
 ) -> Outcome
     ensures { (result ≡ outcome_of n (pred own) no_unit (make_out (order_of order) own n sizes.places costs.now (length out.old))) × (out.new ≡ bytes_of n (pred own) out.old (make_out (order_of order) own n sizes.places costs.now (length out.old))) }
 {
-    let places = sizes.places;
-    unit::make_by(order_of(order), own, n, places, costs, out)
+    unit::make_by(order_of(order), own, n, sizes.places, costs, out)
 }
 
 #[unsafe(no_mangle)]
@@ -368,9 +387,7 @@ pub extern "C" fn riksamoe_unit_in_range_by(
 ) -> u8
     ensures { result ≡ range_refusal (order_of order) (unit_from u) own n sizes.places costs.now }
 {
-    let places = sizes.places;
-    let v = lent::unit_from(u);
-    unit::in_range_by(order_of(order), v, own, n, places, costs)
+    base::told(unit::in_range_by(order_of(order), Unit::from(u), own, n, sizes.places, costs))
 }
 
 #[unsafe(no_mangle)]
@@ -388,6 +405,7 @@ pub extern "C" fn riksamoe_unit_step(
     riksamoe_unit_step_by(CHEAPEST_FIRST, u, own, n, sizes, costs, packet, out)
 }
 
+#[tactic(auto, unfolding(crate::specs::Calls::step_of, crate::specs::Calls::stepped_bytes))]
 #[unsafe(no_mangle)]
 pub extern "C" fn riksamoe_unit_step_by(
     order: u8,
@@ -401,9 +419,8 @@ pub extern "C" fn riksamoe_unit_step_by(
 ) -> LentOutcome
     ensures { (result ≡ step_of (order_of order) u own n sizes.places costs.now packet.now (length out.old)) × (out.new ≡ stepped_bytes (order_of order) u own n sizes.places costs.now packet.now out.old) }
 {
-    let places = sizes.places;
-    let v = lent::unit_from(u);
-    let r = unit::step_by(order_of(order), v, own, n, places, costs, packet, out);
+    let v = Unit::from(u);
+    let r = unit::step_by(order_of(order), v, own, n, sizes.places, costs, packet, out);
     lent::outcome_back(u, r)
 }
 
@@ -419,15 +436,7 @@ pub extern "C" fn riksamoe_unit_step_in_place(
 ) -> Report
     ensures { (result ≡ report_by (step_of default_order u.old own n sizes.places costs.now packet.now (length out.old))) × (u.new ≡ (step_of default_order u.old own n sizes.places costs.now packet.now (length out.old)).unit) × (out.new ≡ stepped_bytes default_order u.old own n sizes.places costs.now packet.now out.old) }
 {
-    let v = *u;
-    let r = riksamoe_unit_step(v, own, n, sizes, costs, packet, out);
-    let w = r.unit;
-    *u = w;
-    Report {
-        refusal: r.refusal,
-        sent: r.sent,
-        records: r.records,
-    }
+    riksamoe_unit_step_in_place_by(CHEAPEST_FIRST, u, own, n, sizes, costs, packet, out)
 }
 
 #[unsafe(no_mangle)]
@@ -443,10 +452,8 @@ pub extern "C" fn riksamoe_unit_step_in_place_by(
 ) -> Report
     ensures { (result ≡ report_by (step_of (order_of order) u.old own n sizes.places costs.now packet.now (length out.old))) × (u.new ≡ (step_of (order_of order) u.old own n sizes.places costs.now packet.now (length out.old)).unit) × (out.new ≡ stepped_bytes (order_of order) u.old own n sizes.places costs.now packet.now out.old) }
 {
-    let v = *u;
-    let r = riksamoe_unit_step_by(order, v, own, n, sizes, costs, packet, out);
-    let w = r.unit;
-    *u = w;
+    let r = riksamoe_unit_step_by(order, *u, own, n, sizes, costs, packet, out);
+    *u = r.unit;
     Report {
         refusal: r.refusal,
         sent: r.sent,
@@ -482,6 +489,7 @@ pub extern "C" fn riksamoe_network_deliver(
     riksamoe_network_deliver_by(CHEAPEST_FIRST, net, stream, pool, cell)
 }
 
+#[tactic(auto, unfolding(crate::specs::Calls::delivered_to, crate::specs::Calls::delivered_pool))]
 #[unsafe(no_mangle)]
 pub extern "C" fn riksamoe_network_deliver_by(
     order: u8,
@@ -492,7 +500,7 @@ pub extern "C" fn riksamoe_network_deliver_by(
 ) -> LentAnswer
     ensures { (result ≡ delivered_to (order_of order) net stream.now pool.old cell) × (pool.new ≡ delivered_pool (order_of order) net stream.now pool.old cell) }
 {
-    let read = lent::network_from(net);
+    let read = Network::from(net);
     let a = network::deliver_by(order_of(order), read, stream, pool, cell);
     lent::answer_back(net, a)
 }
@@ -509,6 +517,7 @@ pub extern "C" fn riksamoe_network_echo(
     riksamoe_network_echo_by(CHEAPEST_FIRST, net, stream, pool, packet)
 }
 
+#[tactic(auto, unfolding(crate::specs::Calls::echoed_to, crate::specs::Calls::echoed_pool))]
 #[unsafe(no_mangle)]
 pub extern "C" fn riksamoe_network_echo_by(
     order: u8,
@@ -519,7 +528,7 @@ pub extern "C" fn riksamoe_network_echo_by(
 ) -> LentAnswer
     ensures { (result ≡ echoed_to (order_of order) net stream.now pool.old packet.now) × (pool.new ≡ echoed_pool (order_of order) net stream.now pool.old packet.now) }
 {
-    let read = lent::network_from(net);
+    let read = Network::from(net);
     let a = network::echo_by(order_of(order), read, stream, pool, packet);
     lent::answer_back(net, a)
 }
@@ -566,6 +575,7 @@ pub extern "C" fn riksamoe_slots_deliver(
     riksamoe_slots_deliver_by(CHEAPEST_FIRST, core, stream, pool, cell)
 }
 
+#[tactic(auto, unfolding(crate::specs::Calls::slots_delivered_to, crate::specs::Calls::slots_delivered_pool))]
 #[unsafe(no_mangle)]
 pub extern "C" fn riksamoe_slots_deliver_by(
     order: u8,
@@ -576,7 +586,7 @@ pub extern "C" fn riksamoe_slots_deliver_by(
 ) -> LentSlotsAnswer
     ensures { (result ≡ slots_delivered_to (order_of order) core stream.now pool.old cell) × (pool.new ≡ slots_delivered_pool (order_of order) core stream.now pool.old cell) }
 {
-    let read = lent::core_from(core);
+    let read = Core::from(core);
     let a = slots::deliver_by(order_of(order), read, stream, pool, cell);
     lent::slots_back(core, a)
 }
@@ -593,6 +603,7 @@ pub extern "C" fn riksamoe_slots_replay(
     riksamoe_slots_replay_by(CHEAPEST_FIRST, core, stream, pool, list)
 }
 
+#[tactic(auto, unfolding(crate::specs::Calls::replayed_to, crate::specs::Calls::replayed_pool))]
 #[unsafe(no_mangle)]
 pub extern "C" fn riksamoe_slots_replay_by(
     order: u8,
@@ -603,7 +614,7 @@ pub extern "C" fn riksamoe_slots_replay_by(
 ) -> LentSlotsAnswer
     ensures { (result ≡ replayed_to (order_of order) core stream.now pool.old list.now) × (pool.new ≡ replayed_pool (order_of order) core stream.now pool.old list.now) }
 {
-    let read = lent::core_from(core);
+    let read = Core::from(core);
     let a = slots::replay_by(order_of(order), read, stream, pool, list);
     lent::slots_back(core, a)
 }
@@ -627,15 +638,15 @@ pub extern "C" fn riksamoe_slots_settle_by(
 }
 
 // The cell of a message; slots::SLOTS where the rules allow none, or no kind has the number.
+#[tactic(auto, unfolding(crate::specs::Calls::slot_as))]
 #[unsafe(no_mangle)]
 pub extern "C" fn riksamoe_slot_of(n: u8, kind: u8, sender: u8, receiver: u8) -> u64
     ensures { result ≡ slot_as (kind_of kind) n sender receiver }
 {
-    let answer = message::kind_of(kind);
-    let Read::Good(known) = answer else {
-        return slots::SLOTS;
-    };
-    slots::slot_of(n, known, sender, receiver)
+    match Kind::try_from(kind) {
+        Ok(kind) => slots::slot_of(n, kind, sender, receiver),
+        Err(_) => slots::SLOTS,
+    }
 }
 
 // 1 for the first buffer, 2 for the second, 0 where refused: C is handed no part of a buffer.
@@ -643,16 +654,14 @@ pub extern "C" fn riksamoe_slot_of(n: u8, kind: u8, sender: u8, receiver: u8) ->
 pub extern "C" fn riksamoe_newer(n: u8, sizes: Sizes, first: &[u8], second: &[u8]) -> u8
     ensures { result ≡ which_newer n sizes.places first.now second.now }
 {
-    let places = sizes.places;
-    slots::which_newer(n, places, first, second)
+    slots::which_newer(n, sizes.places, first, second)
 }
 
 #[unsafe(no_mangle)]
 pub extern "C" fn riksamoe_newer_refusal(n: u8, sizes: Sizes, first: &[u8], second: &[u8]) -> u8
     ensures { result ≡ newer_refusal n sizes.places first.now second.now }
 {
-    let places = sizes.places;
-    slots::newer_refusal(n, places, first, second)
+    base::told(slots::check_newer(n, sizes.places, first, second))
 }
 
 // ---- the bench
@@ -685,7 +694,7 @@ pub extern "C" fn riksamoe_ends(total: u32, old: u32, new: u32) -> Range
 pub extern "C" fn riksamoe_hold_costs(stream: &[u8], costs: &mut [u32]) -> Length
     ensures { (result ≡ hold_of stream.now (length costs.old)) × (costs.new ≡ hold_into stream.now costs.old) }
 {
-    projections::hold(stream, costs)
+    projections::hold(stream, costs).into()
 }
 
 #[unsafe(no_mangle)]
@@ -700,8 +709,7 @@ pub extern "C" fn riksamoe_project(
 ) -> Moved
     ensures { (result ≡ answer_of (project_of n sizes.places unit value other (held_by floor costs.old))) × (costs.new ≡ (project_of n sizes.places unit value other (held_by floor costs.old)).held.costs) }
 {
-    let places = sizes.places;
-    projections::project(costs, n, places, floor, unit, value, other)
+    projections::project(costs, n, sizes.places, floor, unit, value, other)
 }
 
 #[unsafe(no_mangle)]
@@ -714,8 +722,7 @@ pub extern "C" fn riksamoe_project_unary(
 ) -> Moved
     ensures { (result ≡ answer_of (unary_project_of n sizes.places unit (held_by floor costs.old))) × (costs.new ≡ (unary_project_of n sizes.places unit (held_by floor costs.old)).held.costs) }
 {
-    let places = sizes.places;
-    projections::project_unary(costs, n, places, floor, unit)
+    projections::project_unary(costs, n, sizes.places, floor, unit)
 }
 
 #[unsafe(no_mangle)]
@@ -731,16 +738,14 @@ pub extern "C" fn riksamoe_extend(
 ) -> Moved
     ensures { (result ≡ answer_of (extend_of n sizes.places unit value other part (held_by floor costs.old))) × (costs.new ≡ (extend_of n sizes.places unit value other part (held_by floor costs.old)).held.costs) }
 {
-    let places = sizes.places;
-    projections::extend(costs, n, places, floor, unit, value, other, part)
+    projections::extend(costs, n, sizes.places, floor, unit, value, other, part)
 }
 
 #[unsafe(no_mangle)]
 pub extern "C" fn riksamoe_project_all(costs: &mut [u32], n: u8, sizes: Sizes, floor: u32) -> Moved
     ensures { (result ≡ answer_of (project_all_of n sizes.places (held_by floor costs.old))) × (costs.new ≡ (project_all_of n sizes.places (held_by floor costs.old)).held.costs) }
 {
-    let places = sizes.places;
-    projections::project_all(costs, n, places, floor)
+    projections::project_all(costs, n, sizes.places, floor)
 }
 
 #[unsafe(no_mangle)]
@@ -756,31 +761,22 @@ pub extern "C" fn riksamoe_lower_bound(stream: &[u8], costs: &mut [u32]) -> Move
 fn order_of(code: u8) -> ValueOrder
     ensures { result ≡ order_of code }
 {
-    if code == 0 {
-        return ValueOrder::Ascending;
-    }
-    ValueOrder::CheapestFirst
-}
-
-// The number of the kind that was read, 0 for none.
-fn code_of(r: Read) -> u8
-    ensures { result ≡ code_of r }
-{
-    match r {
-        Read::Good(kind) => message::kind_code(kind),
-        Read::Refused(_) => 0,
+    match code {
+        0 => ValueOrder::Ascending,
+        _ => ValueOrder::CheapestFirst,
     }
 }
 
-// The refusal of a message that has no kind.
-fn unknown_kind(n: u8, sizes: [u8; 16], m: Message) -> u8
-    ensures { result ≡ unknown_kind n sizes m }
+// What a message of no kind is refused by: 5 and 10, before 9.
+#[tactic(auto, unfolding(crate::specs::Calls::unknown_kind))]
+fn check_unknown(n: u8, sizes: [u8; 16], m: Message) -> Result<(), Refusal>
+    ensures { told result ≡ unknown_kind n sizes m }
 {
     if !base::shape_good(n, sizes) {
-        return 5;
+        return Err(Refusal::OutOfRange);
     }
     if !message::address_good(n, m) {
-        return 10;
+        return Err(Refusal::BadUnit);
     }
-    9
+    Err(Refusal::BadField)
 }

@@ -17,9 +17,10 @@ pub fn sum(bytes: &[u8]) -> u32
     ensures { result ≡ sum_of bytes.now }
 {
     if bytes.len() <= CHECKED_SIZE {
-        return short_sum(bytes) % MODULUS;
+        short_sum(bytes) % MODULUS
+    } else {
+        long_sum(bytes)
     }
-    long_sum(bytes)
 }
 
 // The sum itself: of so few bytes it fits 32 bits, and no test stands in the loop, so that a compiler can add up many bytes at once; the
@@ -29,11 +30,9 @@ fn short_sum(bytes: &[u8]) -> u32
     ensures { result ≡ weigh 0 bytes.now }
 {
     let mut total: u32 = 0;
-    let mut i = 0;
-    while i < bytes.len() {
+    for (i, b) in bytes.iter().enumerate() {
         let weight = (i % BLOCK_SIZE) as u32 + 1;
-        total += weight * (bytes[i] as u32);
-        i += 1;
+        total += weight * u32::from(*b);
     }
     total
 }
@@ -43,11 +42,9 @@ fn long_sum(bytes: &[u8]) -> u32
     ensures { result ≡ sum_of bytes.now }
 {
     let mut total: u32 = 0;
-    let mut i = 0;
-    while i < bytes.len() {
+    for (i, b) in bytes.iter().enumerate() {
         let weight = (i % ROUND) as u32 + 1;
-        total = (total + weight * (bytes[i] as u32)) % MODULUS;
-        i += 1;
+        total = (total + weight * u32::from(*b)) % MODULUS;
     }
     total
 }

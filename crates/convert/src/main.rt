@@ -2,8 +2,6 @@
 // refused it writes nothing there, and `refused` and the number to standard error.
 #![tactic(auto)]
 
-ghost use Rattle.std.specs.Prelude.{◌≤◌, length};
-
 use base::{FILE_ROOM, FILE_SIZE};
 use table::Form;
 
@@ -16,30 +14,26 @@ const STDERR_FILENO: i32 = 2;
 fn main(rt: HostRuntime) {
     let mut word = [0u8; 4];
     let n = inputs::arg(&rt, 1, &mut word);
-    if check::same(&word[..n], b"one") {
-        write_converted(Form::One);
-        return;
+    match &word[..n] {
+        b"one" => write_converted(&rt, Form::One),
+        b"two" => write_converted(&rt, Form::Two),
+        _ => {
+            io::write_all(STDERR_FILENO, b"convert: say one or two, the form wanted\n");
+        }
     }
-    if check::same(&word[..n], b"two") {
-        write_converted(Form::Two);
-        return;
-    }
-    io::write_all(STDERR_FILENO, b"convert: say one or two, the form wanted\n");
 }
 
 // The table on standard input, in that form.
-fn write_converted(form: Form) {
+fn write_converted(rt: &impl Eprint, form: Form) {
     let mut file = [0u8; FILE_ROOM];
     let n = io::read_full(STDIN_FILENO, &mut file);
     let mut out = [0u8; FILE_SIZE];
-    let done = table::convert(&file[..n], form, &mut out);
-    let refusal = done.refusal;
-    if refusal != 0 {
-        io::write_all(STDERR_FILENO, b"refused ");
-        io::print_decimal(STDERR_FILENO, refusal as u64);
-        io::write_all(STDERR_FILENO, b"\n");
-        return;
+    match table::convert(&file[..n], form, &mut out) {
+        Ok(length) => {
+            io::write_all(STDOUT_FILENO, &out[..length]);
+        }
+        Err(refusal) => {
+            let _ = rt.eprintln(refusal);
+        }
     }
-    let length = done.length;
-    io::write_all(STDOUT_FILENO, &out[..length]);
 }

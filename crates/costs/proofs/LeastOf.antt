@@ -1,7 +1,7 @@
 -- The least of costs: it is the greatest that is below all of them, and within their limit. Assumes nothing.
-use Rattle.std.specs.Prelude.{◌≡◌, ℕ, zero, suc, ◌≤◌, Bool, true, false, nat_le, refl}
+use Rattle.std.specs.Prelude.{◌≡◌, ℕ, zero, suc, ◌≤◌, Bool, true, false, nat_le, refl, Some, None}
 use Rattle.std.proofs.Common.{subst, arith, leb-true, leb-false}
-use Rattle.costs.specs.Cost.{Cost, Of, Forbidden, ◌⊕◌, least}
+use Rattle.costs.specs.Cost.{Cost, ◌⊕◌, least}
 use Rattle.costs.specs.Cost.Laws.{◌⊑◌, AtMost, add_mono, le_trans, lesser-left, lesser_greatest, lesser_right, most-lesser}
 
 pub least_le : (f : ℕ → Cost) (d v : ℕ) → 1 ≤ v → v ≤ d → least f d ⊑ f v
@@ -14,8 +14,8 @@ least_le f (suc d) v lo hi = go (nat_le v d) refl (λ l. least_le f d v lo l)
 
 -- what bounds every value from below bounds the least
 pub least_ge : (c : Cost) (f : ℕ → Cost) (d : ℕ) → ((v : ℕ) → 1 ≤ v → v ≤ d → c ⊑ f v) → c ⊑ least f d
-least_ge (Of n) f zero h = tt
-least_ge Forbidden f zero h = tt
+least_ge (Some n) f zero h = tt
+least_ge None f zero h = tt
 least_ge c f (suc d) h = lesser_greatest c (least f d) (f (suc d)) (least_ge c f d (λ v lo hi. h v lo (omega arith))) (h (suc d) (omega arith) (omega arith))
 
 -- least values of two parts are at most the least of their sum

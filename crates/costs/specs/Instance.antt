@@ -1,9 +1,9 @@
 -- The instance that a table describes, what one unit sees of it, and where the bytes of a cost stand.
 -- Units count from 0 here: place k is document 01's unit k + 1. Values count from 1, as in document 01. Assumes nothing.
-use Rattle.std.specs.Prelude.{ℕ, suc, ◌+◌, ◌*◌, ◌-◌, pred, cond, not, ◌&&◌, List, ltb, leb, eqb, length, get_or, take, drop}
+use Rattle.std.specs.Prelude.{ℕ, suc, ◌+◌, ◌*◌, ◌-◌, pred, cond, not, ◌&&◌, List, ltb, leb, eqb, length, get_or, take, drop, Some, None}
 use Rattle.base.specs.{Bytes.u16_at, Shape.is_value, Sums.sum_from, Sums.sum_to}
 use Rattle.table.specs.Stream.{in_form_two, units_of, after_units, unaries_at, pairs_at}
-use Rattle.costs.specs.Cost.{Cost, Of, Forbidden, sum_from as sumCosts, least, pair_cost}
+use Rattle.costs.specs.Cost.{Cost, sum_from as sumCosts, least, pair_cost}
 use Rattle.costs.specs.{declared.Seat.Seat, declared.ValueOrder.ValueOrder, declared.ValueOrder.TheVariants.Ascending}
 
 -- ---- the instance
@@ -70,7 +70,7 @@ table_unary dom costs k v = cond (is_value (dom k) v) (cost_number costs (sum_to
 -- A pair cost of a table, from all its pair costs; 0 where there is no such pair of values.
 abbrev pub table_cost : ℕ → (ℕ → ℕ) → List ℕ → ℕ → ℕ → ℕ → ℕ → Cost
 table_cost n dom costs i u j v =
-    cond (ltb i j && ltb j n && is_value (dom i) u && is_value (dom j) v) (pair_cost (cost_number costs (pair_start dom n i j + in_pair (dom j) u v))) (Of 0)
+    cond (ltb i j && ltb j n && is_value (dom i) u && is_value (dom j) v) (pair_cost (cost_number costs (pair_start dom n i j + in_pair (dom j) u v))) (Some 0)
 
 -- The instance of a stream. 02: "Old files read as own costs all zero."
 abbrev pub dom_of : List ℕ → ℕ → ℕ
@@ -97,7 +97,7 @@ lent_unary d costs v = cond (is_value d v) (cost_number costs (v - 1)) 0
 abbrev pub lent_cost : ℕ → (ℕ → ℕ) → ℕ → List ℕ → ℕ → ℕ → ℕ → Cost
 lent_cost n dom k costs j u v =
     cond (not (eqb j k) && ltb j n && is_value (dom j) u && is_value (dom k) v)
-    (pair_cost (cost_number costs (other_start dom k j + cond (ltb j k) (in_pair (dom k) u v) (in_pair (dom j) v u)))) (Of 0)
+    (pair_cost (cost_number costs (other_start dom k j + cond (ltb j k) (in_pair (dom k) u v) (in_pair (dom j) v u)))) (Some 0)
 
 -- What unit `own` (1 to n) sees in the costs lent with it.
 unfoldable pub lent_view : ValueOrder → ℕ → ℕ → List ℕ → List ℕ → View
@@ -122,7 +122,7 @@ abbrev pub ahead_limit : ℕ
 ahead_limit = 16711425
 
 abbrev pub ahead_cost : ℕ → Cost
-ahead_cost x = cond (leb x ahead_limit) (Of x) Forbidden
+ahead_cost x = cond (leb x ahead_limit) (Some x) None
 
 -- The same view, h of the first values being these numbers. Where they are right it is the view itself: `knowing_sees` of Knowing.
 unfoldable pub knowing : List ℕ → View → View

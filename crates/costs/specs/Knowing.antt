@@ -1,12 +1,12 @@
 -- A view in which h of the first own values is known beforehand: what h is by the numbers, and that with the right ones it is the view itself.
 -- By the tests of the definition; the two views differ in h alone, and there the numbers tell the costs back. Assumes nothing.
-use Rattle.std.specs.Prelude.{◌≡◌, ℕ, suc, ◌-◌, ◌<◌, Bool, true, false, cond, List, [], length, ◌==◌, slice_index, slice_set}
+use Rattle.std.specs.Prelude.{◌≡◌, ℕ, suc, ◌-◌, ◌<◌, Bool, true, false, cond, List, [], length, ◌==◌, slice_index, slice_set, Some, None}
 use Rattle.std.proofs.Math.Path.{refl, ap, fun_ext}
 use Rattle.std.proofs.Common.{◌∙◌, arith, get_or-set_same, get_or-set_other, le-leb, eqb-true}
 use Rattle.std.proofs.lemmas.Bool.{eqb-false}
 use Rattle.base.specs.Shape.{is_value}
 use Rattle.base.specs.Shape.Laws.{value_range}
-use Rattle.costs.specs.Cost.{Cost, Of, Forbidden, as_number}
+use Rattle.costs.specs.Cost.{Cost, as_number}
 use Rattle.costs.specs.Cost.Laws.{AtMost}
 use Rattle.costs.specs.Instance.{View, ahead_limit, ahead_cost, knowing}
 use Rattle.costs.specs.Bounds.{cost_with, h}
@@ -53,8 +53,8 @@ ahead_more w ahead i x long old number most k l = go (k == i) refl
 -- ---- they tell the costs back
 
 told_back : (c : Cost) → AtMost ahead_limit c → ahead_cost (as_number c) ≡ c
-told_back (Of n) most = rw (le-leb n ahead_limit most)
-told_back Forbidden most = refl
+told_back (Some n) most = rw (le-leb n ahead_limit most)
+told_back None most = refl
 
 module _ (w : View) (ahead : List ℕ) (knows : Knows w ahead) where
   same_ahead : (v : ℕ) → cond (is_value (length ahead) v) (ahead_cost (slice_index ahead (v - 1))) (w.ahead v) ≡ w.ahead v

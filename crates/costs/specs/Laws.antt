@@ -4,10 +4,10 @@
 -- and all estimates bound every full assignment, as one value more counts each pair of unassigned units once. It is shown of costs, in
 -- their order (Cost/Laws): a bound that is forbidden leaves no permitted assignment. The problem has them as numbers.
 -- The laws themselves are in proofs/Laws.antt. Assumes nothing.
-use Rattle.std.specs.Prelude.{◌≡◌, ℕ, zero, suc, ◌+◌, ◌-◌, ◌*◌, ◌<◌, ◌≤◌, ◌≢◌, List, [], ◌∷◌, length}
+use Rattle.std.specs.Prelude.{◌≡◌, ℕ, zero, suc, ◌+◌, ◌-◌, ◌*◌, ◌<◌, ◌≤◌, ◌≢◌, List, [], ◌∷◌, length, Some, None}
 use Rattle.std.proofs.Common.{sym, ap, ◌∙◌, subst, arith, mul-le-mul}
 use Rattle.base.specs.Limits.{NONE, pair_limit, unary_limit, total_limit, prefix_limit}
-use Rattle.costs.specs.Cost.{Cost, Of, Forbidden, ◌⊕◌, sum_from, least, as_number}
+use Rattle.costs.specs.Cost.{Cost, ◌⊕◌, sum_from, least, as_number}
 use Rattle.costs.specs.Cost.Laws.{add_assoc, ◌⊑◌, le_refl, le_trans, add_mono, add_more, AtMost, most_add, most_mono, number_most}
 use Rattle.costs.specs.Instance.{Instance}
 use Rattle.costs.specs.Problem.{Problem}
@@ -30,12 +30,12 @@ pub record Sound (I : Instance) : Type 0 where
 module _ (I : Instance) where
   -- the cost of unit j's value v, alone and with the values of the prefix b
   abbrev pub against : ℕ → ℕ → List ℕ → Cost
-  against j v [] = Of (I.unary j v)
+  against j v [] = Some (I.unary j v)
   against j v (u ∷ b) = I.cost (length b) u j v ⊕ against j v b
 
   -- the sum over the values of a prefix and the pairs inside it
   abbrev pub cost_of : List ℕ → Cost
-  cost_of [] = Of 0
+  cost_of [] = Some 0
   cost_of (v ∷ b) = cost_of b ⊕ against (length b) v b
 
   -- h of unit i's value u
@@ -44,7 +44,7 @@ module _ (I : Instance) where
 
   -- the cost of a prefix and h of its last value
   abbrev pub lookahead_of : List ℕ → Cost
-  lookahead_of [] = Of 0
+  lookahead_of [] = Some 0
   lookahead_of (v ∷ b) = cost_of (v ∷ b) ⊕ h_of (length b) v
 
   -- unit j's estimate for a prefix
@@ -101,5 +101,5 @@ module _ (I : Instance) (s : Sound I) where
   full_limit b l = most_mono (prefix_limit (length b)) total_limit (cost_of I b) (limit_total (length b) (omega (arith, s.n16))) (cost_limit b)
 
   -- so a permitted prefix costs a number below NONE
-  pub permitted_below : (b : List ℕ) → length b ≤ I.n → cost_of I b ≢ Forbidden → as_number (cost_of I b) < NONE
+  pub permitted_below : (b : List ℕ) → length b ≤ I.n → cost_of I b ≢ None → as_number (cost_of I b) < NONE
   permitted_below b l h = omega (arith, number_most total_limit (cost_of I b) (full_limit b l) h)

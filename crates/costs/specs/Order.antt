@@ -7,8 +7,8 @@
 --     next, left          the value after one, 0 where there is none; how many values come after it
 -- A value's place is one more than the number of values before it, so nothing is sorted. That each order is a permutation of 1 to d is in Order/Laws.
 -- Assumes nothing.
-use Rattle.std.specs.Prelude.{ℕ, zero, suc, ◌+◌, ◌-◌, Bool, true, false, cond, ltb, eqb}
-use Rattle.costs.specs.{Cost.Cost, Cost.Of, Cost.Forbidden, Instance.View, Bounds.h}
+use Rattle.std.specs.Prelude.{ℕ, zero, suc, ◌+◌, ◌-◌, Bool, true, false, cond, ltb, eqb, Some, None}
+use Rattle.costs.specs.{Cost.Cost, Instance.View, Bounds.h}
 use Rattle.costs.specs.{declared.ValueOrder.ValueOrder, declared.ValueOrder.TheVariants.Ascending, declared.ValueOrder.TheVariants.CheapestFirst}
 pub mod Counted
 pub mod Laws
@@ -21,10 +21,10 @@ default_order = CheapestFirst
 
 -- value u with h c before value v with h d: the lower h, "the lower number first on a tie, values without an h last"
 abbrev pub cheaper : Cost → ℕ → Cost → ℕ → Bool
-cheaper (Of c) u (Of d) v = cond (eqb c d) (ltb u v) (ltb c d)
-cheaper (Of c) u Forbidden v = true
-cheaper Forbidden u (Of d) v = false
-cheaper Forbidden u Forbidden v = ltb u v
+cheaper (Some c) u (Some d) v = cond (eqb c d) (ltb u v) (ltb c d)
+cheaper (Some c) u None v = true
+cheaper None u (Some d) v = false
+cheaper None u None v = ltb u v
 
 unfoldable pub earlier : View → ℕ → ℕ → Bool
 earlier w u v = cheaper (h w u) u (h w v) v

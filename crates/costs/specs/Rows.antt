@@ -1,7 +1,7 @@
 -- The costs of all own values at once, as sums: a row of numbers for each unit, in which what is forbidden counts so much that a sum tells it.
 -- In order: a sum and the cost that it stands for; rows added, one number or four at a time; the sums of a prefix. By cases on what is forbidden, then on numbers.
 -- Assumes nothing.
-use Rattle.std.specs.Prelude.{◌≡◌, ℕ, suc, pred, ◌+◌, ◌-◌, ◌*◌, ◌%◌, ◌^◌, ◌<◌, ◌≤◌, min, Bool, true, false, cond, ◌&&◌, List, length, replicate, ◌==◌, nat_le, nat_lt, slice_index, slice_set}
+use Rattle.std.specs.Prelude.{◌≡◌, ℕ, suc, pred, ◌+◌, ◌-◌, ◌*◌, ◌%◌, ◌^◌, ◌<◌, ◌≤◌, min, Bool, true, false, cond, ◌&&◌, List, length, replicate, ◌==◌, nat_le, nat_lt, slice_index, slice_set, Some, None}
 use Rattle.std.proofs.Math.Path.{refl}
 use Rattle.std.proofs.Common.{sym, ap, ◌∙◌, zero-add, mod-eq_of_lt, arith, length-set, get_or-set_same, get_or-set_other, lt-ltb, le-ltb, le-leb, ltb-true, ltb-false, leb-true, leb-false, eqb-true}
 use Rattle.std.proofs.Math.Bool.{and-false}
@@ -12,7 +12,7 @@ use Rattle.base.specs.Bytes.Laws.{AllBytes}
 use Rattle.base.specs.Limits.{forbidden_pair}
 use Rattle.base.specs.Shape.{is_value}
 use Rattle.base.specs.Shape.Laws.{range_value}
-use Rattle.costs.specs.Cost.{Cost, Of, Forbidden, ◌⊕◌, as_number, pair_cost}
+use Rattle.costs.specs.Cost.{Cost, ◌⊕◌, as_number, pair_cost}
 use Rattle.costs.specs.Cost.Laws.{AtMost, number_not_forbidden}
 use Rattle.costs.specs.declared.Seat.{Seat}
 use Rattle.costs.specs.Instance.{View, in_pair, lent_view, view_from}
@@ -38,7 +38,7 @@ widened-most y l = go (y == forbidden_pair)
     go false = omega arith
 
 abbrev pub sum_cost : ℕ → Cost
-sum_cost x = cond (nat_lt x forbidden_sum) (Of x) Forbidden
+sum_cost x = cond (nat_lt x forbidden_sum) (Some x) None
 
 -- x is the sum of what a value costs, c, alone and with k units
 pub record Summed (k x : ℕ) (c : Cost) : Type 0 where
@@ -46,26 +46,26 @@ pub record Summed (k x : ℕ) (c : Cost) : Type 0 where
   pub most : AtMost (65535 * (k + 1)) c
   pub fits : x ≤ forbidden_sum * (k + 1)
 
-pub summed_unary : (y : ℕ) → y < 65536 → Summed 0 y (Of y)
+pub summed_unary : (y : ℕ) → y < 65536 → Summed 0 y (Some y)
 summed_unary y l = record { told = rw (lt-ltb y forbidden_sum (omega arith)); most = omega arith; fits = omega arith }
 
 -- a unit that has no value costs nothing
-pub summed_same : (k x : ℕ) (c : Cost) → Summed k x c → Summed (k + 1) (x + 0) (c ⊕ Of 0)
-summed_same k x (Of m) s = let z : x + 0 ≡ x = omega arith in let y : m + 0 ≡ m = omega arith in record { told = rw (z, y) s.told; most = omega (arith, s.most); fits = omega (arith, s.fits) }
-summed_same k x Forbidden s = let z : x + 0 ≡ x = omega arith in record { told = rw z s.told; most = tt; fits = omega (arith, s.fits) }
+pub summed_same : (k x : ℕ) (c : Cost) → Summed k x c → Summed (k + 1) (x + 0) (c ⊕ Some 0)
+summed_same k x (Some m) s = let z : x + 0 ≡ x = omega arith in let y : m + 0 ≡ m = omega arith in record { told = rw (z, y) s.told; most = omega (arith, s.most); fits = omega (arith, s.fits) }
+summed_same k x None s = let z : x + 0 ≡ x = omega arith in record { told = rw z s.told; most = tt; fits = omega (arith, s.fits) }
 
 -- a number told is the number itself
-number_told : (x m : ℕ) → sum_cost x ≡ Of m → (x ≡ m) × (x < forbidden_sum)
+number_told : (x m : ℕ) → sum_cost x ≡ Some m → (x ≡ m) × (x < forbidden_sum)
 number_told x m e = go (nat_lt x forbidden_sum) refl e
   where
-    go : (t : Bool) → nat_lt x forbidden_sum ≡ t → cond t (Of x) Forbidden ≡ Of m → (x ≡ m) × (x < forbidden_sum)
+    go : (t : Bool) → nat_lt x forbidden_sum ≡ t → cond t (Some x) None ≡ Some m → (x ≡ m) × (x < forbidden_sum)
     go true q f = (ap as_number f, ltb-true x forbidden_sum q)
     go false q f = absurd (number_not_forbidden m (sym f))
 
-forbidden_told : (x : ℕ) → sum_cost x ≡ Forbidden → forbidden_sum ≤ x
+forbidden_told : (x : ℕ) → sum_cost x ≡ None → forbidden_sum ≤ x
 forbidden_told x e = go (nat_lt x forbidden_sum) refl e
   where
-    go : (t : Bool) → nat_lt x forbidden_sum ≡ t → cond t (Of x) Forbidden ≡ Forbidden → forbidden_sum ≤ x
+    go : (t : Bool) → nat_lt x forbidden_sum ≡ t → cond t (Some x) None ≡ None → forbidden_sum ≤ x
     go true q f = absurd (number_not_forbidden x f)
     go false q f = ltb-false x forbidden_sum q
 
@@ -73,12 +73,12 @@ forbidden_told x e = go (nat_lt x forbidden_sum) refl e
 pub summed_more : (k x : ℕ) (c : Cost) (y : ℕ) → k ≤ 16 → y < 65536 → Summed k x c → Summed (k + 1) (x + widened y) (c ⊕ pair_cost y)
 summed_more k x c y few l s = go (y == forbidden_pair) c s
   where
-    go : (t : Bool) (c : Cost) → Summed k x c → Summed (k + 1) (x + cond t forbidden_sum y) (c ⊕ cond t Forbidden (Of y))
-    go true (Of m) s = record { told = rw (le-ltb (x + forbidden_sum) forbidden_sum (omega arith)); most = tt; fits = omega (arith, s.fits) }
-    go false (Of m) s =
+    go : (t : Bool) (c : Cost) → Summed k x c → Summed (k + 1) (x + cond t forbidden_sum y) (c ⊕ cond t None (Some y))
+    go true (Some m) s = record { told = rw (le-ltb (x + forbidden_sum) forbidden_sum (omega arith)); most = tt; fits = omega (arith, s.fits) }
+    go false (Some m) s =
         let n = number_told x m s.told in
         record { told = rw (lt-ltb (x + y) forbidden_sum (omega (arith, n.0, s.most)), n.0); most = omega (arith, s.most); fits = omega (arith, s.fits) }
-    go t Forbidden s = record { told = rw (le-ltb (x + cond t forbidden_sum y) forbidden_sum (omega (arith, forbidden_told x s.told))); most = tt; fits = part t }
+    go t None s = record { told = rw (le-ltb (x + cond t forbidden_sum y) forbidden_sum (omega (arith, forbidden_told x s.told))); most = tt; fits = part t }
       where
         part : (t : Bool) → x + cond t forbidden_sum y ≤ forbidden_sum * (k + 1 + 1)
         part true = omega (arith, s.fits)
@@ -206,7 +206,7 @@ module _ (seat : Seat) (costs values : List ℕ) where
   sums_none sums bytes e i l b =
       let value : is_value (dom_from seat (pred seat.own)) (suc i) ≡ true = range_value (dom_from seat (pred seat.own)) (suc i) (omega arith) (omega (arith, b, dom_is)) in
       let same : suc i - 1 ≡ i = omega arith in
-      let is : cost_with (view_from seat costs) values 0 (suc i) ≡ Of (u16_at costs (2 * i)) = cost_none (view_from seat costs) values (suc i) ∙ ap Of (unary_from seat costs (suc i) ∙ rw (value, same)) in
+      let is : cost_with (view_from seat costs) values 0 (suc i) ≡ Some (u16_at costs (2 * i)) = cost_none (view_from seat costs) values (suc i) ∙ ap Some (unary_from seat costs (suc i) ∙ rw (value, same)) in
       rw (is, e i l (omega (arith, b, dom_is))) (summed_unary (u16_at costs (2 * i)) (omega (arith, bytes (2 * i), bytes (2 * i + 1))))
 
   -- one unit more
@@ -228,7 +228,7 @@ module _ (seat : Seat) (costs values : List ℕ) where
           pair_from_lem seat costs j (slice_index values j) (suc i) ∙ rw (← is-d, ← is-e, ← is-u) (pair_lower costs (pred seat.own) j d e (others_before seat j) u (suc i) below q own ∙ ap (λ x. pair_cost (u16_at costs x)) same) in
           rw cost (summed_more j (slice_index sums i) (cost_with (view_from seat costs) values j (suc i)) number few (omega (arith, bytes (at + 2 * ((u - 1) * d) + 2 * i), bytes (at + 2 * ((u - 1) * d) + 2 * i + 1))) (old i l b))
       go false q own =
-          let cost : (view_from seat costs).pair j (slice_index values j) (suc i) ≡ Of 0 =
+          let cost : (view_from seat costs).pair j (slice_index values j) (suc i) ≡ Some 0 =
           pair_from_lem seat costs j (slice_index values j) (suc i) ∙ rw (← is-d, ← is-e, ← is-u) (pair_no_other costs (pred seat.own) j d e (others_before seat j) u (suc i) (λ z. omega arith) q) in
           rw cost (summed_same j (slice_index sums i) (cost_with (view_from seat costs) values j (suc i)) (old i l b))
 

@@ -1,6 +1,6 @@
 -- How the cost of a value, alone and with the values before it, is read straight out of a stream: its unary cost, then where the costs of the next
 -- pair start, counted along. By taking the table's definition apart at one value and at one pair. Assumes nothing.
-use Rattle.std.specs.Prelude.{◌≡◌, ℕ, suc, ◌+◌, ◌-◌, ◌*◌, ◌<◌, ◌≤◌, Bool, true, false, cond, List, nat_lt, slice_index, refl}
+use Rattle.std.specs.Prelude.{◌≡◌, ℕ, suc, ◌+◌, ◌-◌, ◌*◌, ◌<◌, ◌≤◌, Bool, true, false, cond, List, nat_lt, slice_index, refl, Some, None}
 use Rattle.std.proofs.Common.{sym, ap, ◌∙◌, add-one, arith, mul-le-mul, lt-ltb, ltb-true, ltb-false}
 use Rattle.std.proofs.Math.Bool.{and-false, and-true}
 use Rattle.std.proofs.Math.Nat.{sub-zero}
@@ -9,7 +9,7 @@ use Rattle.base.specs.Sums.{sum_from, sum_to}
 use Rattle.base.specs.Sums.Laws.{sum_to_sum_from}
 use Rattle.table.specs.Stream.{in_form_two, units_of, after_units, unaries_at, pairs_at}
 use Rattle.base.specs.Shape.{is_value}
-use Rattle.costs.specs.Cost.{Cost, Of, Forbidden, pair_cost}
+use Rattle.costs.specs.Cost.{Cost, pair_cost}
 use Rattle.costs.specs.Cost.Laws.{sums_zero}
 use Rattle.costs.specs.Instance.{in_pair, cost_number, pair_start, table_unary, table_cost, view_of, instance_of, dom_of}
 use Rattle.costs.specs.Laws.Stream.{unaries_from, costs_of, row_start, unary_number_at, cost_number_at}
@@ -29,7 +29,7 @@ value_inside s k v e = go (nat_lt k (units_of s)) refl
         omega arith
 
 -- what is no value costs nothing
-pub no_own-cost : (s values : List ℕ) (k v : ℕ) → is_value (dom_of s k) v ≡ false → cost_with (view_of (instance_of s) k) values k v ≡ Of 0
+pub no_own-cost : (s values : List ℕ) (k v : ℕ) → is_value (dom_of s k) v ≡ false → cost_with (view_of (instance_of s) k) values k v ≡ Some 0
 unfolding cost_with instance_of
 no_own-cost s values k v none = rw (no_unary_lem (in_form_two s), sums_zero (λ j. (view_of (instance_of s) k).pair j (slice_index values j) v) k (λ j. no_pair (nat_lt j k) j))
   where
@@ -38,7 +38,7 @@ no_own-cost s values k v none = rw (no_unary_lem (in_form_two s), sums_zero (λ 
     no_unary_lem false = refl
 
     no_pair : (t : Bool) (j : ℕ)
-        → cond t (table_cost (units_of s) (dom_of s) (costs_of s) j (slice_index values j) k v) (table_cost (units_of s) (dom_of s) (costs_of s) k v j (slice_index values j)) ≡ Of 0
+        → cond t (table_cost (units_of s) (dom_of s) (costs_of s) j (slice_index values j) k v) (table_cost (units_of s) (dom_of s) (costs_of s) k v j (slice_index values j)) ≡ Some 0
     no_pair true j = simp (none, and-false)
     no_pair false j = simp (none, and-false)
 
@@ -52,7 +52,7 @@ stream_unary_lem s k v before own sum =
 
 -- the cost of own value v with value u of the unit at place j, before it
 pub stream_pair : (s : List ℕ) (k j u v from : ℕ) → is_value (dom_of s k) v ≡ true → j < k → from ≡ pairs_at s + 2 * pair_start (dom_of s) (units_of s) j k
-    → (view_of (instance_of s) k).pair j u v ≡ cond (is_value (dom_of s j) u) (pair_cost (u16_at s (from + 2 * in_pair (dom_of s k) u v))) (Of 0)
+    → (view_of (instance_of s) k).pair j u v ≡ cond (is_value (dom_of s j) u) (pair_cost (u16_at s (from + 2 * in_pair (dom_of s k) u v))) (Some 0)
 unfolding instance_of
 stream_pair s k j u v from own h start =
     let x : ℕ = pair_start (dom_of s) (units_of s) j k + in_pair (dom_of s k) u v in
@@ -73,7 +73,7 @@ pub record Running (s values : List ℕ) (place v later between row sum j : ℕ)
   pub later_sizes : later ≡ sum_from (dom_of s) j (units_of s - j)
   pub between_sizes : between ≡ sum_from (dom_of s) j (place - j)
   pub row-start : row ≡ row_start (dom_of s) (units_of s) j
-  pub cost_so_far : Of sum ≡ cost_with (view_of (instance_of s) place) values j v
+  pub cost_so_far : Some sum ≡ cost_with (view_of (instance_of s) place) values j v
   pub later_most : later ≤ 65025
   pub between_most : between ≤ 65025
   pub row-most : row ≤ 16581375 * j
@@ -87,7 +87,7 @@ module _ (s values : List ℕ) (place v : ℕ) where
     later_sizes = rw sub-zero a;
     between_sizes = rw sub-zero b;
     row-start = refl;
-    cost_so_far = sym (cost_none (view_of (instance_of s) place) values v ∙ ap Of unary);
+    cost_so_far = sym (cost_none (view_of (instance_of s) place) values v ∙ ap Some unary);
     later_most = omega arith;
     between_most = omega arith;
     row-most = omega arith;
@@ -129,16 +129,16 @@ module _ {s values : List ℕ} {place v later between row sum j e : ℕ} (t : Tu
 
   -- the cost of the pair
   pub pair_here : (c : Cost)
-      → c ≡ cond (is_value e (slice_index values j)) (pair_cost (u16_at s (pairs_at s + 2 * (row + e * (between - e)) + 2 * in_pair (dom_of s place) (slice_index values j) v))) (Of 0)
+      → c ≡ cond (is_value e (slice_index values j)) (pair_cost (u16_at s (pairs_at s + 2 * (row + e * (between - e)) + 2 * in_pair (dom_of s place) (slice_index values j) v))) (Some 0)
       → (view_of (instance_of s) place).pair j (slice_index values j) v ≡ c
   pair_here c is =
       let from : pairs_at s + 2 * (row + e * (between - e)) ≡ pairs_at s + 2 * pair_start (dom_of s) (units_of s) j place = ap (λ (x : ℕ). pairs_at s + 2 * x) pair_begins in
       stream_pair s place j (slice_index values j) v (pairs_at s + 2 * (row + e * (between - e))) t.own t.more from
-      ∙ ap (λ (x : ℕ). cond (is_value x (slice_index values j)) (pair_cost (u16_at s (pairs_at s + 2 * (row + e * (between - e)) + 2 * in_pair (dom_of s place) (slice_index values j) v))) (Of 0)) (sym t.size)
+      ∙ ap (λ (x : ℕ). cond (is_value x (slice_index values j)) (pair_cost (u16_at s (pairs_at s + 2 * (row + e * (between - e)) + 2 * in_pair (dom_of s place) (slice_index values j) v))) (Some 0)) (sym t.size)
       ∙ sym is
 
   -- it is a number
-  pub running-next : (paid : ℕ) → paid < 65536 → (view_of (instance_of s) place).pair j (slice_index values j) v ≡ Of paid
+  pub running-next : (paid : ℕ) → paid < 65536 → (view_of (instance_of s) place).pair j (slice_index values j) v ≡ Some paid
       → Running s values place v (later - e) (between - e) (row + e * (later - e)) (sum + paid) (j + 1)
   running-next paid small is =
       let a : later - e ≡ sum_from (dom_of s) (suc j) (units_of s - suc j) = omega (arith, later_after) in
@@ -156,5 +156,5 @@ module _ {s values : List ℕ} {place v later between row sum j e : ℕ} (t : Tu
       }
 
   -- it is forbidden
-  pub running_stops : (view_of (instance_of s) place).pair j (slice_index values j) v ≡ Forbidden → cost_with (view_of (instance_of s) place) values place v ≡ Forbidden
+  pub running_stops : (view_of (instance_of s) place).pair j (slice_index values j) v ≡ None → cost_with (view_of (instance_of s) place) values place v ≡ None
   running_stops is = cost_forbidden (view_of (instance_of s) place) values j place v t.more is

@@ -1,16 +1,16 @@
 -- The stream, of form one, of an instance whose unary costs are zero. 01: "n, then n sizes, then for pairs (1,2), (1,3) .. (n-1,n) the costs as
 -- 16-bit numbers, by the value of the lower unit, then of the higher." Nobody has to believe it: Streamed/Laws shows that it is accepted, and
 -- that its instance is the one it was made of. Assumes nothing.
-use Rattle.std.specs.Prelude.{ℕ, suc, ◌+◌, ◌-◌, List, [], ◌∷◌, ◌++◌}
+use Rattle.std.specs.Prelude.{ℕ, suc, ◌+◌, ◌-◌, List, [], ◌∷◌, ◌++◌, Some, None}
 use Rattle.base.specs.{Bytes.le16, Join.join_to, Limits.forbidden_pair}
-use Rattle.costs.specs.Cost.{Cost, Of, Forbidden}
+use Rattle.costs.specs.Cost.{Cost}
 use Rattle.costs.specs.Instance.{Instance}
 pub mod Laws
 
 -- the number that a cost stands in a table as
 abbrev pub pair_number : Cost → ℕ
-pair_number (Of x) = x
-pair_number Forbidden = forbidden_pair
+pair_number (Some x) = x
+pair_number None = forbidden_pair
 
 -- the costs of value u + 1 of unit i with each value of unit j
 abbrev pub row_costs : Instance → ℕ → ℕ → ℕ → List ℕ

@@ -4,53 +4,43 @@ ghost use Rattle.std.specs.Prelude.{◌≡◌, ℕ, suc, pred, ◌+◌, ◌*◌,
 ghost use Rattle.base.specs.Bytes.{u16_at};
 ghost use Rattle.base.specs.Limits.{places};
 ghost use Rattle.costs.specs.Cost.{◌⊕◌, as_number};
+ghost use Rattle.costs.specs.Cost.Laws.{AtMost};
 ghost use Rattle.costs.specs.Instance.{dom_in, view_from, view_knowing};
 ghost use Rattle.costs.specs.Bounds.{h, estimate};
 ghost use Rattle.costs.specs.Lent.Parts.{dom_from};
 ghost use Rattle.costs.specs.Rows.{widened, sum_cost, Added, Small, four_added, Sums, unit_row, paid_number};
 
-use crate::{Cost, FORBIDDEN_SUM, Seat, known_h, lesser, place_of, size_of};
-use base::{is_value, wide};
+use crate::{Cost, FORBIDDEN_SUM, Seat, as_number, known_h, size_in};
+use base::{PLACES, is_value};
 
 // The cost of each own value, of the first 16, alone and with the values of the units before, as a number: value v's at place v - 1, NONE where it
 // is forbidden, 0 where there is no such value.
 pub fn paid(seat: Seat, costs: &[u8], values: [u8; 16]) -> [u32; 16]
     ensures { (i : ℕ) → i < places → slice_index result i ≡ paid_number (view_from seat costs.now) values (min (pred seat.own) places) (suc i) }
 {
-    let place = place_of(seat);
-    let most = at_most_16(size_of(seat, place));
+    let place = seat.place();
+    let most = seat.size_of(place).min(PLACES);
     let mut sums = [0u32; 16];
-    prefix_sums(seat, costs, values, at_most_16(place), &mut sums);
+    prefix_sums(seat, costs, values, place.min(PLACES), &mut sums);
     let mut paid = [0u32; 16];
-    let mut i = 0;
-    while i < most {
-        paid[i] = number_told(sums[i]);
-        i += 1;
+    for i in 0..most {
+        paid[i] = as_number(sum_cost(sums[i]));
     }
     paid
 }
 
-// The number that a sum tells, NONE where it is forbidden.
-fn number_told(sum: u32) -> u32
-    ensures { result ≡ as_number (sum_cost sum) }
+// The cost that a sum stands for.
+fn sum_cost(sum: u32) -> Cost
+    ensures { (result ≡ sum_cost sum) × AtMost 16777215 result }
 {
-    if FORBIDDEN_SUM <= sum {
-        return base::NONE;
-    }
-    sum
+    (sum < FORBIDDEN_SUM).then_some(sum)
 }
 
 // Whether the costs with the first k units, for d own values, stand in rows and in 16 places.
 pub(crate) fn in_rows(place: usize, k: usize, d: usize) -> bool
     ensures { result ≡ (nat_le k place && nat_le k places && nat_le d places) }
 {
-    if place < k {
-        return false;
-    }
-    if 16 < k {
-        return false;
-    }
-    d <= 16
+    k <= place && k <= PLACES && d <= PLACES
 }
 
 // The least of the d sums, each with its h; NONE where all are forbidden.
@@ -59,25 +49,19 @@ pub(crate) fn least_sum(seat: Seat, costs: &[u8], ahead: &[u32], sums: &[u32], d
     ensures { (values : List ℕ) (k : ℕ) → Sums (view_from seat costs.now) values k sums.now → result ≡ as_number (estimate (view_knowing seat costs.now ahead.now) values k) }
 {
     let mut best = base::NONE;
-    let mut i = 0;
-    while i < d {
-        best = lesser(best, with_h(seat, costs, ahead, sums[i], i + 1));
-        i += 1;
+    for i in 0..d {
+        best = best.min(as_number(with_h(seat, costs, ahead, sums[i], i + 1)));
     }
     best
 }
 
-// The sum of own value v and its h, NONE where either is forbidden.
-fn with_h(seat: Seat, costs: &[u8], ahead: &[u32], sum: u32, v: usize) -> u32
-    ensures { result ≡ as_number (sum_cost sum ⊕ h (view_knowing seat costs.now ahead.now) v) }
+// The cost that a sum of own value v stands for, and its h.
+fn with_h(seat: Seat, costs: &[u8], ahead: &[u32], sum: u32, v: usize) -> Cost
+    ensures { result ≡ sum_cost sum ⊕ h (view_knowing seat costs.now ahead.now) v }
 {
-    if FORBIDDEN_SUM <= sum {
-        return base::NONE;
-    }
-    let Cost::Of(later) = known_h(seat, costs, ahead, v) else {
-        return base::NONE;
-    };
-    sum + later
+    let cost = sum_cost(sum)?;
+    let later = known_h(seat, costs, ahead, v)?;
+    Some(cost + later)
 }
 
 // The costs of the own values, of the first 16, alone and with the values of the first k units, each as a sum in which what is forbidden counts
@@ -87,40 +71,17 @@ pub(crate) fn prefix_sums(seat: Seat, costs: &[u8], values: [u8; 16], k: usize, 
     requires { (k ≤ pred seat.own) × (k ≤ places) × (places ≤ length sums.old) }
     ensures { Sums (view_from seat costs.now) values k sums.new }
 {
-    let d = size_of(seat, place_of(seat));
-    let most = at_most_16(d);
+    let d = seat.size_of(seat.place());
+    let most = d.min(PLACES);
     put_unaries(sums, costs, most);
     let sizes = seat.sizes;
     let mut at = 2 * d;
-    let mut j = 0;
-    while j < k {
+    for j in 0..k {
         let e = size_in(&sizes, seat.n, j);
-        let u = wide(values[j]);
+        let u = usize::from(values[j]);
         add_unit(sums, costs, at, d, e, u, most);
         at += 2 * (d * e);
-        j += 1;
     }
-}
-
-// The size of the unit at place b, of these sizes of n units; 0 where there is no such unit.
-fn size_in(sizes: &[u8], n: u8, b: usize) -> usize
-    requires { b < length sizes.now }
-    ensures { (result ≡ dom_in n sizes.now b) × (result ≤ 255) }
-{
-    if wide(n) <= b {
-        return 0;
-    }
-    wide(sizes[b])
-}
-
-// A number, 16 at most.
-fn at_most_16(d: usize) -> usize
-    ensures { result ≡ min d places }
-{
-    if d <= 16 {
-        return d;
-    }
-    16
 }
 
 // The unary costs of the first `most` own values are written.
@@ -128,11 +89,9 @@ fn put_unaries(sums: &mut [u32], costs: &[u8], most: usize)
     requires { (most ≤ length sums.old) × (most ≤ places) }
     ensures { (i : ℕ) → i < most → slice_index sums.new i ≡ u16_at costs.now (2 * i) }
 {
-    let there = are_there(costs, 2 * most);
-    let mut i = 0;
-    while i < most {
+    let there = 2 * most <= costs.len();
+    for i in 0..most {
         sums[i] = number_at(costs, 2 * i, there);
-        i += 1;
     }
 }
 
@@ -141,10 +100,9 @@ fn add_unit(sums: &mut [u32], costs: &[u8], at: usize, d: usize, e: usize, u: us
     requires { (places ≤ length sums.old) × Small most sums.old × (most ≤ places) × (at ≤ 16777216) × (d ≤ 255) × (u ≤ 255) }
     ensures { Added most (unit_row costs.now at d e u) sums.old sums.new }
 {
-    if !is_value(e, u) {
-        return;
+    if is_value(e, u) {
+        add_row(sums, costs, at + 2 * ((u - 1) * d), most);
     }
-    add_row(sums, costs, at + 2 * ((u - 1) * d), most);
 }
 
 // The row of costs that begins at byte `at` is added: four at a time, where three costs more are there behind it.
@@ -152,11 +110,11 @@ fn add_row(sums: &mut [u32], costs: &[u8], at: usize, most: usize)
     requires { (places ≤ length sums.old) × Small most sums.old × (most ≤ places) × (at ≤ 33554432) }
     ensures { Added most (λ (i : ℕ). widened (u16_at costs.now (at + 2 * i))) sums.old sums.new }
 {
-    if are_there(costs, at + 2 * most + 6) {
+    if at + 2 * most + 6 <= costs.len() {
         add_fours(sums, costs, at, most);
-        return;
+    } else {
+        add_each(sums, costs, at, most);
     }
-    add_each(sums, costs, at, most);
 }
 
 // Four costs at a time. Those behind the row are added to sums that nobody asks for.
@@ -164,10 +122,8 @@ fn add_fours(sums: &mut [u32], costs: &[u8], at: usize, most: usize)
     requires { (places ≤ length sums.old) × Small most sums.old × (most ≤ places) × (at ≤ 33554432) × (at + 2 * most + 6 ≤ length costs.now) }
     ensures { Added most (λ (i : ℕ). widened (u16_at costs.now (at + 2 * i))) sums.old sums.new }
 {
-    let mut i = 0;
-    while i < most {
-        add_four(sums, costs, at + 2 * i, i);
-        i += 4;
+    for four in 0..most.div_ceil(4) {
+        add_four(sums, costs, at + 8 * four, 4 * four);
     }
 }
 
@@ -181,10 +137,10 @@ fn add_four(sums: &mut [u32], costs: &[u8], at: usize, i: usize)
     let second = in_sum(number_at(costs, at + 2, true));
     let third = in_sum(number_at(costs, at + 4, true));
     let fourth = in_sum(number_at(costs, at + 6, true));
-    sums[i] = std::num::wrapping_add_u32(sums[i], first);
-    sums[i + 1] = std::num::wrapping_add_u32(sums[i + 1], second);
-    sums[i + 2] = std::num::wrapping_add_u32(sums[i + 2], third);
-    sums[i + 3] = std::num::wrapping_add_u32(sums[i + 3], fourth);
+    sums[i] = sums[i].wrapping_add(first);
+    sums[i + 1] = sums[i + 1].wrapping_add(second);
+    sums[i + 2] = sums[i + 2].wrapping_add(third);
+    sums[i + 3] = sums[i + 3].wrapping_add(fourth);
 }
 
 // One cost at a time; bytes past the end count as 0.
@@ -192,18 +148,9 @@ fn add_each(sums: &mut [u32], costs: &[u8], at: usize, most: usize)
     requires { (most ≤ length sums.old) × Small most sums.old × (most ≤ places) × (at ≤ 33554432) }
     ensures { Added most (λ (i : ℕ). widened (u16_at costs.now (at + 2 * i))) sums.old sums.new }
 {
-    let mut i = 0;
-    while i < most {
-        sums[i] = sums[i] + in_sum(base::u16_at(costs, at + 2 * i));
-        i += 1;
+    for i in 0..most {
+        sums[i] += in_sum(base::u16_at(costs, at + 2 * i));
     }
-}
-
-// Whether the bytes before `end` are there.
-fn are_there(costs: &[u8], end: usize) -> bool
-    ensures { result ≡ nat_le end (length costs.now) }
-{
-    end <= costs.len()
 }
 
 // The 16-bit number at byte k; bytes past the end count as 0. Where it is known to be there it is read without a test.
@@ -212,7 +159,7 @@ fn number_at(costs: &[u8], k: usize, there: bool) -> u32
     ensures { (result ≡ u16_at costs.now k) × (result < 65536) }
 {
     if there {
-        return base::wide_u32(costs[k]) + 256 * base::wide_u32(costs[k + 1]);
+        return u32::from(costs[k]) + 256 * u32::from(costs[k + 1]);
     }
     base::u16_at(costs, k)
 }
@@ -223,7 +170,8 @@ fn in_sum(number: u32) -> u32
     ensures { (result ≡ widened number) × (result ≤ 16777216) }
 {
     if number == base::FORBIDDEN_PAIR {
-        return FORBIDDEN_SUM;
+        FORBIDDEN_SUM
+    } else {
+        number
     }
-    number
 }

@@ -14,8 +14,7 @@ use borrow.Author.Tests.{ltb-true, ltb-false, lt-ltb, le-ltb, leb-true, leb-fals
 use Rattle.base.specs.Limits.{NONE}
 use Rattle.costs.specs.declared.Seat.{Seat}
 use Rattle.costs.specs.declared.ValueOrder.TheVariants.{Ascending, CheapestFirst}
-use Rattle.costs.specs.declared.Cost.{Cost}
-use Rattle.costs.specs.Cost.{as_number}
+use Rattle.costs.specs.Cost.{Cost, as_number}
 use Rattle.costs.specs.Cost.Laws.{AtMost}
 use Rattle.costs.specs.Instance.{View, view_knowing}
 use Rattle.costs.specs.Bounds.{h}

@@ -1,5 +1,6 @@
 -- The view of a unit from what is lent with it: its place, the number of units, its own domain size and value.
 -- By computing. Assumes nothing.
+use Rattle.std.specs.Prelude.{Some}
 use Prim.Native.Nat.{ℕ, zero, suc, pred, min, ◌-◌, ◌≤◌, ◌<◌}
 use native.Mathlib.Omega.{arith}
 use mathlib.Core.Path.{◌≡◌, refl, sym, ap, ◌∙◌}
@@ -8,7 +9,6 @@ use mathlib.Core.List.{List}
 use lib.ListN.{get_or}
 use lib.Seq.{get_or-take}
 use Rattle.costs.specs.declared.Seat.{Seat}
-use Rattle.costs.specs.declared.Cost.TheVariants.{Of}
 use Rattle.costs.specs.Cost.{sum_to, as_number}
 use Rattle.costs.specs.Instance.{View, lent_view, view_from, knowing, view_knowing}
 use Rattle.costs.specs.Bounds.{cost_with}
@@ -45,12 +45,12 @@ module _ (seat : Seat) (costs ahead : List ℕ) where
   value_lent u = ap (λ (k : ℕ). get_or u.values k 0) place-lent
 
   -- without a value there is nothing to pay
-  none_paired : (l : List ℕ) (k : ℕ) → sum_to (λ j. (view_knowing seat costs ahead).pair j (get_or l j 0) 0) k ≡ Of 0
+  none_paired : (l : List ℕ) (k : ℕ) → sum_to (λ j. (view_knowing seat costs ahead).pair j (get_or l j 0) 0) k ≡ Some 0
   unfolding knowing lent_view
   none_paired l zero = refl
   none_paired l (suc k) = rw (none_paired l k) (simp and-false)
 
-  none_paid : (l : List ℕ) (k : ℕ) → cost_with (view_knowing seat costs ahead) l k 0 ≡ Of 0
+  none_paid : (l : List ℕ) (k : ℕ) → cost_with (view_knowing seat costs ahead) l k 0 ≡ Some 0
   unfolding cost_with knowing lent_view
   none_paid l k = rw (none_paired l k)
 

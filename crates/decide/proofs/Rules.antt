@@ -21,9 +21,10 @@ use Rattle.message.specs.declared.Message.{Message}
 use Rattle.message.specs.declared.Kind.{Kind}
 use Rattle.rules.specs.declared.Unit.{Unit}
 use Rattle.rules.specs.declared.Held.{Held}
-use Rattle.rules.specs.declared.Ordering.{Ordering}
-use Rattle.rules.specs.declared.Ordering.TheVariants.{Less, Equal, Greater}
-use Rattle.rules.specs.State.{zeros, fresh, with_threshold, with_cpa, own_value, own_cost, compare_on, same_on, not_less}
+use Rattle.std.specs.declared.cmp.Ordering.{Ordering}
+use Rattle.std.specs.declared.cmp.Ordering.TheVariants.{Less, Equal, Greater}
+use Rattle.std.specs.Ordering.{is_lt}
+use Rattle.rules.specs.State.{zeros, fresh, with_threshold, with_cpa, own_value, own_cost, compare_on, same_on}
 use Rattle.rules.specs.Step.{refused, quiet, take_bound, bare_cost, take_off, backtrack, try_after, begun, assign, resume, received, on_down, is_out, is_cpa_out, on_back, on_cpa, on_fresh, on_request, on_own_estimate, on_timely, on_estimate, by_kind, respond}
 use Rattle.rules.specs.Tests.{holding, stored, sum_later, on_own, take_lower, reached_by_estimates, unless_stopped}
 use Rattle.rules.specs.Calls.{start}
@@ -127,13 +128,13 @@ pub cpa_out : (w : View) (u : Unit) (m : Message) (own : ℕ) (stamps values : B
     → (stamps && values && eqb m.cost u.cost) ≡ is_cpa_out w u m
 cpa_out w u m own stamps values o e f = rw (e, f, ← o)
 
-pub back_stale : (w : View) (o : Ordering) (u : Unit) (m : Message) → not_less o ≡ false → quiet u ≡ on_back w o u m
+pub back_stale : (w : View) (o : Ordering) (u : Unit) (m : Message) → is_lt o ≡ true → quiet u ≡ on_back w o u m
 back_stale w Less u m e = refl
-back_stale w Equal u m e = absurd (false≢true (sym e))
-back_stale w Greater u m e = absurd (false≢true (sym e))
+back_stale w Equal u m e = absurd (false≢true e)
+back_stale w Greater u m e = absurd (false≢true e)
 
-pub back_own : (w : View) (o : Ordering) (u : Unit) (m : Message) → not_less o ≡ true → on_own w (is_cpa_out w u m) u m ≡ on_back w o u m
-back_own w Less u m e = absurd (false≢true e)
+pub back_own : (w : View) (o : Ordering) (u : Unit) (m : Message) → is_lt o ≡ false → on_own w (is_cpa_out w u m) u m ≡ on_back w o u m
+back_own w Less u m e = absurd (false≢true (sym e))
 back_own w Equal u m e = refl
 back_own w Greater u m e = refl
 

@@ -1,5 +1,6 @@
 -- One turn of trying values: what `try_after` gives by the value that comes next, by whether it is written and by whom.
 -- By the clauses of `try_after`, each test decided by a sum of numbers. Assumes nothing.
+use Rattle.std.specs.Prelude.{Some, None}
 use Prim.Native.Nat.{ℕ, suc, ◌+◌, ◌-◌, ◌≤◌, ◌<◌}
 use native.Mathlib.Omega.{arith}
 use mathlib.Core.Path.{◌≡◌, refl, sym, ap, ◌∙◌}
@@ -10,9 +11,7 @@ use lib.ListN.{length, get_or, set}
 use lib.Seq.{set-set, set-get_or}
 use borrow.Author.Tests.{lt-ltb, le-ltb, eq-eqb, ne_eqb}
 use Rattle.base.specs.Limits.{NONE}
-use Rattle.costs.specs.declared.Cost.{Cost}
-use Rattle.costs.specs.declared.Cost.TheVariants.{Of, Forbidden}
-use Rattle.costs.specs.Cost.{◌⊕◌, below, as_number}
+use Rattle.costs.specs.Cost.{Cost, ◌⊕◌, below, as_number}
 use Rattle.costs.specs.Instance.{View}
 use Rattle.costs.specs.Bounds.{cost_with, h}
 use Rattle.costs.specs.Order.{next, left}
@@ -35,14 +34,14 @@ counted_more k was r (accepted u s ws) = let e : k + suc (length ws) ≡ k + 1 +
 
 -- ---- the test of a value: NONE, for what is forbidden, reaches every bound
 
-below_sum : (x : ℕ) (c d : Cost) (B : ℕ) → B ≤ NONE → below (Of x ⊕ c ⊕ d) B ≡ ltb (x + as_number c + as_number d) B
-below_sum x (Of p) (Of a) B l = refl
-below_sum x (Of p) Forbidden B l = sym (le-ltb (x + p + NONE) B (omega arith))
-below_sum x Forbidden d B l = sym (le-ltb (x + NONE + as_number d) B (omega arith))
+below_sum : (x : ℕ) (c d : Cost) (B : ℕ) → B ≤ NONE → below (Some x ⊕ c ⊕ d) B ≡ ltb (x + as_number c + as_number d) B
+below_sum x (Some p) (Some a) B l = refl
+below_sum x (Some p) None B l = sym (le-ltb (x + p + NONE) B (omega arith))
+below_sum x None d B l = sym (le-ltb (x + NONE + as_number d) B (omega arith))
 
-number_sum : (x : ℕ) (c : Cost) → x + as_number c < NONE → as_number (Of x ⊕ c) ≡ x + as_number c
-number_sum x (Of p) l = refl
-number_sum x Forbidden l = absurd (omega arith)
+number_sum : (x : ℕ) (c : Cost) → x + as_number c < NONE → as_number (Some x ⊕ c) ≡ x + as_number c
+number_sum x (Some p) l = refl
+number_sum x None l = absurd (omega arith)
 
 -- ---- unit n writes a value and has it off again: the CPA in hand is as it was, the cost too, as it was bare and what the value costs
 

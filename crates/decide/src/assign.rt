@@ -22,8 +22,7 @@ pub(crate) fn assign(seat: Seat, costs: &[u8], ahead: &[u32], t: Held) -> Decide
     requires { Shaped seat × Ready seat (holding t zeros) }
     ensures { (was : Unit) (e : List ℕ) → result ≡ decided_of was (assign (view_knowing seat costs.now ahead.now) (holding t e)) }
 {
-    let values = t.values;
-    let paid = costs::paid(seat, costs, values);
+    let paid = costs::paid(seat, costs, t.values);
     assign_paid(seat, costs, ahead, paid, t)
 }
 
@@ -38,8 +37,7 @@ pub(crate) fn assign_paid(
     requires { Shaped seat × Ready seat (holding t zeros) × Paid (view_knowing seat costs.now ahead.now) t.values paid }
     ensures { (was : Unit) (e : List ℕ) → result ≡ decided_of was (assign (view_knowing seat costs.now ahead.now) (holding t e)) }
 {
-    let values = t.values;
-    let value = values[(seat.own - 1) as usize];
+    let value = t.values[usize::from(seat.own - 1)];
     let s = begin(seat.own, of_value(value, paid), t);
     try_after(seat, costs, ahead, paid, value, s)
 }
@@ -50,9 +48,10 @@ pub(crate) fn of_value(value: u8, numbers: [u32; 16]) -> u32
     ensures { (value ≡ 0 → result ≡ 0) × (1 ≤ value → result ≡ get_or numbers (value - 1) 0) }
 {
     if value == 0 {
-        return 0;
+        0
+    } else {
+        numbers[usize::from(value - 1)]
     }
-    numbers[(value - 1) as usize]
 }
 
 // The counter as assigning begins, 0 with no own value; and the own value off, which costs `paid`.
@@ -60,11 +59,12 @@ fn begin(own: u8, paid: u32, t: Held) -> Held
     requires { Own own }
     ensures { (w : View) (e : List ℕ) → suc w.place ≡ own → paid ≡ own_cost w (holding t e) → holding result zeros ≡ begun w (holding t e) }
 {
-    let mut s = take_off(own, paid, t);
-    if t.values[(own - 1) as usize] == 0 {
-        s.counter = 0;
+    let s = take_off(own, paid, t);
+    if t.values[usize::from(own - 1)] == 0 {
+        Held { counter: 0, ..s }
+    } else {
+        s
     }
-    s
 }
 
 // Try the values after `from`, in the order of the seat; the own value is off. Sums are wide, so that none wraps; NONE, for what is forbidden,
@@ -83,8 +83,7 @@ fn try_after(seat: Seat, costs: &[u8], ahead: &[u32], paid: [u32; 16], from: u8,
         if v == 0 {
             return backtrack(seat.own, improved, records, t);
         }
-        let place = (v - 1) as usize;
-        let cost = base::wide_u64(t.cost) + base::wide_u64(paid[place]);
+        let cost = sum(t.cost, paid[usize::from(v - 1)]);
         if below_bound(seat, costs, ahead, v, cost, t.bound) {
             records += 1;
             if seat.own != seat.n {
@@ -96,16 +95,20 @@ fn try_after(seat: Seat, costs: &[u8], ahead: &[u32], paid: [u32; 16], from: u8,
     }
 }
 
+// Two costs together.
+fn sum(a: u32, b: u32) -> u64
+    ensures { (result ≡ a + b) × (result ≤ 8589934590) }
+{
+    u64::from(a) + u64::from(b)
+}
+
 // Whether this cost with own value v, and h, stay below the bound. h is asked for only where the cost does.
 fn below_bound(seat: Seat, costs: &[u8], ahead: &[u32], v: u8, cost: u64, bound: u32) -> bool
     requires { cost ≤ 8589934590 }
     ensures { (result ≡ ltb (cost + as_number (h (view_knowing seat costs.now ahead.now) v)) bound) × (bound ≤ NONE) }
 {
-    if base::wide_u64(bound) <= cost {
-        return false;
-    }
-    let later = costs::as_number(costs::h(seat, costs, ahead, v));
-    cost + base::wide_u64(later) < base::wide_u64(bound)
+    let bound = u64::from(bound);
+    cost < bound && cost + u64::from(costs::as_number(costs::h(seat, costs, ahead, v))) < bound
 }
 
 // Value v at this cost is written: the cpa goes to the next unit, and requests to every later one.
@@ -114,14 +117,13 @@ fn forward(own: u8, v: u8, cost: u32, records: u8, t: Held) -> Decided
     ensures { (w : View) → suc w.place ≡ own → result ≡ sent_on w records (write w v cost (holding t zeros)) }
 {
     let s = put(own, v, cost, t);
-    let message = carry(own, s);
     Decided {
         refusal: 0,
-        unit: release([0u32; 16], s),
+        unit: release([0; 16], s),
         sending: Sending {
             plan: Plan::Forward,
             improved: false,
-            message,
+            message: carry(own, s),
         },
         records,
     }
@@ -132,15 +134,12 @@ fn put(own: u8, v: u8, cost: u32, t: Held) -> Held
     requires { Own own × (t.counter ≤ 254) }
     ensures { (w : View) (e : List ℕ) → suc w.place ≡ own → holding result e ≡ write w v cost (holding t e) }
 {
-    let place = (own - 1) as usize;
-    let count = t.counter + 1;
-    let mut s = t;
-    s.counter = count;
-    s.stamp[place] = count;
+    let place = usize::from(own - 1);
+    let counter = t.counter + 1;
+    let mut s = Held { counter, cost, ..t };
+    s.stamp[place] = counter;
     s.values[place] = v;
-    s.cost = cost;
-    let stamp = s.stamp;
-    s.threshold = stamp;
+    s.threshold = s.stamp;
     s
 }
 
@@ -149,14 +148,15 @@ fn improve(own: u8, v: u8, cost: u32, t: Held) -> Held
     requires { Own own × (t.counter ≤ 254) }
     ensures { (get_or result.threshold (own - 1) 0 ≡ t.counter + 1) × ((w : View) (e : List ℕ) → suc w.place ≡ own → holding result e ≡ improved_by w v cost (holding t e)) }
 {
-    let place = (own - 1) as usize;
-    let count = t.counter + 1;
+    let place = usize::from(own - 1);
+    let counter = t.counter + 1;
     let mut best = t.values;
     best[place] = v;
     let mut threshold = t.stamp;
-    threshold[place] = count;
-    let mut s = with_best(cost, best, t);
-    s.counter = count;
-    s.threshold = threshold;
-    s
+    threshold[place] = counter;
+    Held {
+        threshold,
+        counter,
+        ..with_best(cost, best, t)
+    }
 }

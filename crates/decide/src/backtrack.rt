@@ -16,14 +16,13 @@ pub(crate) fn backtrack(own: u8, improved: bool, records: u8, t: Held) -> Decide
     requires { Own own × (get_or t.threshold (own - 1) 0 ≤ 254) }
     ensures { (w : View) (was : Unit) (e : List ℕ) → suc w.place ≡ own → result ≡ counted records was (backtrack w improved (holding t e)) }
 {
-    let message = carry(own, t);
     Decided {
         refusal: 0,
         unit: back_up(own, t),
         sending: Sending {
             plan: Plan::Back,
             improved,
-            message,
+            message: carry(own, t),
         },
         records,
     }
@@ -34,16 +33,15 @@ fn back_up(own: u8, t: Held) -> Unit
     requires { Own own × (get_or t.threshold (own - 1) 0 ≤ 254) }
     ensures { (w : View) (e : List ℕ) → suc w.place ≡ own → result ≡ backed_up w (holding t e) }
 {
-    let place = (own - 1) as usize;
-    let mut s = t;
-    s.threshold[place] = s.threshold[place] + 1;
-    s.stamp = [0u8; 16];
-    s.values = [0u8; 16];
-    s.cost = 0;
-    if own == 1 {
-        s.stopped = true;
-    }
-    release([0u32; 16], s)
+    let mut s = Held {
+        stamp: [0; 16],
+        values: [0; 16],
+        cost: 0,
+        stopped: own == 1 || t.stopped,
+        ..t
+    };
+    s.threshold[usize::from(own - 1)] += 1;
+    release([0; 16], s)
 }
 
 // The own value off, which costs `paid`.
@@ -51,38 +49,35 @@ pub(crate) fn take_off(own: u8, paid: u32, t: Held) -> Held
     requires { Own own }
     ensures { (w : View) (e : List ℕ) → suc w.place ≡ own → paid ≡ own_cost w (holding t e) → holding result e ≡ take_off w (holding t e) }
 {
-    let place = (own - 1) as usize;
-    let mut s = t;
+    let place = usize::from(own - 1);
+    let mut s = Held {
+        cost: t.cost.saturating_sub(paid),
+        ..t
+    };
     s.stamp[place] = 0;
     s.values[place] = 0;
-    s.cost = bare_cost(t.cost, paid);
     s
-}
-
-// The cost without the own value, which costs `paid`; 0 where that is more.
-pub(crate) fn bare_cost(cost: u32, paid: u32) -> u32
-    ensures { result ≡ cost - paid }
-{
-    if cost < paid {
-        return 0;
-    }
-    cost - paid
 }
 
 // The fields that the messages of a cpa carry.
 pub(crate) fn carry(own: u8, t: Held) -> Message
     ensures { (w : View) (e : List ℕ) → suc w.place ≡ own → result ≡ carried w (holding t e) }
 {
-    let stamp = t.stamp;
-    let values = t.values;
-    let best = t.best;
+    let Held {
+        stamp,
+        values,
+        cost,
+        bound,
+        best,
+        ..
+    } = t;
     Message {
         sender: own,
         receiver: 0,
         stamp,
         values,
-        cost: t.cost,
-        bound: t.bound,
+        cost,
+        bound,
         best,
     }
 }

@@ -1,6 +1,6 @@
 // Requests and the estimates that answer them: 01, "Copy", "Estimate".
 
-ghost use Rattle.std.specs.Prelude.{◌≡◌, [], suc, ◌*◌, ◌≤◌};
+ghost use Rattle.std.specs.Prelude.{◌≡◌, [], suc, ◌*◌, ◌-◌, ◌≤◌, set};
 ghost use Rattle.base.specs.Limits.{NONE, places};
 ghost use Rattle.costs.specs.Instance.{View, view_knowing};
 ghost use Rattle.rules.specs.Step.{reply, on_request, on_timely, on_estimate, accepted};
@@ -8,26 +8,25 @@ ghost use Rattle.rules.specs.Tests.{sum_later, stored};
 ghost use Rattle.rules.specs.Ready.{Own, Shaped, Ready, Heard, decided_of};
 
 use crate::assign::assign;
-use crate::bound::{quiet, refuse};
+use crate::bound::{quiet, refused};
 use crate::receive::is_stamp_out;
 use crate::short::reply;
 use crate::state::{compare, hold, with_threshold};
+use base::Refusal;
 use costs::Seat;
 use message::Message;
-use rules::{Decided, Ordering, Plan, Sending, Unit};
+use rules::{Decided, Plan, Sending, Unit};
+use std::cmp::Ordering;
 
 // A request.
 pub(crate) fn on_request(seat: Seat, costs: &[u8], ahead: &[u32], u: Unit, m: Message) -> Decided
     requires { Own seat.own }
     ensures { (was : Unit) → result ≡ decided_of was (on_request (view_knowing seat costs.now ahead.now) u m) }
 {
-    let stamp = m.stamp;
-    let threshold = u.threshold;
-    let order = compare((seat.own - 1) as usize, stamp, threshold);
-    match order {
+    match compare(usize::from(seat.own - 1), m.stamp, u.threshold) {
         Ordering::Less => quiet(u),
         Ordering::Equal => answer(seat, costs, ahead, u, m),
-        Ordering::Greater => answer(seat, costs, ahead, with_threshold(stamp, u), m),
+        Ordering::Greater => answer(seat, costs, ahead, with_threshold(m.stamp, u), m),
     }
 }
 
@@ -36,14 +35,13 @@ fn answer(seat: Seat, costs: &[u8], ahead: &[u32], u: Unit, m: Message) -> Decid
     requires { Own seat.own }
     ensures { (was : Unit) → result ≡ decided_of was (accepted u (reply (view_knowing seat costs.now ahead.now) m) []) }
 {
-    let message = reply(seat, costs, ahead, m);
     Decided {
         refusal: 0,
         unit: u,
         sending: Sending {
             plan: Plan::Reply,
             improved: false,
-            message,
+            message: reply(seat, costs, ahead, m),
         },
         records: 0,
     }
@@ -54,13 +52,10 @@ pub(crate) fn on_estimate(seat: Seat, costs: &[u8], ahead: &[u32], u: Unit, m: M
     requires { Shaped seat × Ready seat u × Heard seat.own m }
     ensures { result ≡ decided_of u (on_estimate (view_knowing seat costs.now ahead.now) u m) }
 {
-    let stamp = m.stamp;
-    let threshold = u.threshold;
-    let order = compare(seat.own as usize, stamp, threshold);
-    match order {
+    match compare(usize::from(seat.own), m.stamp, u.threshold) {
         Ordering::Less => quiet(u),
         Ordering::Equal => on_own_estimate(seat, costs, ahead, u, m),
-        Ordering::Greater => refuse(11, u),
+        Ordering::Greater => refused(Refusal::NotOut, u),
     }
 }
 
@@ -69,15 +64,11 @@ fn on_own_estimate(seat: Seat, costs: &[u8], ahead: &[u32], u: Unit, m: Message)
     requires { Shaped seat × Ready seat u × Heard seat.own m }
     ensures { result ≡ decided_of u (on_timely (view_knowing seat costs.now ahead.now) Ordering.Equal u m) }
 {
-    let values = u.values;
-    let stamp = u.stamp;
-    let theirs = m.stamp;
-    if !is_stamp_out(seat.own, values, stamp, theirs) {
-        return refuse(11, u);
+    if !is_stamp_out(seat.own, u.values, u.stamp, m.stamp) {
+        return refused(Refusal::NotOut, u);
     }
-    let mut estimates = u.estimates;
-    estimates[(m.sender - 1) as usize] = m.cost;
-    if base::wide_u64(u.bound) <= base::wide_u64(u.cost) + sum_later(seat, estimates) {
+    let reached = u64::from(u.cost) + sum_later(seat, with_estimate(m, u.estimates));
+    if u64::from(u.bound) <= reached {
         return assign(seat, costs, ahead, hold(u));
     }
     quiet(store(m, u))
@@ -88,9 +79,20 @@ pub(crate) fn store(m: Message, u: Unit) -> Unit
     requires { Own m.sender }
     ensures { result ≡ stored m u }
 {
-    let mut t = u;
-    t.estimates[(m.sender - 1) as usize] = m.cost;
-    t
+    Unit {
+        estimates: with_estimate(m, u.estimates),
+        ..u
+    }
+}
+
+// The estimates with that of a message.
+pub(crate) fn with_estimate(m: Message, estimates: [u32; 16]) -> [u32; 16]
+    requires { Own m.sender }
+    ensures { result ≡ set estimates (m.sender - 1) m.cost }
+{
+    let mut estimates = estimates;
+    estimates[usize::from(m.sender - 1)] = m.cost;
+    estimates
 }
 
 // The estimates of the units after this one, together; wide, so that no sum wraps.
@@ -98,12 +100,9 @@ pub(crate) fn sum_later(seat: Seat, estimates: [u32; 16]) -> u64
     requires { (seat.own ≤ seat.n) × (seat.n ≤ 16) }
     ensures { (result ≤ NONE * places) × ((w : View) → suc w.place ≡ seat.own → w.n ≡ seat.n → result ≡ sum_later w estimates) }
 {
-    let count = seat.n as usize;
     let mut sum: u64 = 0;
-    let mut j = seat.own as usize;
-    while j < count {
-        sum += base::wide_u64(estimates[j]);
-        j += 1;
+    for j in usize::from(seat.own)..usize::from(seat.n) {
+        sum += u64::from(estimates[j]);
     }
     sum
 }

@@ -10,15 +10,16 @@ mod receive; // a cpa that comes in
 mod state; // whether a state is in range, the order of stamps, the parts of a state set, and what is held of it
 mod short; // the way of a message that changes little
 
-ghost use Rattle.std.specs.Prelude.{◌≡◌};
+ghost use Rattle.std.specs.Prelude.{◌≡◌, ◌-◌, ◌&&◌, ◌||◌, leb, eqb, get_or};
 ghost use Rattle.costs.specs.Instance.{view_knowing};
 ghost use Rattle.rules.specs.State.{fresh, no_unit};
 ghost use Rattle.rules.specs.Step.{respond};
 ghost use Rattle.rules.specs.Trusted.{can_step, can_hear, respond_to, start_to};
 ghost use Rattle.rules.specs.Ready.{Own, Shaped, Ready, Heard, decided_of};
 
+use base::Refusal;
 pub use bound::refuse;
-use bound::{on_solution, on_stop, quiet};
+use bound::{on_solution, on_stop, quiet, refused};
 use costs::Seat;
 use estimate::{on_estimate, on_request};
 use message::{Kind, Message};
@@ -31,15 +32,11 @@ pub use state::{compare_stamps, in_range, in_range_paid};
 pub fn respond(seat: Seat, costs: &[u8], ahead: &[u32], kind: Kind, u: Unit, m: Message) -> Decided
     ensures { result ≡ decided_of u (respond_to seat costs.now ahead.now kind u m) }
 {
-    let threshold = u.threshold;
-    let values = u.values;
-    if !can_step(seat, threshold, values, u.counter) {
-        return refuse(5, u);
+    if !can_step(seat, u) {
+        return refused(Refusal::OutOfRange, u);
     }
-    let stamp = m.stamp;
-    let theirs = m.values;
-    if !can_hear(seat.own, m.sender, stamp, theirs) {
-        return refuse(9, u);
+    if !can_hear(seat.own, m) {
+        return refused(Refusal::BadField, u);
     }
     by_kind(seat, costs, ahead, kind, u, m)
 }
@@ -49,15 +46,14 @@ pub fn start(seat: Seat, costs: &[u8], ahead: &[u32]) -> Decided
     ensures { result ≡ decided_of fresh (start_to seat costs.now ahead.now) }
 {
     let u = fresh();
-    let threshold = u.threshold;
-    let values = u.values;
-    if !can_step(seat, threshold, values, u.counter) {
-        return refuse(5, u);
+    if !can_step(seat, u) {
+        return refused(Refusal::OutOfRange, u);
     }
     if seat.own == 1 {
-        return assign::assign(seat, costs, ahead, state::hold(u));
+        assign::assign(seat, costs, ahead, state::hold(u))
+    } else {
+        quiet(u)
     }
-    quiet(u)
 }
 
 // By the message's kind.
@@ -66,7 +62,7 @@ fn by_kind(seat: Seat, costs: &[u8], ahead: &[u32], kind: Kind, u: Unit, m: Mess
     ensures { result ≡ decided_of u (respond (view_knowing seat costs.now ahead.now) kind u m) }
 {
     if u.stopped {
-        return refuse(12, u);
+        return refused(Refusal::Stopped, u);
     }
     match kind {
         Kind::Cpa => on_cpa(seat, costs, ahead, u, m),
@@ -77,58 +73,45 @@ fn by_kind(seat: Seat, costs: &[u8], ahead: &[u32], kind: Kind, u: Unit, m: Mess
     }
 }
 
-// Whether a unit in a state with these parts can step at all.
-fn can_step(seat: Seat, threshold: [u8; 16], values: [u8; 16], counter: u8) -> bool
-    ensures { (u : Unit) → u.threshold ≡ threshold → u.values ≡ values → u.counter ≡ counter → result ≡ can_step seat.own seat.n seat.sizes u }
+// Whether a unit in this state can step at all.
+fn can_step(seat: Seat, u: Unit) -> bool
+    ensures { result ≡ can_step seat.own seat.n seat.sizes u }
 {
-    if !message::is_unit(seat.n, seat.own) {
-        return false;
-    }
-    if 16 < seat.n {
-        return false;
-    }
-    let place = (seat.own - 1) as usize;
-    if 16 < seat.sizes[place] {
-        return false;
-    }
-    if 17 < threshold[place] {
-        return false;
-    }
-    let value = values[place];
-    if seat.sizes[place] < value {
-        return false;
-    }
-    if value == 0 {
-        return true;
-    }
-    counter <= 16
+    message::is_unit(seat.n, seat.own) && seat.n <= 16 && parts_good(seat, u)
 }
 
-// Whether unit `own` can do anything with a message with these parts.
-fn can_hear(own: u8, sender: u8, stamp: [u8; 16], values: [u8; 16]) -> bool
-    requires { Own own }
-    ensures { (m : Message) → m.sender ≡ sender → m.stamp ≡ stamp → m.values ≡ values → result ≡ can_hear own m }
+// The same of one of at most 16 units, by what is at its place.
+fn parts_good(seat: Seat, u: Unit) -> bool
+    requires { Own seat.own }
+    ensures { result ≡ (leb (get_or seat.sizes (seat.own - 1) 0) 16 && leb (get_or u.threshold (seat.own - 1) 0) 17 && leb (get_or u.values (seat.own - 1) 0) (get_or seat.sizes (seat.own - 1) 0) && (eqb (get_or u.values (seat.own - 1) 0) 0 || leb u.counter 16)) }
 {
-    if !message::is_unit(16, sender) {
-        return false;
-    }
-    let place = (own - 1) as usize;
-    if 17 < stamp[place] {
-        return false;
-    }
-    if own <= sender {
-        return true;
-    }
-    values[place] == 0
+    let place = usize::from(seat.own - 1);
+    let value = u.values[place];
+    seat.sizes[place] <= 16
+        && u.threshold[place] <= 17
+        && value <= seat.sizes[place]
+        && (value == 0 || u.counter <= 16)
+}
+
+// Whether unit `own` can do anything with this message.
+fn can_hear(own: u8, m: Message) -> bool
+    requires { Own own }
+    ensures { result ≡ can_hear own m }
+{
+    let place = usize::from(own - 1);
+    message::is_unit(16, m.sender)
+        && m.stamp[place] <= 17
+        && (own <= m.sender || m.values[place] == 0)
 }
 
 // A new unit: bound *none*, all else zero.
 pub fn fresh() -> Unit
     ensures { result ≡ fresh }
 {
-    let mut u = no_unit();
-    u.bound = base::NONE;
-    u
+    Unit {
+        bound: base::NONE,
+        ..no_unit()
+    }
 }
 
 // The unit beside a refusal of making: all zero.
@@ -136,12 +119,12 @@ pub fn no_unit() -> Unit
     ensures { result ≡ no_unit }
 {
     Unit {
-        threshold: [0u8; 16],
+        threshold: [0; 16],
         bound: 0,
-        best: [0u8; 16],
-        estimates: [0u32; 16],
-        stamp: [0u8; 16],
-        values: [0u8; 16],
+        best: [0; 16],
+        estimates: [0; 16],
+        stamp: [0; 16],
+        values: [0; 16],
         cost: 0,
         counter: 0,
         stopped: false,

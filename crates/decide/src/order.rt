@@ -17,17 +17,13 @@ pub(crate) fn keys(seat: Seat, costs: &[u8], ahead: &[u32]) -> [u32; 16]
     requires { Shaped seat }
     ensures { Keys (view_knowing seat costs.now ahead.now) result }
 {
-    let mut keys = [0u32; 16];
-    let order = seat.order;
-    let ValueOrder::CheapestFirst = order else {
+    let mut keys = [0; 16];
+    let ValueOrder::CheapestFirst = seat.order else {
         return keys;
     };
-    let sizes = seat.sizes;
-    let d = sizes[(seat.own - 1) as usize];
-    let mut v: u8 = 0;
-    while v < d {
-        keys[v as usize] = costs::as_number(costs::h(seat, costs, ahead, v + 1));
-        v += 1;
+    let d = seat.sizes[usize::from(seat.own - 1)];
+    for v in 0..d {
+        keys[usize::from(v)] = costs::as_number(costs::h(seat, costs, ahead, v + 1));
     }
     keys
 }
@@ -37,10 +33,8 @@ pub(crate) fn next(seat: Seat, keys: [u32; 16], v: u8) -> u8
     requires { Shaped seat × (v ≤ get_or seat.sizes (seat.own - 1) 0) }
     ensures { ((costs ahead : List ℕ) → Keys (view_knowing seat costs ahead) keys → result ≡ next (view_knowing seat costs ahead) v) × (result ≤ get_or seat.sizes (seat.own - 1) 0) }
 {
-    let sizes = seat.sizes;
-    let d = sizes[(seat.own - 1) as usize];
-    let order = seat.order;
-    match order {
+    let d = seat.sizes[usize::from(seat.own - 1)];
+    match seat.order {
         ValueOrder::Ascending => number_after(d, v),
         ValueOrder::CheapestFirst => cheapest_after(keys, d, v),
     }
@@ -50,10 +44,7 @@ pub(crate) fn next(seat: Seat, keys: [u32; 16], v: u8) -> u8
 fn number_after(d: u8, v: u8) -> u8
     ensures { (result ≤ d) × ((w : View) → w.order ≡ ValueOrder.Ascending → w.dom w.place ≡ d → result ≡ next w v) }
 {
-    if v < d {
-        return v + 1;
-    }
-    0
+    if v < d { v + 1 } else { 0 }
 }
 
 // By rising h, the value after v of d values: the first of those that come later. Each key is read once.
@@ -64,13 +55,11 @@ fn cheapest_after(keys: [u32; 16], d: u8, v: u8) -> u8
     let low = of_value(v, keys);
     let mut best = NO_KEY;
     let mut found: u8 = 0;
-    let mut u: u8 = 0;
-    while u < d {
-        let key = keys[u as usize];
-        u += 1;
-        if comes_next(low, v, key, u, best) {
-            best = base::wide_u64(key);
-            found = u;
+    for u in 0..d {
+        let key = keys[usize::from(u)];
+        if comes_next(low, v, key, u + 1, best) {
+            best = u64::from(key);
+            found = u + 1;
         }
     }
     found
@@ -81,11 +70,5 @@ fn cheapest_after(keys: [u32; 16], d: u8, v: u8) -> u8
 fn comes_next(low: u32, v: u8, key: u32, u: u8, best: u64) -> bool
     ensures { (result ≡ (ltb key best && cond (eqb low key) (ltb v u) (ltb low key))) × (key ≤ NONE) }
 {
-    if best <= base::wide_u64(key) {
-        return false;
-    }
-    if low == key {
-        return v < u;
-    }
-    low < key
+    u64::from(key) < best && if low == key { v < u } else { low < key }
 }

@@ -8,25 +8,26 @@ ghost use Rattle.rules.specs.Tests.{holding};
 ghost use Rattle.rules.specs.Ready.{Own, Shaped, Ready, Heard, decided_of};
 
 use crate::assign::{assign_paid, of_value};
-use crate::backtrack::{backtrack, bare_cost, take_off};
-use crate::bound::{quiet, refuse, take_bound};
-use crate::state::{compare, hold, not_less, same};
+use crate::backtrack::{backtrack, take_off};
+use crate::bound::{quiet, refused, take_bound};
+use crate::state::{compare, hold, same};
+use base::Refusal;
 use costs::Seat;
 use message::Message;
-use rules::{Decided, Held, Ordering, Unit};
+use rules::{Decided, Held, Unit};
+use std::cmp::Ordering;
 
 // A cpa: one from a lower unit goes down.
 pub(crate) fn on_cpa(seat: Seat, costs: &[u8], ahead: &[u32], u: Unit, m: Message) -> Decided
     requires { Shaped seat × Ready seat u × Heard seat.own m }
     ensures { result ≡ decided_of u (on_cpa (view_knowing seat costs.now ahead.now) u m) }
 {
-    let stamp = m.stamp;
-    let threshold = u.threshold;
-    let order = compare(seat.own as usize, stamp, threshold);
+    let order = compare(usize::from(seat.own), m.stamp, u.threshold);
     if m.sender < seat.own {
-        return on_down(seat, costs, ahead, order, u, m);
+        on_down(seat, costs, ahead, order, u, m)
+    } else {
+        on_back(seat, costs, ahead, order, u, m)
     }
-    on_back(seat, costs, ahead, order, u, m)
 }
 
 // A cpa going down, by how its stamp compares with the threshold.
@@ -34,12 +35,10 @@ fn on_down(seat: Seat, costs: &[u8], ahead: &[u32], order: Ordering, u: Unit, m:
     requires { Shaped seat × Ready seat u × Heard seat.own m × (m.sender < seat.own) }
     ensures { (was : Unit) → result ≡ decided_of was (on_down (view_knowing seat costs.now ahead.now) order u m) }
 {
-    let threshold = u.threshold;
-    let stamp = m.stamp;
     match order {
         Ordering::Less => quiet(u),
-        Ordering::Equal => resume(seat, costs, ahead, receive(m, threshold, u)),
-        Ordering::Greater => resume(seat, costs, ahead, receive(m, stamp, u)),
+        Ordering::Equal => resume(seat, costs, ahead, receive(m, u.threshold, u)),
+        Ordering::Greater => resume(seat, costs, ahead, receive(m, m.stamp, u)),
     }
 }
 
@@ -47,13 +46,19 @@ fn on_down(seat: Seat, costs: &[u8], ahead: &[u32], order: Ordering, u: Unit, m:
 fn receive(m: Message, threshold: [u8; 16], u: Unit) -> Held
     ensures { holding result u.estimates ≡ received m (with_threshold threshold u) }
 {
-    let stamp = m.stamp;
-    let values = m.values;
-    let mut t = hold(u);
-    t.threshold = threshold;
-    t.stamp = stamp;
-    t.values = values;
-    t.cost = m.cost;
+    let Message {
+        stamp,
+        values,
+        cost,
+        ..
+    } = m;
+    let t = Held {
+        threshold,
+        stamp,
+        values,
+        cost,
+        ..hold(u)
+    };
     take_bound(m, t)
 }
 
@@ -62,12 +67,12 @@ fn on_back(seat: Seat, costs: &[u8], ahead: &[u32], order: Ordering, u: Unit, m:
     requires { Shaped seat × Ready seat u }
     ensures { result ≡ decided_of u (on_back (view_knowing seat costs.now ahead.now) order u m) }
 {
-    if !not_less(order) {
+    if order.is_lt() {
         return quiet(u);
     }
     let t = hold(u);
     if !is_cpa_out(seat.own, t, m) {
-        return refuse(11, u);
+        return refused(Refusal::NotOut, u);
     }
     resume(seat, costs, ahead, take_bound(m, t))
 }
@@ -77,17 +82,9 @@ fn is_cpa_out(own: u8, t: Held, m: Message) -> bool
     requires { Own own }
     ensures { (w : View) (e : List ℕ) → suc w.place ≡ own → result ≡ is_cpa_out w (holding t e) m }
 {
-    let values = t.values;
-    let stamp = t.stamp;
-    let theirs = m.stamp;
-    if !is_stamp_out(own, values, stamp, theirs) {
-        return false;
-    }
-    let their_values = m.values;
-    if !same(own as usize, their_values, values) {
-        return false;
-    }
-    m.cost == t.cost
+    is_stamp_out(own, t.values, t.stamp, m.stamp)
+        && same(usize::from(own), m.values, t.values)
+        && m.cost == t.cost
 }
 
 // Whether a cpa with these values and this stamp is out, and a message's stamp is its stamp.
@@ -95,10 +92,7 @@ pub(crate) fn is_stamp_out(own: u8, values: [u8; 16], stamp: [u8; 16], theirs: [
     requires { Own own }
     ensures { (w : View) → suc w.place ≡ own → result ≡ (ltb 0 (get_or values w.place 0) && same_on (suc w.place) theirs stamp) }
 {
-    if values[(own - 1) as usize] < 1 {
-        return false;
-    }
-    same(own as usize, theirs, stamp)
+    0 < values[usize::from(own - 1)] && same(usize::from(own), theirs, stamp)
 }
 
 // Backtrack where the cost without the own value reaches the bound, else assign. What the values cost is worked out once for both.
@@ -106,11 +100,9 @@ fn resume(seat: Seat, costs: &[u8], ahead: &[u32], t: Held) -> Decided
     requires { Shaped seat × Ready seat (holding t zeros) }
     ensures { (was : Unit) (e : List ℕ) → result ≡ decided_of was (resume (view_knowing seat costs.now ahead.now) (holding t e)) }
 {
-    let values = t.values;
-    let value = values[(seat.own - 1) as usize];
-    let paid = costs::paid(seat, costs, values);
-    let own = of_value(value, paid);
-    if t.bound <= bare_cost(t.cost, own) {
+    let paid = costs::paid(seat, costs, t.values);
+    let own = of_value(t.values[usize::from(seat.own - 1)], paid);
+    if t.bound <= t.cost.saturating_sub(own) {
         return backtrack(seat.own, false, 0, take_off(seat.own, own, t));
     }
     assign_paid(seat, costs, ahead, paid, t)

@@ -1,6 +1,7 @@
 // A unit's state: whether it is in range, the order of stamps, its parts set one at a time, and what is held of it.
 
-ghost use Rattle.std.specs.Prelude.{◌≡◌, ◌&&◌, List, ℕ, ◌≤◌};
+ghost use Rattle.std.specs.Prelude.{◌≡◌, List, ℕ, ◌-◌, ◌≤◌, ◌&&◌, cond, leb, eqb, get_or};
+ghost use Rattle.std.specs.List.{list_all};
 ghost use Rattle.base.specs.Limits.{estimate_limit};
 ghost use Rattle.costs.specs.Instance.{view_knowing};
 ghost use Rattle.rules.specs.State.{
@@ -10,7 +11,6 @@ ghost use Rattle.rules.specs.State.{
   with_estimates,
   compare_on,
   same_on,
-  not_less,
   all_at_most,
   cpa_zero,
   cpa_out_in_range,
@@ -22,7 +22,8 @@ ghost use Rattle.rules.specs.Trusted.{in_range_at};
 ghost use Rattle.rules.specs.Ready.{Own};
 
 use costs::Seat;
-use rules::{Held, Ordering, Unit};
+use rules::{Held, Unit};
+use std::cmp::Ordering;
 
 // Whether a lent state is in range; none is for a number that is not 1 to 16.
 pub fn in_range(seat: Seat, costs: &[u8], ahead: &[u32], u: Unit) -> bool
@@ -31,11 +32,9 @@ pub fn in_range(seat: Seat, costs: &[u8], ahead: &[u32], u: Unit) -> bool
     if !message::is_unit(16, seat.own) {
         return false;
     }
-    let values = u.values;
-    let paid = own_cost(seat, costs, values);
-    let place = costs::place_tried(seat, costs, ahead, values[(seat.own - 1) as usize]);
-    let sizes = seat.sizes;
-    paid_in_range(seat.own, seat.n, sizes, paid, place, u)
+    let paid = own_cost(seat, costs, u.values);
+    let place = costs::place_tried(seat, costs, ahead, u.values[usize::from(seat.own - 1)]);
+    paid_in_range(seat.own, seat.n, seat.sizes, paid, place, u)
 }
 
 // The own value's costs, NONE where they are forbidden; without one there are none to add up.
@@ -44,7 +43,7 @@ fn own_cost(seat: Seat, costs: &[u8], values: [u8; 16]) -> u32
     ensures { (ahead : List ℕ) (u : Unit) → u.values ≡ values → result ≡ own_cost (view_knowing seat costs.now ahead) u }
 {
     let place = seat.own - 1;
-    let value = values[place as usize];
+    let value = values[usize::from(place)];
     if value == 0 {
         return 0;
     }
@@ -53,99 +52,79 @@ fn own_cost(seat: Seat, costs: &[u8], values: [u8; 16]) -> u32
 
 // Whether the state of unit `own` is in range, its own value's costs being `paid` and its place `place`; no state is for a number that is not
 // 1 to 16.
+#[tactic(auto, unfolding(rules::specs::State::in_range_paid))]
 pub fn in_range_paid(own: u8, n: u8, sizes: [u8; 16], paid: u32, place: usize, u: Unit) -> bool
     ensures { result ≡ in_range_paid n sizes own paid place u }
 {
-    if !message::is_unit(16, own) {
-        return false;
-    }
-    paid_in_range(own, n, sizes, paid, place, u)
+    message::is_unit(16, own) && paid_in_range(own, n, sizes, paid, place, u)
 }
 
 // The same of a unit.
+#[tactic(auto, using(rules::specs::Laws::Readiness::pred_sub), unfolding(rules::specs::State::paid_in_range))]
 fn paid_in_range(own: u8, n: u8, sizes: [u8; 16], paid: u32, place: usize, u: Unit) -> bool
     requires { Own own }
     ensures { result ≡ paid_in_range n sizes own paid place u }
 {
-    let threshold = u.threshold;
-    let estimates = u.estimates;
-    if !limits_kept(threshold, estimates) {
-        return false;
-    }
-    let best = u.best;
-    if !message::none_or_bound(n, sizes, u.bound, best) {
-        return false;
-    }
-    let values = u.values;
-    if values[(own - 1) as usize] == 0 {
-        return cpa_zero(sizes, u);
-    }
-    cpa_out_in_range(own, sizes, paid, place, u)
+    limits_kept(u.threshold, u.estimates)
+        && message::none_or_bound(n, sizes, u.bound, u.best)
+        && cpa_in_range(own, sizes, paid, place, u)
 }
 
 // Whether each of the 16 places keeps its limit.
 fn limits_kept(threshold: [u8; 16], estimates: [u32; 16]) -> bool
     ensures { result ≡ (all_at_most 17 threshold && all_at_most estimate_limit estimates) }
 {
-    let mut i = 0;
-    while i < 16 {
-        if 17 < threshold[i] {
-            return false;
-        }
-        if base::ESTIMATE_LIMIT < estimates[i] {
-            return false;
-        }
-        i += 1;
+    thresholds_kept(threshold) && estimates_kept(estimates)
+}
+
+// Whether each threshold keeps its limit.
+fn thresholds_kept(threshold: [u8; 16]) -> bool
+    ensures { result ≡ list_all (λ t. leb t 17) threshold }
+{
+    threshold.iter().all(|t| *t <= 17)
+}
+
+// Whether each estimate keeps its limit.
+fn estimates_kept(estimates: [u32; 16]) -> bool
+    ensures { result ≡ list_all (λ e. leb e estimate_limit) estimates }
+{
+    estimates.iter().all(|e| *e <= base::ESTIMATE_LIMIT)
+}
+
+// Whether a cpa keeps its limits: all zero where none is out.
+fn cpa_in_range(own: u8, sizes: [u8; 16], paid: u32, place: usize, u: Unit) -> bool
+    requires { Own own }
+    ensures { result ≡ cond (eqb (get_or u.values (own - 1) 0) 0) (cpa_zero sizes u) (cpa_out_in_range sizes own paid place u) }
+{
+    if u.values[usize::from(own - 1)] == 0 {
+        cpa_zero(sizes, u)
+    } else {
+        cpa_out_in_range(own, sizes, paid, place, u)
     }
-    true
 }
 
 // Whether the cpa is all zero.
+#[tactic(auto, unfolding(rules::specs::State::cpa_zero))]
 fn cpa_zero(sizes: [u8; 16], u: Unit) -> bool
     ensures { result ≡ cpa_zero sizes u }
 {
-    let stamp = u.stamp;
-    if !message::filled_to(0, sizes, stamp) {
-        return false;
-    }
-    let values = u.values;
-    if !message::filled_to(0, sizes, values) {
-        return false;
-    }
-    u.cost == 0
+    message::filled_to(0, sizes, u.stamp) && message::filled_to(0, sizes, u.values) && u.cost == 0
 }
 
 // Whether a cpa that is out keeps its limits.
+#[tactic(auto, unfolding(rules::specs::State::cpa_out_in_range))]
 fn cpa_out_in_range(own: u8, sizes: [u8; 16], paid: u32, place: usize, u: Unit) -> bool
     requires { Own own }
     ensures { result ≡ cpa_out_in_range sizes own paid place u }
 {
-    let before = own - 1;
-    let stamp = u.stamp;
-    let values = u.values;
-    if !message::filled_to(own, sizes, stamp) {
-        return false;
-    }
-    if !message::filled_to(own, sizes, values) {
-        return false;
-    }
-    if message::prefix_limit(own) < u.cost {
-        return false;
-    }
-    if u.counter != stamp[before as usize] {
-        return false;
-    }
-    if place < base::wide(u.counter) {
-        return false;
-    }
-    let threshold = u.threshold;
-    if !not_less(compare(own as usize, threshold, stamp)) {
-        return false;
-    }
-    if u.cost < paid {
-        return false;
-    }
-    u.cost - paid <= message::prefix_limit(before)
+    message::filled_to(own, sizes, u.stamp)
+        && message::filled_to(own, sizes, u.values)
+        && u.cost <= message::prefix_limit(own)
+        && u.counter == u.stamp[usize::from(own - 1)]
+        && usize::from(u.counter) <= place
+        && compare(usize::from(own), u.threshold, u.stamp).is_ge()
+        && paid <= u.cost
+        && u.cost - paid <= message::prefix_limit(own - 1)
 }
 
 // How two stamps compare on all units.
@@ -156,82 +135,60 @@ pub fn compare_stamps(a: [u8; 16], b: [u8; 16]) -> Ordering
 }
 
 // How a compares with b on the first k units.
+#[tactic(auto, using(crate::proofs::Orders::parts_compared))]
 pub(crate) fn compare(k: usize, a: [u8; 16], b: [u8; 16]) -> Ordering
     requires { k ≤ 16 }
     ensures { result ≡ compare_on k a b }
 {
-    let mut i = 0;
-    while i < k {
-        if a[i] < b[i] {
-            return Ordering::Less;
-        }
-        if b[i] < a[i] {
-            return Ordering::Greater;
-        }
-        i += 1;
-    }
-    Ordering::Equal
+    a[..k].cmp(&b[..k])
 }
 
 // Whether the first k places are equal.
+#[tactic(auto, using(crate::proofs::Orders::parts_equal))]
 pub(crate) fn same(k: usize, a: [u8; 16], b: [u8; 16]) -> bool
     requires { k ≤ 16 }
     ensures { result ≡ same_on k a b }
 {
-    let order = compare(k, a, b);
-    match order {
-        Ordering::Less => false,
-        Ordering::Equal => true,
-        Ordering::Greater => false,
-    }
+    a[..k] == b[..k]
 }
 
-// Equal or bigger.
-pub(crate) fn not_less(o: Ordering) -> bool
-    ensures { result ≡ not_less o }
+pub(crate) fn with_threshold(threshold: [u8; 16], u: Unit) -> Unit
+    ensures { result ≡ with_threshold threshold u }
 {
-    match o {
-        Ordering::Less => false,
-        Ordering::Equal => true,
-        Ordering::Greater => true,
-    }
-}
-
-pub(crate) fn with_threshold(t: [u8; 16], u: Unit) -> Unit
-    ensures { result ≡ with_threshold t u }
-{
-    let mut v = u;
-    v.threshold = t;
-    v
+    Unit { threshold, ..u }
 }
 
 // A bound and the assignment that has it, always together.
 pub(crate) fn with_best(bound: u32, best: [u8; 16], t: Held) -> Held
     ensures { (e : List ℕ) → holding result e ≡ with_best bound best (holding t e) }
 {
-    let mut s = t;
-    s.bound = bound;
-    s.best = best;
-    s
+    Held { bound, best, ..t }
 }
 
 // What is held of a unit.
 pub(crate) fn hold(u: Unit) -> Held
     ensures { (e : List ℕ) → holding result e ≡ with_estimates e u }
 {
-    let threshold = u.threshold;
-    let best = u.best;
-    let stamp = u.stamp;
-    let values = u.values;
-    Held {
+    let Unit {
         threshold,
-        bound: u.bound,
+        bound,
         best,
         stamp,
         values,
-        cost: u.cost,
-        counter: u.counter,
-        stopped: u.stopped,
+        cost,
+        counter,
+        stopped,
+        ..
+    } = u;
+    Held {
+        threshold,
+        bound,
+        best,
+        stamp,
+        values,
+        cost,
+        counter,
+        stopped,
     }
 }
 
@@ -239,19 +196,25 @@ pub(crate) fn hold(u: Unit) -> Held
 pub(crate) fn release(estimates: [u32; 16], t: Held) -> Unit
     ensures { result ≡ holding t estimates }
 {
-    let threshold = t.threshold;
-    let best = t.best;
-    let stamp = t.stamp;
-    let values = t.values;
+    let Held {
+        threshold,
+        bound,
+        best,
+        stamp,
+        values,
+        cost,
+        counter,
+        stopped,
+    } = t;
     Unit {
         threshold,
-        bound: t.bound,
+        bound,
         best,
         estimates,
         stamp,
         values,
-        cost: t.cost,
-        counter: t.counter,
-        stopped: t.stopped,
+        cost,
+        counter,
+        stopped,
     }
 }

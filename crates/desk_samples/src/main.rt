@@ -3,28 +3,20 @@
 
 ghost use Rattle.std.specs.Prelude.{◌≤◌, length};
 
-use listing::Form;
+use listing::{Finder, Form};
 use std::env::Env;
 use std::fs::File;
 use std::os::fd::AsRawFd;
 use std::rt::Files;
 
-const STDOUT_FILENO: i32 = 1;
-
-const STDERR_FILENO: i32 = 2;
-
 fn main(rt: HostRuntime) {
-    let count = inputs::arg_count(&rt);
-    let runs = count / 2;
-    let mut k = 0;
-    while k < runs {
+    for k in 0..inputs::arg_count(&rt) / 2 {
         show(&rt, 2 * k + 1);
-        k += 1;
     }
 }
 
 // The sample that the arguments from i on name.
-fn show(rt: &(impl Files<File = File> + Env + Eprint), i: usize)
+fn show(rt: &(impl Files<File = File> + Env + Print + Eprint), i: usize)
     requires { i ≤ 18446744073709551613 }
 {
     let mut word = [0u8; 6];
@@ -34,39 +26,39 @@ fn show(rt: &(impl Files<File = File> + Env + Eprint), i: usize)
     show_file(rt, &word[..n], &file[..m]);
 }
 
-fn show_file(rt: &(impl Files<File = File> + Eprint), word: &[u8], file: &[u8]) {
-    io::write_all(STDOUT_FILENO, b"== ");
-    io::write_all(STDOUT_FILENO, word);
-    io::write_all(STDOUT_FILENO, b" ");
-    io::write_all(STDOUT_FILENO, file);
-    io::write_all(STDOUT_FILENO, b"\n");
+fn show_file(rt: &(impl Files<File = File> + Print + Eprint), word: &[u8], file: &[u8]) {
+    let _ = tell(rt, word, file);
     let Some(input) = inputs::open_named(rt, file) else {
         return;
     };
     let mut text = [0u8; 65536];
     let n = io::read_full(input.as_raw_fd(), &mut text);
-    show_text(word, &text[..n]);
+    match asked(word) {
+        Some((form, finder)) => {
+            let _ = listing::print(rt, &text[..n], form, finder);
+        }
+        None => {
+            let _ = eprintln!(rt; "desk_samples: say rows, shed, table or page");
+        }
+    }
 }
 
-fn show_text(word: &[u8], text: &[u8]) {
-    if check::same(word, b"rows") {
-        listing::print(text, Form::Rows, false);
-        return;
+// What is asked for, and of which file.
+fn tell(rt: &impl Print, word: &[u8], file: &[u8]) -> std::io::Result<()> {
+    rt.write_all(b"== ")?;
+    rt.write_all(word)?;
+    rt.write_all(b" ")?;
+    rt.write_all(file)?;
+    rt.write_all(b"\n")
+}
+
+// What a word asks for.
+fn asked(word: &[u8]) -> Option<(Form, Finder)> {
+    match word {
+        b"rows" => Some((Form::Rows, Finder::Search)),
+        b"shed" => Some((Form::Rows, Finder::Boxes)),
+        b"table" => Some((Form::Table, Finder::Search)),
+        b"page" => Some((Form::Page, Finder::Search)),
+        _ => None,
     }
-    if check::same(word, b"shed") {
-        listing::print(text, Form::Rows, true);
-        return;
-    }
-    if check::same(word, b"table") {
-        listing::print(text, Form::Table, false);
-        return;
-    }
-    if check::same(word, b"page") {
-        listing::print(text, Form::Page, false);
-        return;
-    }
-    io::write_all(
-        STDERR_FILENO,
-        b"desk_samples: say rows, shed, table or page\n",
-    );
 }

@@ -3,27 +3,40 @@
 // printed too, unless it is 12 once unit 1 has stopped.
 #![tactic(auto)]
 
-ghost use Rattle.std.specs.Prelude.{◌≡◌, ◌<◌, length};
+ghost use Rattle.std.specs.Prelude.{◌+◌, ◌*◌, ◌<◌, ◌≤◌, length};
 
-use base::{FILE_ROOM, MESSAGE_SIZE, POOL_CELLS};
+use base::{FILE_ROOM, MESSAGE_SIZE, POOL_CELLS, POOL_SIZE, Refusal, STREAM_SIZE};
 use network::{Answer, Network, ValueOrder};
 use std::fs::File;
-use std::os::fd::AsRawFd;
 use std::rt::Files;
-
-const STDOUT_FILENO: i32 = 1;
 
 // The most turns of a run, each with a delivery and an echo.
 const TURNS: usize = 10000;
 // How many packets are kept, the last ones delivered.
 const KEPT: usize = 6;
 
-// Which packet is delivered each time, and when it is echoed: before, or once `late` more were delivered.
-#[derive(Clone, Copy)]
-struct Schedule {
-    newest: bool,
-    before: bool,
-    late: usize,
+// Which packet is delivered each time.
+#[derive(Clone, Copy, Debug, PartialEq, Eq)]
+enum Next {
+    Oldest,
+    Newest,
+}
+
+// When it is echoed: before it is delivered, or once so many more were.
+#[derive(Clone, Copy, Debug, PartialEq, Eq)]
+enum Echoed {
+    Before,
+    After(usize),
+}
+
+// A run: its table, in which order values are tried, and how far it is.
+#[derive(Drop)]
+struct Run<'a> {
+    order: ValueOrder,
+    stream: &'a [u8],
+    net: Network,
+    pool: [u8; POOL_SIZE],
+    kept: [u8; KEPT * MESSAGE_SIZE],
 }
 
 fn main(rt: HostRuntime) {
@@ -32,203 +45,141 @@ fn main(rt: HostRuntime) {
 }
 
 // The runs of the stored table with this name.
-fn show(rt: &(impl Files<File = File> + Eprint), name: &str) {
-    let mut file = [0u8; FILE_ROOM];
-    let Some(input) = inputs::open(rt, name) else {
-        return;
-    };
-    let n = io::read_full(input.as_raw_fd(), &mut file);
-    show_table(name.as_bytes(), &file[..n]);
-}
-
-fn show_table(name: &[u8], file: &[u8]) {
-    let mut stream = [0u8; base::STREAM_SIZE];
-    let r = table::read(file, &mut stream);
-    let refusal = r.refusal;
-    if refusal != 0 {
-        refuse(refusal);
-        return;
+fn show(rt: &(impl Files<File = File> + Print + Eprint), name: &str) {
+    let mut file = [0; FILE_ROOM];
+    if let Some(n) = inputs::read(rt, name, &mut file) {
+        show_table(rt, name, &file[..n]);
     }
-    let length = r.length;
-    show_stream(name, &stream[0..length]);
 }
 
-fn show_stream(name: &[u8], stream: &[u8]) {
-    show_by(ValueOrder::Ascending, name, stream);
-    show_by(ValueOrder::CheapestFirst, name, stream);
+fn show_table(rt: &impl Print, name: &str, file: &[u8]) {
+    let mut buffer = [0; STREAM_SIZE];
+    match report::read_stream(file, &mut buffer) {
+        Ok(stream) => {
+            show_by(rt, ValueOrder::Ascending, name, stream);
+            show_by(rt, ValueOrder::CheapestFirst, name, stream);
+        }
+        Err(refusal) => {
+            let _ = println!(rt; "{refusal}");
+        }
+    }
 }
 
 // The runs with values tried in one order.
-fn show_by(order: ValueOrder, name: &[u8], stream: &[u8]) {
-    let mut s = Schedule {
-        newest: false,
-        before: false,
-        late: 0,
+fn show_by(rt: &impl Print, order: ValueOrder, name: &str, stream: &[u8]) {
+    let values = match order {
+        ValueOrder::Ascending => "ascending",
+        ValueOrder::CheapestFirst => "cheapest first",
     };
-    title(order, name, b", oldest first, each echoed at once\n");
-    list(order, stream, s);
-    s.before = true;
-    title(
-        order,
-        name,
-        b", oldest first, each echoed before it is delivered\n",
-    );
-    list(order, stream, s);
-    s.before = false;
-    s.newest = true;
-    title(order, name, b", newest first, each echoed at once\n");
-    list(order, stream, s);
-    s.newest = false;
-    s.late = 1;
-    title(order, name, b", oldest first, each echoed after one more\n");
-    list(order, stream, s);
-    s.late = 5;
-    title(
-        order,
-        name,
-        b", oldest first, each echoed after five more\n",
-    );
-    list(order, stream, s);
+    let _ = println!(rt; "{name}, {values}, oldest first, each echoed at once");
+    list(rt, order, stream, Next::Oldest, Echoed::After(0));
+    let _ = println!(rt; "{name}, {values}, oldest first, each echoed before it is delivered");
+    list(rt, order, stream, Next::Oldest, Echoed::Before);
+    let _ = println!(rt; "{name}, {values}, newest first, each echoed at once");
+    list(rt, order, stream, Next::Newest, Echoed::After(0));
+    let _ = println!(rt; "{name}, {values}, oldest first, each echoed after one more");
+    list(rt, order, stream, Next::Oldest, Echoed::After(1));
+    let _ = println!(rt; "{name}, {values}, oldest first, each echoed after five more");
+    list(rt, order, stream, Next::Oldest, Echoed::After(5));
 }
 
-// The line that names a run.
-fn title(order: ValueOrder, name: &[u8], words: &[u8]) {
-    io::write_all(STDOUT_FILENO, name);
-    match order {
-        ValueOrder::Ascending => {
-            io::write_all(STDOUT_FILENO, b", ascending");
+// The listing of a run, once unit 1 has stopped, or after the most turns.
+fn list(rt: &impl Print, order: ValueOrder, stream: &[u8], next: Next, echoed: Echoed) {
+    let mut run = Run::begin(rt, order, stream);
+    for k in 0..TURNS {
+        if stopped(run.net) {
+            break;
         }
-        ValueOrder::CheapestFirst => {
-            io::write_all(STDOUT_FILENO, b", cheapest first");
+        run.turn(rt, next, echoed, k);
+    }
+    report::print_network(rt, table::units_of(stream), run.net);
+}
+
+impl<'a> Run<'a> {
+    fn begin(rt: &impl Print, order: ValueOrder, stream: &'a [u8]) -> Run<'a> {
+        let mut pool = [0; POOL_SIZE];
+        let made = network::make_by(order, stream, &mut pool);
+        Run {
+            order,
+            stream,
+            net: told(rt, made),
+            pool,
+            kept: [0; KEPT * MESSAGE_SIZE],
         }
     }
-    io::write_all(STDOUT_FILENO, words);
-}
 
-// The listing of a run.
-fn list(order: ValueOrder, stream: &[u8], s: Schedule) {
-    let net = run(order, stream, s);
-    report::print_network(table::units_of(stream), net);
-}
-
-// The network once unit 1 has stopped, or after the most turns.
-fn run(order: ValueOrder, stream: &[u8], s: Schedule) -> Network {
-    let mut pool = [0u8; base::POOL_SIZE];
-    let mut kept = [0u8; KEPT * MESSAGE_SIZE];
-    let made = network::make_by(order, stream, &mut pool);
-    let mut net = told(made);
-    let mut k: usize = 0;
-    while k < TURNS {
-        if stopped(net) {
-            return net;
+    // Turn k: a packet is kept and delivered, and one that was kept is echoed.
+    fn turn(&mut self, rt: &impl Print, next: Next, echoed: Echoed, k: usize) {
+        let cell = cell_of(next, self.net.used);
+        self.keep(cell, k);
+        match echoed {
+            Echoed::Before => {
+                self.echo(rt, k);
+                self.deliver(rt, cell);
+            }
+            Echoed::After(late) => {
+                self.deliver(rt, cell);
+                if late <= k {
+                    self.echo(rt, k - late);
+                }
+            }
         }
-        net = turn(order, net, stream, &mut pool, &mut kept, s, k);
-        k += 1;
     }
-    net
+
+    // The packet of turn k, at this cell, is kept.
+    fn keep(&mut self, cell: u64, k: usize)
+        requires { cell < 1024 }
+    {
+        let packet = packet_at(&self.pool, cell as usize);
+        let at = MESSAGE_SIZE * (k % KEPT);
+        let end = at + MESSAGE_SIZE;
+        self.kept[at..end].copy_from_slice(&packet);
+    }
+
+    fn deliver(&mut self, rt: &impl Print, cell: u64) {
+        let a = network::deliver_by(self.order, self.net, self.stream, &mut self.pool, cell);
+        self.net = told(rt, a);
+    }
+
+    // The packet of turn k is heard again.
+    fn echo(&mut self, rt: &impl Print, k: usize) {
+        let packet = packet_at(&self.kept, k % KEPT);
+        let a = network::echo_by(self.order, self.net, self.stream, &mut self.pool, &packet);
+        self.net = told(rt, a);
+    }
 }
 
-// Turn k: a packet is kept and delivered, and one that was kept is echoed.
-fn turn(
-    order: ValueOrder,
-    net: Network,
-    stream: &[u8],
-    pool: &mut [u8],
-    kept: &mut [u8],
-    s: Schedule,
-    k: usize,
-) -> Network
-    requires { length kept.old ≡ 384 }
+// The 64 bytes at a place.
+fn packet_at(bytes: &[u8], place: usize) -> [u8; MESSAGE_SIZE]
+    requires { (place < 1024) × (64 * place + 64 ≤ length bytes.now) }
 {
-    let cell = cell_of(s.newest, net.used);
-    keep(pool, cell as usize, kept, k % KEPT);
-    if s.before {
-        let heard = echo(order, net, stream, pool, kept, k);
-        return deliver(order, heard, stream, pool, cell);
-    }
-    let next = deliver(order, net, stream, pool, cell);
-    if k < s.late {
-        return next;
-    }
-    echo(order, next, stream, pool, kept, k - s.late)
+    let at = MESSAGE_SIZE * place;
+    let end = at + MESSAGE_SIZE;
+    let mut packet = [0; MESSAGE_SIZE];
+    packet.copy_from_slice(&bytes[at..end]);
+    packet
 }
 
 // The cell to deliver.
-fn cell_of(newest: bool, used: u64) -> u64
+fn cell_of(next: Next, used: u64) -> u64
     ensures { result < 1024 }
 {
-    if !newest {
-        return 0;
+    match next {
+        Next::Newest if used <= POOL_CELLS => used.saturating_sub(1),
+        _ => 0,
     }
-    if used == 0 {
-        return 0;
-    }
-    if POOL_CELLS < used {
-        return 0;
-    }
-    used - 1
-}
-
-// The packet at a cell is kept at a place.
-fn keep(pool: &[u8], cell: usize, kept: &mut [u8], place: usize)
-    requires { (cell < 1024) × (place < 6) × (length kept.old ≡ 384) }
-{
-    let from = MESSAGE_SIZE * cell;
-    let to = MESSAGE_SIZE * place;
-    let mut i = 0;
-    while i < MESSAGE_SIZE {
-        kept[to + i] = base::byte_at(pool, from + i);
-        i += 1;
-    }
-}
-
-fn deliver(order: ValueOrder, net: Network, stream: &[u8], pool: &mut [u8], cell: u64) -> Network {
-    let a = network::deliver_by(order, net, stream, pool, cell);
-    told(a)
-}
-
-// The packet of turn k is heard again.
-fn echo(
-    order: ValueOrder,
-    net: Network,
-    stream: &[u8],
-    pool: &mut [u8],
-    kept: &[u8],
-    k: usize,
-) -> Network
-    requires { length kept.now ≡ 384 }
-{
-    let at = MESSAGE_SIZE * (k % KEPT);
-    let end = at + MESSAGE_SIZE;
-    let a = network::echo_by(order, net, stream, pool, &kept[at..end]);
-    told(a)
 }
 
 // The network after an event.
-fn told(a: Answer) -> Network {
-    let net = a.network;
-    let refusal = a.refusal;
-    if refusal == 0 {
-        return net;
+fn told(rt: &impl Print, a: Answer) -> Network {
+    let number = a.refusal;
+    if number != 0 && !(number == Refusal::Stopped.number() && stopped(a.network)) {
+        let _ = println!(rt; "refused {number}");
     }
-    if refusal == 12 {
-        if stopped(net) {
-            return net;
-        }
-    }
-    refuse(refusal);
-    net
+    a.network
 }
 
 // Whether unit 1 has.
 fn stopped(net: Network) -> bool {
-    let core = net.core;
-    let first = core.units[0];
-    first.stopped
-}
-
-fn refuse(number: u8) {
-    io::write_all(STDOUT_FILENO, b"refused ");
-    io::print_decimal(STDOUT_FILENO, number as u64);
-    io::write_all(STDOUT_FILENO, b"\n");
+    net.core.units[0].stopped
 }

@@ -7,35 +7,25 @@ use projections::COSTS_ROOM;
 
 const STDIN_FILENO: i32 = 0;
 
-const STDOUT_FILENO: i32 = 1;
-
-fn main() {
+fn main(rt: HostRuntime) {
     let mut file = [0u8; FILE_ROOM];
     let n = io::read_full(STDIN_FILENO, &mut file);
     let mut stream = [0u8; STREAM_SIZE];
-    let read = table::read(&file[..n], &mut stream);
-    let refusal = read.refusal;
-    if refusal != 0 {
-        print_line(b"refused ", refusal as u64);
-        return;
+    match table::read(&file[..n], &mut stream) {
+        Ok(length) => print_floor(&rt, &stream[..length]),
+        Err(refusal) => {
+            let _ = rt.println(refusal);
+        }
     }
-    let length = read.length;
-    print_floor(&stream[0..length]);
 }
 
 // The floor of a stream's table.
-fn print_floor(stream: &[u8]) {
+fn print_floor(rt: &impl Print, stream: &[u8]) {
     let mut costs = [0u32; COSTS_ROOM];
     let moved = projections::lower_bound(stream, &mut costs);
     if moved.refusal != 0 {
-        print_line(b"refused ", moved.refusal as u64);
+        let _ = println!(rt; "refused {}", moved.refusal);
         return;
     }
-    print_line(b"floor ", moved.floor as u64);
-}
-
-fn print_line(word: &[u8], number: u64) {
-    io::write_all(STDOUT_FILENO, word);
-    io::print_decimal(STDOUT_FILENO, number);
-    io::write_all(STDOUT_FILENO, b"\n");
+    let _ = println!(rt; "floor {}", moved.floor);
 }

@@ -7,83 +7,121 @@ mod page;
 mod words;
 
 ghost use Rattle.std.specs.Prelude.{◌≡◌};
+ghost use Rattle.std.specs.Result.{result_err};
 ghost use Rattle.rows.specs.Sheet.{sheet_of};
 
 use base::{FILE_SIZE, STREAM_SIZE};
+use lines::{Lots, front};
 use network::ValueOrder;
-use rows::Sheet;
+use rows::{Entry, Fault, Sheet};
 use search::Found;
-
-pub(crate) const STDOUT_FILENO: i32 = 1;
-
-const STDERR_FILENO: i32 = 2;
+use std::io;
+use words::BadRow;
 
 // The longest text, which is the room for names too.
 pub const TEXT_SIZE: usize = 65535;
 
 // What is asked for.
-#[derive(Clone, Copy)]
+#[derive(Clone, Copy, Debug, PartialEq, Eq)]
 pub enum Form {
     Rows,
     Table,
     Page,
 }
 
-// Prints what is asked for of the text, its lots found by branch and bound or by the rules of the boxes; or what is wrong with its first bad
-// row, whose fault it gives too.
-pub fn print(text: &[u8], form: Form, shed: bool) -> u8
-    ensures { result ≡ (sheet_of 65535 text.now).fault }
+// What finds the lots: branch and bound, or the rules of the boxes.
+#[derive(Clone, Copy, Debug, PartialEq, Eq)]
+pub enum Finder {
+    Search,
+    Boxes,
+}
+
+impl Finder {
+    fn find(self, stream: &[u8]) -> Found {
+        match self {
+            Finder::Search => search::branch_and_bound(stream),
+            Finder::Boxes => settled(stream),
+        }
+    }
+}
+
+// Prints what is asked for of the text; or what is wrong with its first bad row, whose fault it gives too. What can't be written is lost.
+pub fn print(
+    rt: &(impl Print + Eprint),
+    text: &[u8],
+    form: Form,
+    finder: Finder,
+) -> Result<(), Fault>
+    ensures { result_err result ≡ (sheet_of 65535 text.now).fault }
 {
     let mut names = [0u8; TEXT_SIZE];
-    let s = rows::parse(text, &mut names);
-    let fault = s.fault;
-    if fault != 0 {
-        words::tell(told_on(form), s);
-        return fault;
+    let sheet = rows::parse(text, &mut names);
+    if let Some(fault) = sheet.fault {
+        tell(rt, form, sheet, fault);
+        return Err(fault);
     }
-    print_sheet(s, &names, form, shed);
-    fault
+    let _ = print_sheet(rt, sheet, &names, form, finder);
+    Ok(())
 }
 
 // A bad row is told in place of the rows, and beside a file.
-fn told_on(form: Form) -> i32 {
-    match form {
-        Form::Rows => STDOUT_FILENO,
-        Form::Table => STDERR_FILENO,
-        Form::Page => STDERR_FILENO,
-    }
+fn tell(rt: &(impl Print + Eprint), form: Form, sheet: Sheet, fault: Fault) {
+    let bad = BadRow {
+        number: sheet.number,
+        row: sheet.row,
+        fault,
+    };
+    let _ = match form {
+        Form::Rows => println!(rt; "{bad}"),
+        Form::Table | Form::Page => eprintln!(rt; "{bad}"),
+    };
 }
 
-fn print_sheet(s: Sheet, names: &[u8], form: Form, shed: bool) {
+fn print_sheet(
+    rt: &impl Print,
+    sheet: Sheet,
+    names: &[u8],
+    form: Form,
+    finder: Finder,
+) -> io::Result<()> {
     let mut stream = [0u8; STREAM_SIZE];
-    let count = s.count;
-    let sizes = s.sizes;
-    let readings = s.readings;
+    let n = u8::try_from(sheet.count).unwrap_or(0);
     let made = readings::write_stream(
-        (count % 256) as u8,
-        sizes,
-        lines::front(&readings, 2 * (count % 256)),
+        n,
+        sheet.entries.map(|e| e.lots),
+        front(&readings_of(sheet.entries), 2 * usize::from(n)),
         &mut stream,
     );
-    let table = lines::front(&stream, made.length);
+    let table = front(&stream, made.unwrap_or(0));
+    if form == Form::Table {
+        return print_table(rt, table);
+    }
+    let found = finder.find(table);
+    let values = found.values;
+    let lots = Lots {
+        sheet,
+        names,
+        values,
+    };
     match form {
-        Form::Rows => lots::print(s, names, found_by(table, shed)),
-        Form::Table => print_table(table),
-        Form::Page => page::print(s, names, found_by(table, shed)),
+        Form::Page => page::print(rt, lots, found.total),
+        _ => lots::print(rt, lots, found.total),
     }
 }
 
-fn print_table(stream: &[u8]) {
+// The readings of a sheet, two bytes each.
+fn readings_of(entries: [Entry; 16]) -> [u8; 32] {
+    let mut readings = [0u8; 32];
+    for (k, entry) in entries.iter().enumerate() {
+        base::put(&mut readings, 2 * k, &entry.reading.to_le_bytes());
+    }
+    readings
+}
+
+fn print_table(rt: &impl Print, stream: &[u8]) -> io::Result<()> {
     let mut file = [0u8; FILE_SIZE];
     let written = table::write(stream, &mut file);
-    io::write_all(STDOUT_FILENO, lines::front(&file, written.length));
-}
-
-fn found_by(stream: &[u8], shed: bool) -> Found {
-    if shed {
-        return settled(stream);
-    }
-    search::branch_and_bound(stream)
+    rt.write_all(front(&file, written.unwrap_or(0)))
 }
 
 // What box 1 reports.

@@ -3,8 +3,73 @@ ghost use Rattle.std.specs.Prelude.{◌+◌, ◌≤◌, ◌<◌};
 
 use rows::Sheet;
 
-// How many lines a lot has, the sum of their readings, the least and the most of them.
+// The lines of wool of a sheet with their names, and the lot of each.
 #[derive(Clone, Copy)]
+pub(crate) struct Lots<'a> {
+    pub(crate) sheet: Sheet,
+    pub(crate) names: &'a [u8],
+    pub(crate) values: [u8; 16],
+}
+
+impl<'a> Lots<'a> {
+    // How many lines there are.
+    pub(crate) fn count(self) -> usize
+        ensures { result ≤ 16 }
+    {
+        self.sheet.count.min(16)
+    }
+
+    // The name of line k, from 0: it stands behind those before it.
+    pub(crate) fn name(self, k: usize) -> &'a [u8]
+        requires { k < 16 }
+    {
+        let start = self.start(k);
+        let end = self.start(k + 1);
+        self.names.get(start..end).unwrap_or(&[])
+    }
+
+    fn start(self, k: usize) -> usize
+        requires { k ≤ 16 }
+    {
+        self.sheet.entries[..k]
+            .iter()
+            .fold(0usize, |at, entry| at.saturating_add(entry.length))
+    }
+
+    // The reading of line k, in tenths of a micron.
+    pub(crate) fn reading(self, k: usize) -> u32
+        requires { k < 16 }
+        ensures { result < 65536 }
+    {
+        u32::from(self.sheet.entries[k].reading)
+    }
+
+    // Whether line k is there, and in this lot.
+    pub(crate) fn is_in(self, lot: u8, k: usize) -> bool
+        requires { k < 16 }
+    {
+        k < self.sheet.count && self.values[k] == lot
+    }
+
+    // The lines of a lot together.
+    pub(crate) fn tally(self, lot: u8) -> Tally {
+        let mut t = Tally {
+            lines: 0,
+            sum: 0,
+            least: 65535,
+            most: 0,
+        };
+        for k in 0..16 {
+            if self.is_in(lot, k) {
+                t = t.with(self.reading(k));
+            }
+        }
+        t
+    }
+}
+
+// How many lines a lot has, the sum of their readings, the least and the most of them.
+#[derive(Clone, Copy, Debug)]
 pub(crate) struct Tally {
     pub(crate) lines: u32,
     pub(crate) sum: u32,
@@ -12,143 +77,36 @@ pub(crate) struct Tally {
     pub(crate) most: u32,
 }
 
+impl Tally {
+    // With one line more, of this reading.
+    fn with(self, x: u32) -> Tally
+        requires { (self.lines < 65536) × (self.sum < 16777216) × (x < 65536) }
+        ensures { (result.lines ≤ self.lines + 1) × (result.sum ≤ self.sum + 65536) }
+    {
+        Tally {
+            lines: self.lines + 1,
+            sum: self.sum + x,
+            least: self.least.min(x),
+            most: self.most.max(x),
+        }
+    }
+
+    // The mean, in hundredths of a micron, rounded to the nearest, half upward.
+    pub(crate) fn mean(self) -> u64 {
+        if self.lines == 0 {
+            return 0;
+        }
+        let lines = u64::from(self.lines);
+        (10 * u64::from(self.sum) + lines / 2) / lines
+    }
+
+    // The spread, in tenths of a micron: the most less the least.
+    pub(crate) fn spread(self) -> u32 {
+        self.most.saturating_sub(self.least)
+    }
+}
+
 // The first n bytes, or all that there are.
-pub(crate) fn front<'a>(bytes: &'a [u8], n: usize) -> &'a [u8] {
-    if bytes.len() < n {
-        return bytes;
-    }
-    &bytes[0..n]
-}
-
-// The name of line k, from 0.
-pub(crate) fn name_of<'a>(names: &'a [u8], s: Sheet, k: usize) -> &'a [u8]
-    requires { k < 16 }
-{
-    let lengths = s.lengths;
-    let start = start_of(lengths, k, names.len());
-    let end = start_of(lengths, k + 1, names.len());
-    if end < start {
-        return &names[0..0];
-    }
-    &names[start..end]
-}
-
-// Where the name of line k begins: behind those before it.
-fn start_of(lengths: [usize; 16], k: usize, room: usize) -> usize
-    ensures { result ≤ room }
-{
-    let mut at = 0;
-    let mut j = 0;
-    while j < 16 {
-        at = past(at, counted(lengths[j], j, k), room);
-        j += 1;
-    }
-    at
-}
-
-// Only the names before k count.
-fn counted(length: usize, j: usize, k: usize) -> usize {
-    if j < k {
-        return length;
-    }
-    0
-}
-
-fn past(at: usize, length: usize, room: usize) -> usize
-    requires { at ≤ room }
-    ensures { result ≤ room }
-{
-    if length <= room - at {
-        return at + length;
-    }
-    room
-}
-
-// The reading of line k, from 0, in tenths of a micron.
-pub(crate) fn reading_of(s: Sheet, k: usize) -> u32
-    requires { k < 16 }
-    ensures { result < 65536 }
-{
-    let readings = s.readings;
-    base::u16_at(&readings, 2 * k)
-}
-
-// Whether line k is there, and in this lot.
-pub(crate) fn is_in(s: Sheet, values: [u8; 16], lot: u8, k: usize) -> bool
-    requires { k < 16 }
-{
-    if s.count <= k {
-        return false;
-    }
-    values[k] == lot
-}
-
-// The lines of a lot together; with lot 0 all lines.
-pub(crate) fn tally_of(s: Sheet, values: [u8; 16], lot: u8) -> Tally {
-    let mut t = Tally {
-        lines: 0,
-        sum: 0,
-        least: 65535,
-        most: 0,
-    };
-    let mut k = 0;
-    while k < 16 {
-        t = with_line(t, s, values, lot, k);
-        k += 1;
-    }
-    t
-}
-
-// With line k, if it is in the lot.
-fn with_line(t: Tally, s: Sheet, values: [u8; 16], lot: u8, k: usize) -> Tally
-    requires { (t.lines < 65536) × (t.sum < 16777216) × (k < 16) }
-    ensures { (result.lines ≤ t.lines + 1) × (result.sum ≤ t.sum + 65536) }
-{
-    if is_in(s, values, lot, k) {
-        return with(t, reading_of(s, k));
-    }
-    t
-}
-
-fn with(t: Tally, x: u32) -> Tally
-    requires { (t.lines < 65536) × (t.sum < 16777216) × (x < 65536) }
-    ensures { (result.lines ≤ t.lines + 1) × (result.sum ≤ t.sum + 65536) }
-{
-    Tally {
-        lines: t.lines + 1,
-        sum: t.sum + x,
-        least: lesser(t.least, x),
-        most: greater(t.most, x),
-    }
-}
-
-fn lesser(a: u32, b: u32) -> u32 {
-    if a < b {
-        return a;
-    }
-    b
-}
-
-fn greater(a: u32, b: u32) -> u32 {
-    if a < b {
-        return b;
-    }
-    a
-}
-
-// The mean of a lot, in hundredths of a micron, rounded to the nearest, half upward.
-pub(crate) fn mean(t: Tally) -> u64 {
-    let lines = base::wide_u64(t.lines);
-    if lines == 0 {
-        return 0;
-    }
-    (10 * base::wide_u64(t.sum) + lines / 2) / lines
-}
-
-// The spread of a lot, in tenths of a micron: its most less its least.
-pub(crate) fn spread(t: Tally) -> u32 {
-    if t.most < t.least {
-        return 0;
-    }
-    t.most - t.least
+pub(crate) fn front(bytes: &[u8], n: usize) -> &[u8] {
+    &bytes[..n.min(bytes.len())]
 }

@@ -2,100 +2,75 @@
 // shows them one column further on, and the rows read back without them.
 ghost use Rattle.std.specs.Prelude.{◌<◌};
 
-use crate::lines::Tally;
-use crate::{STDOUT_FILENO, lines};
-use rows::Sheet;
-use search::Found;
+use crate::lines::{Lots, Tally, front};
+use std::{fmt, io};
 
 // Room for the text of a line with the longest name.
 const LINE_ROOM: usize = 131081;
 
-pub(crate) fn print(s: Sheet, names: &[u8], found: Found) {
-    let values = found.values;
-    io::write_all(STDOUT_FILENO, b"name,micron,lot\n");
-    print_rows(s, names, values);
-    io::write_all(STDOUT_FILENO, b",lot,mean,spread,lines\n");
-    print_lots(s, names, values);
-    io::write_all(STDOUT_FILENO, b",total cost,");
-    io::print_decimal(STDOUT_FILENO, found.total as u64);
-    io::write_all(STDOUT_FILENO, b"\n");
-}
-
-fn print_rows(s: Sheet, names: &[u8], values: [u8; 16]) {
-    let mut k = 0;
-    while k < 16 {
-        if k < s.count {
-            print_row(s, names, values[k], k);
-        }
-        k += 1;
+pub(crate) fn print(rt: &impl Print, lots: Lots, total: u32) -> io::Result<()> {
+    println!(rt; "name,micron,lot")?;
+    for k in 0..lots.count() {
+        print_row(rt, lots, k)?;
     }
+    println!(rt; ",lot,mean,spread,lines")?;
+    for lot in 1..=16 {
+        let t = lots.tally(lot);
+        if t.lines > 0 {
+            print_lot(rt, lots, lot, t)?;
+        }
+    }
+    println!(rt; ",total cost,{total}")
 }
 
 // Line k, with its lot.
-fn print_row(s: Sheet, names: &[u8], lot: u8, k: usize)
+fn print_row(rt: &impl Print, lots: Lots, k: usize) -> io::Result<()>
     requires { k < 16 }
 {
-    let mut out = [0u8; LINE_ROOM];
-    let n = rows::write_line(
-        lines::name_of(names, s, k),
-        lines::reading_of(s, k),
-        base::wide_u32(lot),
-        &mut out,
-    );
-    io::write_all(STDOUT_FILENO, lines::front(&out, n));
+    let mut text = [0u8; LINE_ROOM];
+    let lot = u32::from(lots.values[k]);
+    let written = rows::write_line(lots.name(k), lots.reading(k), lot, &mut text);
+    rt.write_all(front(&text, written.unwrap_or(0)))
 }
 
-fn print_lots(s: Sheet, names: &[u8], values: [u8; 16]) {
-    let mut lot = 1;
-    while lot < 17 {
-        let t = lines::tally_of(s, values, lot);
-        if t.lines > 0 {
-            print_lot(s, names, values, lot, t);
+fn print_lot(rt: &impl Print, lots: Lots, lot: u8, t: Tally) -> io::Result<()> {
+    let mean = Hundredths(t.mean());
+    let spread = Tenths(t.spread());
+    print!(rt; ",{lot},{mean},{spread}")?;
+    for k in 0..16 {
+        if lots.is_in(lot, k) {
+            print_name(rt, lots.name(k))?;
         }
-        lot += 1;
     }
+    println!(rt)
 }
 
-fn print_lot(s: Sheet, names: &[u8], values: [u8; 16], lot: u8, t: Tally) {
-    io::write_all(STDOUT_FILENO, b",");
-    io::print_decimal(STDOUT_FILENO, lot as u64);
-    io::write_all(STDOUT_FILENO, b",");
-    print_hundredths(lines::mean(t));
-    io::write_all(STDOUT_FILENO, b",");
-    print_tenths(lines::spread(t));
-    print_names(s, names, values, lot);
-    io::write_all(STDOUT_FILENO, b"\n");
-}
-
-// The names of a lot's lines, each behind a comma.
-fn print_names(s: Sheet, names: &[u8], values: [u8; 16], lot: u8) {
-    let mut k = 0;
-    while k < 16 {
-        if lines::is_in(s, values, lot, k) {
-            print_name(lines::name_of(names, s, k));
-        }
-        k += 1;
-    }
-}
-
-fn print_name(name: &[u8]) {
-    let mut out = [0u8; LINE_ROOM];
-    let n = rows::write_name(name, &mut out);
-    io::write_all(STDOUT_FILENO, b",");
-    io::write_all(STDOUT_FILENO, lines::front(&out, n));
+// A name behind a comma.
+fn print_name(rt: &impl Print, name: &[u8]) -> io::Result<()> {
+    let mut text = [0u8; LINE_ROOM];
+    let written = rows::write_name(name, &mut text);
+    rt.write_all(b",")?;
+    rt.write_all(front(&text, written.unwrap_or(0)))
 }
 
 // ---- numbers
 
-pub(crate) fn print_tenths(x: u32) {
-    io::print_decimal(STDOUT_FILENO, (x / 10) as u64);
-    io::write_all(STDOUT_FILENO, b".");
-    io::print_decimal(STDOUT_FILENO, (x % 10) as u64);
+// Tenths of a micron, as 19.3.
+#[derive(Clone, Copy, Debug)]
+pub(crate) struct Tenths(pub(crate) u32);
+
+impl fmt::Display for Tenths {
+    fn fmt<W: fmt::Write>(&self, f: &mut fmt::Formatter<W>) -> fmt::Result {
+        write!(f, "{}.{}", self.0 / 10, self.0 % 10)
+    }
 }
 
-pub(crate) fn print_hundredths(x: u64) {
-    io::print_decimal(STDOUT_FILENO, x / 100);
-    io::write_all(STDOUT_FILENO, b".");
-    io::print_decimal(STDOUT_FILENO, x / 10 % 10);
-    io::print_decimal(STDOUT_FILENO, x % 10);
+// Hundredths of a micron, as 19.25.
+#[derive(Clone, Copy, Debug)]
+pub(crate) struct Hundredths(pub(crate) u64);
+
+impl fmt::Display for Hundredths {
+    fn fmt<W: fmt::Write>(&self, f: &mut fmt::Formatter<W>) -> fmt::Result {
+        write!(f, "{}.{:02}", self.0 / 100, self.0 % 100)
+    }
 }

@@ -1,17 +1,34 @@
 // One page that shows the lots: each a row, its lines as marks on one micron axis.
 ghost use Rattle.std.specs.Prelude.{◌+◌, ◌≤◌, ◌<◌};
 
-use crate::lines::Tally;
-use crate::{STDOUT_FILENO, lines, lots};
-use rows::Sheet;
-use search::Found;
+use crate::lines::{Lots, Tally};
+use crate::lots::{Hundredths, Tenths};
+use std::io;
 
-// The axis: its first and last reading, in tenths of a micron, whole microns both.
-#[derive(Clone, Copy)]
-struct Axis {
-    from: u32,
-    to: u32,
-}
+// The page as far as its axis.
+const HEAD: &str = "<!DOCTYPE html>
+<html lang=\"en\">
+<head>
+<meta charset=\"utf-8\">
+<title>Lots</title>
+<style>
+body { font: 16px/1.4 sans-serif; color: #222; background: #fff; margin: 24px; }
+table { border-collapse: collapse; }
+th, td { padding: 6px 14px; border-top: 1px solid #bbb; text-align: right; vertical-align: middle; }
+th { font-weight: 600; border-top: 0; }
+td.lines, th.lines { text-align: left; padding: 0; }
+svg { display: block; font: 13px sans-serif; }
+circle { fill: #0b6e99; }
+.mean { stroke: #c2410c; stroke-width: 2; }
+.spread { stroke: #9fc6d8; stroke-width: 6; }
+.tick { stroke: #ddd; }
+text { paint-order: stroke; stroke: #fff; stroke-width: 4px; }
+</style>
+</head>
+<body>
+<h1>Lots</h1>
+<table>
+";
 
 // The width of the axis, its place, and half way along it, in pixels.
 const WIDTH: u64 = 600;
@@ -20,231 +37,139 @@ const LEFT: u64 = 40;
 
 const HALF: u64 = 340;
 
-pub(crate) fn print(s: Sheet, names: &[u8], found: Found) {
-    let values = found.values;
-    let axis = axis_of(s);
-    put(
-        b"<!DOCTYPE html>\n<html lang=\"en\">\n<head>\n<meta charset=\"utf-8\">\n<title>Lots</title>\n<style>\n",
-    );
-    put(b"body { font: 16px/1.4 sans-serif; color: #222; background: #fff; margin: 24px; }\n");
-    put(
-        b"table { border-collapse: collapse; }\nth, td { padding: 6px 14px; border-top: 1px solid #bbb; text-align: right; vertical-align: middle; }\n",
-    );
-    put(
-        b"th { font-weight: 600; border-top: 0; }\ntd.lines, th.lines { text-align: left; padding: 0; }\nsvg { display: block; font: 13px sans-serif; }\n",
-    );
-    put(
-        b"circle { fill: #0b6e99; }\n.mean { stroke: #c2410c; stroke-width: 2; }\n.spread { stroke: #9fc6d8; stroke-width: 6; }\n.tick { stroke: #ddd; }\ntext { paint-order: stroke; stroke: #fff; stroke-width: 4px; }\n",
-    );
-    put(b"</style>\n</head>\n<body>\n<h1>Lots</h1>\n<table>\n<tr><th>lot</th><th class=\"lines\">");
-    print_axis(axis);
-    put(b"</svg></th><th>mean</th><th>spread</th></tr>\n");
-    print_lots(s, names, values, axis);
-    put(b"</table>\n<p>mean and spread in microns; total cost <b>");
-    number(base::wide_u64(found.total));
-    put(b"</b></p>\n</body>\n</html>\n");
+pub(crate) fn print(rt: &impl Print, lots: Lots, total: u32) -> io::Result<()> {
+    let axis = Axis::of(lots);
+    print!(rt; "{HEAD}<tr><th>lot</th><th class=\"lines\">")?;
+    print_axis(rt, axis)?;
+    println!(rt; "</svg></th><th>mean</th><th>spread</th></tr>")?;
+    for lot in 1..=16 {
+        let t = lots.tally(lot);
+        if t.lines > 0 {
+            print_lot(rt, lots, lot, t, axis)?;
+        }
+    }
+    println!(rt; "</table>")?;
+    println!(rt; "<p>mean and spread in microns; total cost <b>{total}</b></p>")?;
+    println!(rt; "</body>\n</html>")
 }
 
 // ---- the axis
 
-// From the micron at or below the finest line to that at or above the coarsest.
-fn axis_of(s: Sheet) -> Axis {
-    let t = lines::tally_of(s, [0; 16], 0);
-    let from = t.least % 65536 / 10 * 10;
-    let to = (t.most % 65536 + 9) / 10 * 10;
-    if from < to {
-        return Axis { from, to };
-    }
-    Axis {
-        from,
-        to: from + 10,
-    }
+// The axis: its first and last reading, in tenths of a micron, whole microns both.
+#[derive(Clone, Copy, Debug)]
+struct Axis {
+    from: u32,
+    to: u32,
 }
 
-// Where a reading of so many hundredths of a micron stands, in pixels.
-fn place(axis: Axis, x: u64) -> u64
-    ensures { (40 ≤ result) × (result < 8589934592) }
-{
-    let from = 10 * base::wide_u64(axis.from);
-    let to = 10 * base::wide_u64(axis.to);
-    if x < from {
-        return LEFT;
+impl Axis {
+    // From the micron at or below the finest line to that at or above the coarsest. In lot 0 are all lines.
+    fn of(lots: Lots) -> Axis {
+        let all = Lots {
+            values: [0; 16],
+            ..lots
+        };
+        let t = all.tally(0);
+        let from = t.least % 65536 / 10 * 10;
+        let to = (t.most % 65536 + 9) / 10 * 10;
+        Axis {
+            from,
+            to: if from < to { to } else { from + 10 },
+        }
     }
-    if to <= x {
-        return LEFT + WIDTH;
+
+    // Where a reading of so many hundredths of a micron stands, in pixels.
+    fn place(self, x: u64) -> u64
+        ensures { (40 ≤ result) × (result < 8589934592) }
+    {
+        let from = 10 * u64::from(self.from);
+        let to = 10 * u64::from(self.to);
+        if x < from {
+            return LEFT;
+        }
+        if to <= x {
+            return LEFT + WIDTH;
+        }
+        LEFT + ((x - from) * WIDTH / (to - from)).min(WIDTH)
     }
-    let along = (x - from) * WIDTH / (to - from);
-    if along < WIDTH {
-        return LEFT + along;
-    }
-    LEFT + WIDTH
 }
 
 // The microns of the axis, each with its number.
-fn print_axis(axis: Axis) {
-    put(b"<svg width=\"680\" height=\"26\">");
-    let mut micron = 0;
-    while micron < 7000 {
-        if is_on(axis, micron) {
-            print_micron(micron, place(axis, 100 * micron));
-        }
-        micron += 1;
+fn print_axis(rt: &impl Print, axis: Axis) -> io::Result<()> {
+    print!(rt; "<svg width=\"680\" height=\"26\">")?;
+    for micron in axis.from / 10..=axis.to / 10 {
+        let x = axis.place(100 * u64::from(micron));
+        print!(rt; "<text x=\"{x}\" y=\"18\" text-anchor=\"middle\">{micron}</text>")?;
     }
-}
-
-fn is_on(axis: Axis, micron: u64) -> bool {
-    if micron < base::wide_u64(axis.from) / 10 {
-        return false;
-    }
-    micron <= base::wide_u64(axis.to) / 10
-}
-
-fn print_micron(micron: u64, x: u64) {
-    put(b"<text x=\"");
-    number(x);
-    put(b"\" y=\"18\" text-anchor=\"middle\">");
-    number(micron);
-    put(b"</text>");
+    Ok(())
 }
 
 // ---- lots
 
-fn print_lots(s: Sheet, names: &[u8], values: [u8; 16], axis: Axis) {
-    let mut lot = 1;
-    while lot < 17 {
-        let t = lines::tally_of(s, values, lot);
-        if t.lines > 0 {
-            print_lot(s, names, values, lot, t, axis);
-        }
-        lot += 1;
-    }
-}
-
-fn print_lot(s: Sheet, names: &[u8], values: [u8; 16], lot: u8, t: Tally, axis: Axis) {
-    put(b"<tr><td>");
-    number(lot as u64);
-    put(b"</td><td class=\"lines\"><svg width=\"680\" height=\"");
-    let height = 20 * base::wide_u64(t.lines) + 16;
-    number(height);
-    put(b"\">");
-    bar(b"tick", LEFT, LEFT, height);
-    bar(b"tick", LEFT + WIDTH, LEFT + WIDTH, height);
-    across(axis, t);
-    let middle = place(axis, lines::mean(t));
-    bar(b"mean", middle, middle, height);
-    print_marks(s, names, values, lot, axis);
-    put(b"</svg></td><td>");
-    lots::print_hundredths(lines::mean(t));
-    put(b"</td><td>");
-    lots::print_tenths(lines::spread(t));
-    put(b"</td></tr>\n");
+fn print_lot(rt: &impl Print, lots: Lots, lot: u8, t: Tally, axis: Axis) -> io::Result<()> {
+    let height = 20 * u64::from(t.lines) + 16;
+    print!(rt; "<tr><td>{lot}</td><td class=\"lines\"><svg width=\"680\" height=\"{height}\">")?;
+    print_bar(rt, "tick", LEFT, height)?;
+    print_bar(rt, "tick", LEFT + WIDTH, height)?;
+    print_spread(rt, axis, t)?;
+    print_bar(rt, "mean", axis.place(t.mean()), height)?;
+    print_marks(rt, lots, lot, axis)?;
+    let mean = Hundredths(t.mean());
+    let spread = Tenths(t.spread());
+    println!(rt; "</svg></td><td>{mean}</td><td>{spread}</td></tr>")
 }
 
 // From the least reading of a lot to its most.
-fn across(axis: Axis, t: Tally) {
-    put(b"<line class=\"spread\" y1=\"6\" y2=\"6\" x1=\"");
-    number(place(axis, 10 * base::wide_u64(t.least)));
-    put(b"\" x2=\"");
-    number(place(axis, 10 * base::wide_u64(t.most)));
-    put(b"\"/>");
+fn print_spread(rt: &impl Print, axis: Axis, t: Tally) -> io::Result<()> {
+    let from = axis.place(10 * u64::from(t.least));
+    let to = axis.place(10 * u64::from(t.most));
+    print!(rt; "<line class=\"spread\" y1=\"6\" y2=\"6\" x1=\"{from}\" x2=\"{to}\"/>")
 }
 
-fn bar(class: &[u8], from: u64, to: u64, height: u64) {
-    put(b"<line class=\"");
-    put(class);
-    put(b"\" x1=\"");
-    number(from);
-    put(b"\" x2=\"");
-    number(to);
-    put(b"\" y1=\"0\" y2=\"");
-    number(height);
-    put(b"\"/>");
+fn print_bar(rt: &impl Print, class: &str, x: u64, height: u64) -> io::Result<()> {
+    print!(rt; "<line class=\"{class}\" x1=\"{x}\" x2=\"{x}\" y1=\"0\" y2=\"{height}\"/>")
 }
 
 // A mark for each line of a lot, one below the other.
-fn print_marks(s: Sheet, names: &[u8], values: [u8; 16], lot: u8, axis: Axis) {
+fn print_marks(rt: &impl Print, lots: Lots, lot: u8, axis: Axis) -> io::Result<()> {
     let mut y = 22;
-    let mut k = 0;
-    while k < 16 {
-        y = print_line(s, names, values, lot, axis, k, y);
-        k += 1;
+    for k in 0..16 {
+        if lots.is_in(lot, k) {
+            print_mark(rt, lots, k, axis, y)?;
+            y += 20;
+        }
     }
+    Ok(())
 }
 
-// The mark of line k, if it is in the lot; gives the place of the next.
-fn print_line(
-    s: Sheet,
-    names: &[u8],
-    values: [u8; 16],
-    lot: u8,
-    axis: Axis,
-    k: usize,
-    y: u64,
-) -> u64
+// The mark of line k, and beside it the name, towards the middle of the axis.
+fn print_mark(rt: &impl Print, lots: Lots, k: usize, axis: Axis, y: u64) -> io::Result<()>
     requires { (k < 16) × (y < 65536) }
-    ensures { result ≤ y + 20 }
 {
-    if lines::is_in(s, values, lot, k) {
-        let reading = lines::reading_of(s, k);
-        let x = place(axis, 10 * base::wide_u64(reading));
-        print_mark(lines::name_of(names, s, k), reading, x, y);
-        return y + 20;
-    }
-    y
-}
-
-// A mark, and beside it the name, towards the middle of the axis.
-fn print_mark(name: &[u8], reading: u32, x: u64, y: u64)
-    requires { (40 ≤ x) × (x < 8589934592) × (y < 8589934592) }
-{
-    put(b"<circle r=\"5\" cx=\"");
-    number(x);
-    put(b"\" cy=\"");
-    number(y);
-    put(b"\"/><text y=\"");
-    number(y + 5);
-    put(b"\" x=\"");
+    let x = axis.place(10 * u64::from(lots.reading(k)));
+    let below = y + 5;
+    print!(rt; "<circle r=\"5\" cx=\"{x}\" cy=\"{y}\"/><text y=\"{below}\" x=\"")?;
     if x < HALF {
-        number(x + 10);
+        print!(rt; "{}\">", x + 10)?;
     } else {
-        number(x - 10);
-        put(b"\" text-anchor=\"end");
+        print!(rt; "{}\" text-anchor=\"end\">", x - 10)?;
     }
-    put(b"\">");
-    escape(name);
-    put(b" ");
-    lots::print_tenths(reading);
-    put(b"</text>");
-}
-
-// ---- text
-
-fn put(bytes: &[u8]) {
-    io::write_all(STDOUT_FILENO, bytes);
-}
-
-fn number(x: u64) {
-    io::print_decimal(STDOUT_FILENO, x);
+    print_escaped(rt, lots.name(k))?;
+    print!(rt; " {}</text>", Tenths(lots.reading(k)))
 }
 
 // A name, with what would be markup written as text.
-fn escape(name: &[u8]) {
-    let mut i = 0;
-    while i < name.len() {
-        put_escaped(name[i]);
-        i += 1;
+fn print_escaped(rt: &impl Print, name: &[u8]) -> io::Result<()> {
+    for b in name {
+        match *b {
+            b'&' => rt.write_all(b"&amp;")?,
+            b'<' => rt.write_all(b"&lt;")?,
+            b'>' => rt.write_all(b"&gt;")?,
+            b'"' => rt.write_all(b"&quot;")?,
+            b'\'' => rt.write_all(b"&#39;")?,
+            0..=31 | 127 => rt.write_all(b" ")?,
+            c => rt.write_all(&[c])?,
+        }
     }
-}
-
-fn put_escaped(b: u8) {
-    match b {
-        b'&' => put(b"&amp;"),
-        b'<' => put(b"&lt;"),
-        b'>' => put(b"&gt;"),
-        b'"' => put(b"&quot;"),
-        b'\'' => put(b"&#39;"),
-        0..=31 => put(b" "),
-        127 => put(b" "),
-        _ => put(&[b]),
-    }
+    Ok(())
 }

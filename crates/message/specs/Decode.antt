@@ -1,11 +1,11 @@
 -- A message read from bytes and written into a lent buffer, with the refusals in 01's order. Document 01, 'Refusals':
 -- "Reading a message: 5, 8, 10, 9. Writing one: 5, 10, 9, 13." Assumes nothing.
-use Rattle.std.specs.Prelude.{ℕ, ◌+◌, Bool, cond, not, ◌&&◌, List, leb, eqb, length, take, drop, get_or}
-use Rattle.base.specs.{Bytes.u16_at, Bytes.u32_at, Limits.places, Limits.message_size, Put.put_at, Shape.shape_good}
+use Rattle.std.specs.Prelude.{ℕ, ◌+◌, Bool, cond, not, ◌&&◌, List, leb, eqb, length, take, drop, get_or, Result, Ok, Err}
+use Rattle.base.specs.{declared.Refusal.Refusal, declared.Refusal.TheVariants.OutOfRange, declared.Refusal.TheVariants.Damaged, declared.Refusal.TheVariants.BadField, declared.Refusal.TheVariants.BadUnit, Bytes.u16_at, Bytes.u32_at, Limits.places, Limits.message_size, Put.put_at, Shape.shape_good}
 use Rattle.checksum.specs.Sum.{sum_of}
-use Rattle.message.specs.{declared.Kind.Kind, declared.Read.Read, declared.Read.TheVariants.Good, declared.Read.TheVariants.Refused, declared.Message.Message, declared.Parsed.Parsed, Written.encode}
+use Rattle.message.specs.{declared.Kind.Kind, declared.Message.Message, Written.encode}
 use Rattle.message.specs.Layout.{stamp_byte, values_byte, cost_byte, bound_byte, best_byte, zero_byte, check_byte}
-use Rattle.message.specs.Message.{kind_of, no_message, address_good, well_formed}
+use Rattle.message.specs.Message.{kind_of, address_good, well_formed}
 
 -- the fields of 64 bytes
 unfoldable pub message_in : List ℕ → Message
@@ -27,25 +27,21 @@ check_good s = eqb (length s) message_size && eqb (u16_at s check_byte) (sum_of 
 unfoldable pub rest_zero : List ℕ → Bool
 rest_zero s = eqb (get_or s 3 0) 0 && eqb (u16_at s zero_byte) 0
 
--- the answer with a refusal: every field beside the number is zero
-abbrev pub refused : ℕ → Parsed
-refused r = record { answer = Refused r; message = no_message }
-
 -- check 9, by the kind read, on the bytes s and their fields m
-unfoldable pub parse_kind : ℕ → List ℕ → List ℕ → Message → Read → Parsed
-parse_kind n sizes s m (Good k) = cond (rest_zero s && well_formed n sizes k m) (record { answer = Good k; message = m }) (refused 9)
-parse_kind n sizes s m (Refused r) = refused r
+unfoldable pub parse_kind : ℕ → List ℕ → List ℕ → Message → Result Kind Refusal → Result (Kind × Message) Refusal
+parse_kind n sizes s m (Ok k) = cond (rest_zero s && well_formed n sizes k m) (Ok (k, m)) (Err BadField)
+parse_kind n sizes s m (Err r) = Err r
 
 -- 01: "5, 8, 10, 9", read by unit own; 10: "sender or receiver not 1 to n; in a step, message for another unit"
-unfoldable pub parse_for : ℕ → List ℕ → ℕ → List ℕ → Parsed
+unfoldable pub parse_for : ℕ → List ℕ → ℕ → List ℕ → Result (Kind × Message) Refusal
 parse_for n sizes own s =
-    cond (not (shape_good n sizes)) (refused 5)
-    (cond (not (check_good s)) (refused 8)
-    (cond (not (address_good n (message_in s) && eqb (message_in s).receiver own)) (refused 10)
+    cond (not (shape_good n sizes)) (Err OutOfRange)
+    (cond (not (check_good s)) (Err Damaged)
+    (cond (not (address_good n (message_in s) && eqb (message_in s).receiver own)) (Err BadUnit)
     (parse_kind n sizes s (message_in s) (kind_of (get_or s 0 0)))))
 
 -- read by any unit: by the one that byte 2 names
-abbrev pub parse_of : ℕ → List ℕ → List ℕ → Parsed
+abbrev pub parse_of : ℕ → List ℕ → List ℕ → Result (Kind × Message) Refusal
 parse_of n sizes s = parse_for n sizes (get_or s 2 0) s
 
 -- 01, refusal 13: "lent output too short: .. 64 for a message", from `at` on in `room` bytes; 0 where they fit

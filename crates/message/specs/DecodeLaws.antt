@@ -1,19 +1,19 @@
 -- Laws of reading and writing: what each check, in 01's order, makes of the answer, where those before it held.
 -- By the definitions, test by test. Assumes nothing.
-use Rattle.std.specs.Prelude.{ℕ, ◌+◌, ◌<◌, ◌≡◌, refl, Bool, true, false, ◌&&◌, List, leb, eqb, length, get_or}
+use Rattle.std.specs.Prelude.{ℕ, ◌+◌, ◌<◌, ◌≡◌, refl, Bool, true, false, ◌&&◌, List, leb, eqb, length, get_or, Result, Ok, Err}
 use Rattle.std.proofs.Math.Path.{sym}
 use Rattle.std.proofs.Common.{◌∙◌, arith}
 use borrow.Author.Tests.{eqb-true, ne_eqb}
+use Rattle.base.specs.declared.Refusal.{Refusal}
+use Rattle.base.specs.declared.Refusal.TheVariants.{OutOfRange, Damaged, BadField, BadUnit}
 use Rattle.base.specs.Limits.{message_size}
 use Rattle.base.specs.Put.{put_at}
 use Rattle.base.specs.Shape.{shape_good}
 use Rattle.base.specs.Shape.Laws.{and_left}
 use Rattle.message.specs.declared.Kind.{Kind}
-use Rattle.message.specs.declared.Read.{Read}
-use Rattle.message.specs.declared.Read.TheVariants.{Good, Refused}
 use Rattle.message.specs.declared.Message.{Message}
 use Rattle.message.specs.Message.{kind_of, address_good, well_formed}
-use Rattle.message.specs.Decode.{put_refusal, put_into, message_in, check_good, rest_zero, refused, parse_kind, parse_for, write_refusal, packet_into}
+use Rattle.message.specs.Decode.{put_refusal, put_into, message_in, check_good, rest_zero, parse_kind, parse_for, write_refusal, packet_into}
 use Rattle.message.specs.Written.{encode}
 
 -- check 10
@@ -29,15 +29,15 @@ check_length s e = eqb-true (length s) message_size (and_left _ _ e)
 
 -- the way out of reading at each check, where those before it held
 module _ (n : ℕ) (sizes : List ℕ) (own : ℕ) (s : List ℕ) where
-  pub parse_5 : shape_good n sizes ≡ false → parse_for n sizes own s ≡ refused 5
+  pub parse_5 : shape_good n sizes ≡ false → parse_for n sizes own s ≡ Err OutOfRange
   unfolding parse_for
   parse_5 a = rw a
 
-  pub parse_8 : shape_good n sizes ≡ true → check_good s ≡ false → parse_for n sizes own s ≡ refused 8
+  pub parse_8 : shape_good n sizes ≡ true → check_good s ≡ false → parse_for n sizes own s ≡ Err Damaged
   unfolding parse_for
   parse_8 a b = rw (a, b)
 
-  pub parse_10 : shape_good n sizes ≡ true → check_good s ≡ true → addressed_to n own (message_in s) ≡ false → parse_for n sizes own s ≡ refused 10
+  pub parse_10 : shape_good n sizes ≡ true → check_good s ≡ true → addressed_to n own (message_in s) ≡ false → parse_for n sizes own s ≡ Err BadUnit
   unfolding parse_for
   parse_10 a b d = rw (a, b, d)
 
@@ -47,20 +47,20 @@ module _ (n : ℕ) (sizes : List ℕ) (own : ℕ) (s : List ℕ) where
   parse_on a b d = rw (a, b, d)
 
 -- the same for check 9, by the kind that byte 0 gives
-module _ (n : ℕ) (sizes s : List ℕ) (m : Message) (a : Read) where
-  pub kind_refused : (r : ℕ) → a ≡ Refused r → parse_kind n sizes s m a ≡ refused r
+module _ (n : ℕ) (sizes s : List ℕ) (m : Message) (a : Result Kind Refusal) where
+  pub kind_refused : (r : Refusal) → a ≡ Err r → parse_kind n sizes s m a ≡ Err r
   unfolding parse_kind
   kind_refused r e = rw e
 
-  pub kind_rest : (k : Kind) → a ≡ Good k → rest_zero s ≡ false → parse_kind n sizes s m a ≡ refused 9
+  pub kind_rest : (k : Kind) → a ≡ Ok k → rest_zero s ≡ false → parse_kind n sizes s m a ≡ Err BadField
   unfolding parse_kind
   kind_rest k e z = rw (e, z)
 
-  pub kind_unfit : (k : Kind) → a ≡ Good k → rest_zero s ≡ true → well_formed n sizes k m ≡ false → parse_kind n sizes s m a ≡ refused 9
+  pub kind_unfit : (k : Kind) → a ≡ Ok k → rest_zero s ≡ true → well_formed n sizes k m ≡ false → parse_kind n sizes s m a ≡ Err BadField
   unfolding parse_kind
   kind_unfit k e z w = rw (e, z, w)
 
-  pub kind_good : (k : Kind) → a ≡ Good k → rest_zero s ≡ true → well_formed n sizes k m ≡ true → parse_kind n sizes s m a ≡ record { answer = Good k; message = m }
+  pub kind_good : (k : Kind) → a ≡ Ok k → rest_zero s ≡ true → well_formed n sizes k m ≡ true → parse_kind n sizes s m a ≡ Ok (k, m)
   unfolding parse_kind
   kind_good k e z w = rw (e, z, w)
 

@@ -3,12 +3,11 @@
 --     fields_laid, sum_laid          the fields laid over zeros make the body, and the checksum goes behind it
 --     put-fits, put_short            into a lent buffer
 -- Assumes nothing.
-use Rattle.std.specs.Prelude.{ℕ, ◌+◌, ◌/◌, ◌%◌, ◌≤◌, ◌<◌, Bool, List, [], ◌∷◌, ◌++◌, ◌≡◌, refl, length, drop, set, replicate}
+use Rattle.std.specs.Prelude.{ℕ, ◌+◌, ◌≤◌, ◌<◌, Bool, List, [], ◌∷◌, ◌++◌, ◌≡◌, refl, length, drop, replicate}
 use Rattle.std.proofs.Math.Bool.{cond}
 use Rattle.std.proofs.Common.{append_assoc, append-nil, ◌∙◌, arith, length-append}
 use Rattle.std.proofs.Math.Path.{ap}
 use borrow.Author.Tests.{le-leb, lt-leb}
-use Rattle.std.proofs.lemmas.List.Edits.{sets-eq}
 use Rattle.base.specs.Bytes.{le16, le32}
 use Rattle.base.specs.Limits.{message_size}
 use Rattle.base.specs.Put.{put_at}
@@ -58,10 +57,8 @@ fields_laid k m z =
     ∙ simp append_assoc
 
 -- the two bytes after the body
-pub sum_laid : (p : List ℕ) (x : ℕ) → length p ≡ check_byte → set (set (p ++ 0 ∷ 0 ∷ []) check_byte (x % 256)) 63 (x / 256 % 256) ≡ p ++ le16 x
-sum_laid p x e =
-    let g : length (p ++ 0 ∷ 0 ∷ []) ≡ message_size = simp length-append (omega arith) in
-    sets-eq (le16 x) (p ++ 0 ∷ 0 ∷ []) check_byte (omega arith) ∙ field_next p (replicate 2 0) (le16 x) check_byte 2 e refl ∙ append-nil (p ++ le16 x)
+pub sum_laid : (p : List ℕ) (x : ℕ) → length p ≡ check_byte → put_at (p ++ 0 ∷ 0 ∷ []) check_byte (le16 x) ≡ p ++ le16 x
+sum_laid p x e = field_next p (replicate 2 0) (le16 x) check_byte 2 e refl ∙ append-nil (p ++ le16 x)
 
 -- ------------------------------------------------------------------------------------------------------------------
 -- Into a lent buffer.

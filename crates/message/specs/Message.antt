@@ -1,13 +1,13 @@
 -- What a message holds, and which fields go together. Document 01, 'Radio message, 64 bytes'; the limits are base's. Assumes nothing.
---     kind_code, kind_of, refusal_of       01's number for each case of the two enums
+--     kind_code, kind_of                 01's number for each kind, and the kind of a number
 --     Packet, no_message                 a message with its kind; one whose fields are all zero
 --     filled_to                          which places of a stamp or an assignment are filled
 --     bound_good, none_or_bound, no_bound   a bound with its best assignment
 --     carried_of, cost_fits, bound_fits, direction_good     what each kind carries, from whom to whom
 --     address_good, well_formed           01's checks 10 and 9 on the fields
-use Rattle.std.specs.Prelude.{ℕ, ◌+◌, ◌-◌, Bool, true, false, cond, not, ◌&&◌, ◌||◌, List, ltb, leb, eqb, get_or, replicate}
-use Rattle.base.specs.{Limits.places, Limits.total_limit, Limits.estimate_limit, Limits.prefix_limit, Limits.NONE, Shape.is_value, Every.every}
-use Rattle.message.specs.{declared.Kind.Kind, declared.Read.Read, declared.Read.TheVariants.Good, declared.Read.TheVariants.Refused, declared.Message.Message, declared.Carried.Carried}
+use Rattle.std.specs.Prelude.{ℕ, ◌+◌, ◌-◌, Bool, true, false, cond, not, ◌&&◌, ◌||◌, List, ltb, leb, eqb, get_or, replicate, Result, Ok, Err}
+use Rattle.base.specs.{declared.Refusal.Refusal, declared.Refusal.TheVariants.BadField, Limits.places, Limits.total_limit, Limits.estimate_limit, Limits.prefix_limit, Limits.NONE, Shape.is_value, Every.every}
+use Rattle.message.specs.{declared.Kind.Kind, declared.Message.Message, declared.Carried.Carried}
 use Rattle.message.specs.declared.Kind.TheVariants.{Cpa, Request, Estimate, Solution, Stop}
 
 -- 01: "1 paper, 2 copy, 3 estimate, 4 news, 5 stop"
@@ -19,20 +19,15 @@ kind_code Solution = 4
 kind_code Stop = 5
 
 -- the kind of a number; 01, refusal 9: no kind has another
-abbrev pub kind_of : ℕ → Read
-kind_of b = cond (eqb b 1) (Good Cpa) (cond (eqb b 2) (Good Request) (cond (eqb b 3) (Good Estimate) (cond (eqb b 4) (Good Solution) (cond (eqb b 5) (Good Stop) (Refused 9)))))
-
--- the refusal's number, 0 for a good message
-abbrev pub refusal_of : Read → ℕ
-refusal_of (Good k) = 0
-refusal_of (Refused r) = r
+abbrev pub kind_of : ℕ → Result Kind Refusal
+kind_of b = cond (eqb b 1) (Ok Cpa) (cond (eqb b 2) (Ok Request) (cond (eqb b 3) (Ok Estimate) (cond (eqb b 4) (Ok Solution) (cond (eqb b 5) (Ok Stop) (Err BadField)))))
 
 -- a message with its kind
 pub record Packet : Type 0 where
   pub kind : Kind
   pub message : Message
 
--- the message beside a refusal
+-- what C is handed beside a refusal
 abbrev pub no_message : Message
 no_message = record { sender = 0; receiver = 0; stamp = replicate places 0; values = replicate places 0; cost = 0; bound = 0; best = replicate places 0 }
 

@@ -5,10 +5,9 @@
 --     ParsedGood, parsed_good   what is known of bytes that reading accepts
 --     encode_parse, parse_injective     accepted bytes read and written; unpack_parsed: read with no check
 --     one_byte_refused          accepted bytes with one of them changed are refused by 8
---     refused-blank             beside a refusal every field is zero
 -- Assumes nothing.
 use Prim.Native.Nat.{ℕ, ◌+◌, ◌≤◌, ◌<◌}
-use Rattle.std.specs.Prelude.{◌≡◌, Bool, leb, eqb, drop, set}
+use Rattle.std.specs.Prelude.{◌≡◌, Bool, leb, eqb, drop, set, Result, Ok, Err}
 use Rattle.std.proofs.Math.Path.{refl, sym, ap}
 use Rattle.std.proofs.Common.{◌∙◌, arith, add-zero, length-take, length-drop, length-set, drop_at, take-add, length-take-le, get_or-take, get_or-append-add, get_or-set_same, get_or-set_other}
 use Rattle.std.proofs.Math.Bool.{true, false}
@@ -20,6 +19,8 @@ use Rattle.std.proofs.Math.Seq.{take_at, take_all, take-set-lt}
 use Rattle.std.proofs.lemmas.List.{take-set-le}
 use Rattle.base.specs.Bytes.{u16_at, u32_at, le16, le32}
 use Rattle.base.specs.Bytes.Laws.{AllBytes, u16_of_le16, u32_of_le32, four_bytes, le16_again, le32_again}
+use Rattle.base.specs.declared.Refusal.{Refusal}
+use Rattle.base.specs.declared.Refusal.TheVariants.{OutOfRange, Damaged, BadField, BadUnit}
 use Rattle.base.specs.Limits.{message_size}
 use Rattle.base.specs.Shape.{shape_good}
 use Rattle.base.specs.Shape.Laws.{and_left, and_right}
@@ -28,14 +29,11 @@ use Rattle.checksum.specs.Sum.Laws.{sum_small}
 use Rattle.checksum.specs.OneByte.{one_byte}
 use Rattle.message.specs.declared.Kind.{Kind}
 use Rattle.message.specs.declared.Kind.TheVariants.{Cpa, Request, Estimate, Solution, Stop}
-use Rattle.message.specs.declared.Read.{Read}
-use Rattle.message.specs.declared.Read.TheVariants.{Good, Refused}
 use Rattle.message.specs.declared.Message.{Message}
-use Rattle.message.specs.declared.Parsed.{Parsed}
 use Rattle.message.specs.Layout.{stamp_byte, values_byte, cost_byte, bound_byte, best_byte, zero_byte, check_byte}
-use Rattle.message.specs.Message.{kind_code, kind_of, no_message, address_good, well_formed}
+use Rattle.message.specs.Message.{kind_code, kind_of, address_good, well_formed}
 use Rattle.message.specs.Sized.{Sized}
-use Rattle.message.specs.Decode.{message_in, check_good, rest_zero, parse_kind, parse_for, refused, put_refusal, write_refusal}
+use Rattle.message.specs.Decode.{message_in, check_good, rest_zero, parse_kind, parse_for, put_refusal, write_refusal}
 use Rattle.message.specs.Unpack.{unpack_of}
 use Rattle.message.specs.Written.{body, encode}
 use Rattle.message.specs.EncodeLaws.{head, length_body, length_encode}
@@ -160,11 +158,11 @@ module _ (k : Kind) (m : Message) (z : Sized m) where
   unfolding message_in
   message_of_encode = rw (sender_of_encode, receiver_of_encode, stamp_of_encode, values_of_encode, cost_of_encode, bound_of_encode, best_of_encode)
 
-  kind_of_encode : kind_of (get_or (encode k m) 0 0) ≡ Good k
+  kind_of_encode : kind_of (get_or (encode k m) 0 0) ≡ Ok k
   unfolding encode body
   kind_of_encode = go k
     where
-      go : (k : Kind) → kind_of (kind_code k) ≡ Good k
+      go : (k : Kind) → kind_of (kind_code k) ≡ Ok k
       go Cpa = refl
       go Request = refl
       go Estimate = refl
@@ -173,7 +171,7 @@ module _ (k : Kind) (m : Message) (z : Sized m) where
 
 -- a message that fits its kind, written, and read by its receiver
 pub parse_encode : (n : ℕ) (sizes : List ℕ) (k : Kind) (m : Message) → shape_good n sizes ≡ true → address_good n m ≡ true → well_formed n sizes k m ≡ true → Sized m
-    → parse_for n sizes m.receiver (encode k m) ≡ record { answer = Good k; message = m }
+    → parse_for n sizes m.receiver (encode k m) ≡ Ok (k, m)
 parse_encode n sizes k m shape address formed z =
     let e : message_in (encode k m) ≡ m = message_of_encode k m z in
     let h : addressed_to n m.receiver (message_in (encode k m)) ≡ true = rw (e, address) (eq-eqb m.receiver m.receiver refl) in
@@ -216,28 +214,30 @@ pub record ParsedGood (n : ℕ) (sizes : List ℕ) (own : ℕ) (s : List ℕ) (k
   pub check : check_good s ≡ true
   pub address : address_good n (message_in s) ≡ true
   pub receiver : (message_in s).receiver ≡ own
-  pub kind : kind_of (get_or s 0 0) ≡ Good k
+  pub kind : kind_of (get_or s 0 0) ≡ Ok k
   pub rest : rest_zero s ≡ true
   pub formed : well_formed n sizes k (message_in s) ≡ true
-  pub whole : parse_for n sizes own s ≡ record { answer = Good k; message = message_in s }
+  pub whole : parse_for n sizes own s ≡ Ok (k, message_in s)
 
-module _ (n : ℕ) (sizes : List ℕ) (own : ℕ) (s : List ℕ) (k : Kind) (good : (parse_for n sizes own s).answer ≡ Good k) where
+same_read : {p q : Kind × Message} → ◌≡◌ {A = Result (Kind × Message) Refusal} (Ok p) (Ok q) → p ≡ q
+same_read e = cc
+
+module _ (n : ℕ) (sizes : List ℕ) (own : ℕ) (s : List ℕ) (k : Kind) (m : Message) (good : parse_for n sizes own s ≡ Ok (k, m)) where
   -- an answer that refuses is none that accepts
-  never_refused : (r : ℕ) → parse_for n sizes own s ≡ refused r → ⊥
-  never_refused r e = let h = ap (λ (x : Parsed). x.answer) e in let c : ◌≡◌ {A = ℕ} 0 1 = cc in omega arith
+  never_refused : (r : Refusal) → parse_for n sizes own s ≡ Err r → ⊥
+  never_refused r e = let c : ◌≡◌ {A = Result (Kind × Message) Refusal} (Ok (k, m)) (Err r) = sym good ∙ e in grind arith
 
   -- past check 10, by the kind read and the two parts of check 9
   module _ (p : shape_good n sizes ≡ true) (q : check_good s ≡ true) (t : addressed_to n own (message_in s) ≡ true) where
     on : parse_for n sizes own s ≡ parse_kind n sizes s (message_in s) (kind_of (get_or s 0 0))
     on = parse_on n sizes own s p q t
 
-    by_fields : (j : Kind) → kind_of (get_or s 0 0) ≡ Good j → (r : Bool) → rest_zero s ≡ r → (w : Bool) → well_formed n sizes j (message_in s) ≡ w → ParsedGood n sizes own s k
-    by_fields j e false f w g = absurd (never_refused 9 (on ∙ kind_rest n sizes s (message_in s) _ j e f))
-    by_fields j e true f false g = absurd (never_refused 9 (on ∙ kind_unfit n sizes s (message_in s) _ j e f g))
+    by_fields : (j : Kind) → kind_of (get_or s 0 0) ≡ Ok j → (r : Bool) → rest_zero s ≡ r → (w : Bool) → well_formed n sizes j (message_in s) ≡ w → ParsedGood n sizes own s k
+    by_fields j e false f w g = absurd (never_refused BadField (on ∙ kind_rest n sizes s (message_in s) _ j e f))
+    by_fields j e true f false g = absurd (never_refused BadField (on ∙ kind_unfit n sizes s (message_in s) _ j e f g))
     by_fields j e true f true g =
-        let h : parse_for n sizes own s ≡ record { answer = Good j; message = message_in s } = on ∙ kind_good n sizes s (message_in s) _ j e f g in
-        let h' = ap (λ (x : Parsed). x.answer) h in
-        let i : j ≡ k = cc in
+        let h : parse_for n sizes own s ≡ Ok (j, message_in s) = on ∙ kind_good n sizes s (message_in s) _ j e f g in
+        let i : j ≡ k = ap (λ (p : Kind × Message). p.0) (same_read (sym h ∙ good)) in
         record {
           shape = p;
           check = q;
@@ -249,24 +249,28 @@ module _ (n : ℕ) (sizes : List ℕ) (own : ℕ) (s : List ℕ) (k : Kind) (goo
           whole = rw i at h;
         }
 
-    by_kind_lem : (a : Read) → kind_of (get_or s 0 0) ≡ a → ParsedGood n sizes own s k
-    by_kind_lem (Good j) e = by_fields j e (rest_zero s) refl (well_formed n sizes j (message_in s)) refl
-    by_kind_lem (Refused r) e = absurd (never_refused r (on ∙ kind_refused n sizes s (message_in s) _ r e))
+    by_kind_lem : (a : Result Kind Refusal) → kind_of (get_or s 0 0) ≡ a → ParsedGood n sizes own s k
+    by_kind_lem (Ok j) e = by_fields j e (rest_zero s) refl (well_formed n sizes j (message_in s)) refl
+    by_kind_lem (Err r) e = absurd (never_refused r (on ∙ kind_refused n sizes s (message_in s) _ r e))
 
   pub parsed_good : ParsedGood n sizes own s k
   parsed_good = go (shape_good n sizes) refl (check_good s) refl (addressed_to n own (message_in s)) refl
     where
       go : (a : Bool) → shape_good n sizes ≡ a → (b : Bool) → check_good s ≡ b → (d : Bool) → addressed_to n own (message_in s) ≡ d → ParsedGood n sizes own s k
-      go false p b q d t = absurd (never_refused 5 (parse_5 n sizes own s p))
-      go true p false q d t = absurd (never_refused 8 (parse_8 n sizes own s p q))
-      go true p true q false t = absurd (never_refused 10 (parse_10 n sizes own s p q t))
+      go false p b q d t = absurd (never_refused OutOfRange (parse_5 n sizes own s p))
+      go true p false q d t = absurd (never_refused Damaged (parse_8 n sizes own s p q))
+      go true p true q false t = absurd (never_refused BadUnit (parse_10 n sizes own s p q t))
       go true p true q true t = by_kind_lem p q t (kind_of (get_or s 0 0)) refl
 
+  -- its fields are those of the bytes
+  pub parsed_message : m ≡ message_in s
+  parsed_message = ap (λ (p : Kind × Message). p.1) (same_read (sym good ∙ parsed_good.whole))
+
 -- byte 0 is the number of the kind read
-kind_code_lem : (b : ℕ) (k : Kind) → kind_of b ≡ Good k → kind_code k ≡ b
+kind_code_lem : (b : ℕ) (k : Kind) → kind_of b ≡ Ok k → kind_code k ≡ b
 kind_code_lem b k e = go (eqb b 1) refl (eqb b 2) refl (eqb b 3) refl (eqb b 4) refl (eqb b 5) refl
   where
-    same : (i : ℕ) (j : Kind) → eqb b i ≡ true → Good j ≡ Good k → kind_code j ≡ i → kind_code k ≡ b
+    same : (i : ℕ) (j : Kind) → eqb b i ≡ true → ◌≡◌ {A = Result Kind Refusal} (Ok j) (Ok k) → kind_code j ≡ i → kind_code k ≡ b
     same i j t h c = let f : j ≡ k = cc in rw f at c ∙ sym (eqb-true b i t)
 
     go : (p : Bool) → eqb b 1 ≡ p → (q : Bool) → eqb b 2 ≡ q → (r : Bool) → eqb b 3 ≡ r → (t : Bool) → eqb b 4 ≡ t → (u : Bool) → eqb b 5 ≡ u → kind_code k ≡ b
@@ -275,7 +279,7 @@ kind_code_lem b k e = go (eqb b 1) refl (eqb b 2) refl (eqb b 3) refl (eqb b 4) 
     go false p false q true r t _ u _ = same 3 Estimate r (rw (p, q, r) at e) refl
     go false p false q false r true t u _ = same 4 Solution t (rw (p, q, r, t) at e) refl
     go false p false q false r false t true u = same 5 Stop u (rw (p, q, r, t, u) at e) refl
-    go false p false q false r false t false u = let h : Refused 9 ≡ Good k = rw (p, q, r, t, u) at e in let c : ◌≡◌ {A = ℕ} 0 1 = cc in absurd (omega arith)
+    go false p false q false r false t false u = let h : ◌≡◌ {A = Result Kind Refusal} (Err BadField) (Ok k) = rw (p, q, r, t, u) at e in absurd (grind arith)
 
 -- the first 62 bytes, cut where the fields are
 cut : (s : List ℕ) → take check_byte s ≡ take stamp_byte s ++ take 16 (drop stamp_byte s) ++ take 16 (drop values_byte s) ++ take 4 (drop cost_byte s) ++ take 4 (drop bound_byte s) ++ take 16 (drop best_byte s) ++ take 2 (drop zero_byte s)
@@ -284,7 +288,7 @@ cut s = rw (take-add zero_byte 2 s, take-add best_byte 16 s, take-add bound_byte
 same_pieces : {a a' c c' d d' g g' : List ℕ} (x y w : List ℕ) → a ≡ a' → c ≡ c' → d ≡ d' → g ≡ g' → a ++ x ++ y ++ c ++ d ++ w ++ g ≡ a' ++ x ++ y ++ c' ++ d' ++ w ++ g'
 same_pieces x y w p q r t = cc
 
-module _ (s : List ℕ) (l : length s ≡ message_size) (bytes : AllBytes s) (k : Kind) (kind : kind_of (get_or s 0 0) ≡ Good k) (rest : rest_zero s ≡ true) (check : check_good s ≡ true) where
+module _ (s : List ℕ) (l : length s ≡ message_size) (bytes : AllBytes s) (k : Kind) (kind : kind_of (get_or s 0 0) ≡ Ok k) (rest : rest_zero s ≡ true) (check : check_good s ≡ true) where
   first_again : head (kind_code k) (message_in s) ≡ take stamp_byte s
   unfolding message_in rest_zero
   first_again =
@@ -322,24 +326,22 @@ sized_in s l bytes = record {
 }
 
 -- accepted bytes, read and written again, are the same bytes
-pub encode_parse : (n : ℕ) (sizes : List ℕ) (own : ℕ) (s : List ℕ) (k : Kind) → AllBytes s → (parse_for n sizes own s).answer ≡ Good k → encode k (parse_for n sizes own s).message ≡ s
-encode_parse n sizes own s k b e =
-    let a : ParsedGood n sizes own s k = parsed_good n sizes own s k e in
-    ap (λ (p : Parsed). encode k p.message) a.whole ∙ encode_again s (check_length s a.check) b k a.kind a.rest a.check
+pub encode_parse : (n : ℕ) (sizes : List ℕ) (own : ℕ) (s : List ℕ) (k : Kind) (m : Message) → AllBytes s → parse_for n sizes own s ≡ Ok (k, m) → encode k m ≡ s
+encode_parse n sizes own s k m b e =
+    let a : ParsedGood n sizes own s k = parsed_good n sizes own s k m e in
+    ap (encode k) (parsed_message n sizes own s k m e) ∙ encode_again s (check_length s a.check) b k a.kind a.rest a.check
 
 -- what reading accepts is what stands there unchecked
-pub unpack_parsed : (n : ℕ) (sizes : List ℕ) (own : ℕ) (s : List ℕ) (k : Kind) → (parse_for n sizes own s).answer ≡ Good k → unpack_of s ≡ parse_for n sizes own s
+pub unpack_parsed : (n : ℕ) (sizes : List ℕ) (own : ℕ) (s : List ℕ) (k : Kind) (m : Message) → parse_for n sizes own s ≡ Ok (k, m) → unpack_of s ≡ parse_for n sizes own s
 unfolding unpack_of
-unpack_parsed n sizes own s k e =
-    let a : ParsedGood n sizes own s k = parsed_good n sizes own s k e in
+unpack_parsed n sizes own s k m e =
+    let a : ParsedGood n sizes own s k = parsed_good n sizes own s k m e in
     rw (eq-eqb (length s) message_size (check_length s a.check), a.kind) (sym a.whole)
 
 -- so no two of them read alike
-pub parse_injective : (n : ℕ) (sizes : List ℕ) (own : ℕ) (s t : List ℕ) (k : Kind) → AllBytes s → AllBytes t
-    → (parse_for n sizes own s).answer ≡ Good k → parse_for n sizes own s ≡ parse_for n sizes own t → s ≡ t
-parse_injective n sizes own s t k b c e f =
-    let g : (parse_for n sizes own t).answer ≡ Good k = rw (← f) e in
-    sym (encode_parse n sizes own s k b e) ∙ ap (λ (p : Parsed). encode k p.message) f ∙ encode_parse n sizes own t k c g
+pub parse_injective : (n : ℕ) (sizes : List ℕ) (own : ℕ) (s t : List ℕ) (k : Kind) (m : Message) → AllBytes s → AllBytes t
+    → parse_for n sizes own s ≡ Ok (k, m) → parse_for n sizes own s ≡ parse_for n sizes own t → s ≡ t
+parse_injective n sizes own s t k m b c e f = sym (encode_parse n sizes own s k m b e) ∙ encode_parse n sizes own t k m c (sym f ∙ e)
 
 -- ------------------------------------------------------------------------------------------------------------------
 -- Accepted bytes with one of them changed are refused by 8.
@@ -391,36 +393,8 @@ module _ (s : List ℕ) (l : length s ≡ message_size) (bytes : AllBytes s) (ch
       go true q e = sum_changed (ltb-true i check_byte q) e
       go false q e = store_changed (ltb-false i check_byte q) e
 
-pub one_byte_refused : (n : ℕ) (sizes : List ℕ) (own : ℕ) (s : List ℕ) (k : Kind) → AllBytes s → (parse_for n sizes own s).answer ≡ Good k
-    → (i x : ℕ) → i < message_size → x < 256 → (x ≡ get_or s i 0 → ⊥) → parse_for n sizes own (set s i x) ≡ refused 8
-one_byte_refused n sizes own s k bytes e i x h b differ =
-    let a : ParsedGood n sizes own s k = parsed_good n sizes own s k e in
+pub one_byte_refused : (n : ℕ) (sizes : List ℕ) (own : ℕ) (s : List ℕ) (k : Kind) (m : Message) → AllBytes s → parse_for n sizes own s ≡ Ok (k, m)
+    → (i x : ℕ) → i < message_size → x < 256 → (x ≡ get_or s i 0 → ⊥) → parse_for n sizes own (set s i x) ≡ Err Damaged
+one_byte_refused n sizes own s k m bytes e i x h b differ =
+    let a : ParsedGood n sizes own s k = parsed_good n sizes own s k m e in
     parse_8 n sizes own (set s i x) a.shape (check_changed s (check_length s a.check) bytes a.check i x h b differ)
-
--- ------------------------------------------------------------------------------------------------------------------
--- Where reading refuses, every field beside the number is zero.
-
-module _ (n : ℕ) (sizes : List ℕ) (own : ℕ) (s : List ℕ) (r : ℕ) (bad : (parse_for n sizes own s).answer ≡ Refused r) where
-  blank : (r : ℕ) → parse_for n sizes own s ≡ refused r → (parse_for n sizes own s).message ≡ no_message
-  blank r e = ap (λ (p : Parsed). p.message) e
-
-  blank_past_10 : parse_for n sizes own s ≡ parse_kind n sizes s (message_in s) (kind_of (get_or s 0 0)) → (a : Read) → kind_of (get_or s 0 0) ≡ a → (parse_for n sizes own s).message ≡ no_message
-  blank_past_10 on (Refused q) e = blank q (on ∙ kind_refused n sizes s (message_in s) _ q e)
-  blank_past_10 on (Good j) e = go (rest_zero s) refl (well_formed n sizes j (message_in s)) refl
-    where
-      go : (a : Bool) → rest_zero s ≡ a → (b : Bool) → well_formed n sizes j (message_in s) ≡ b → (parse_for n sizes own s).message ≡ no_message
-      go false f b g = blank 9 (on ∙ kind_rest n sizes s (message_in s) _ j e f)
-      go true f false g = blank 9 (on ∙ kind_unfit n sizes s (message_in s) _ j e f g)
-      go true f true g =
-          let h = ap (λ (p : Parsed). p.answer) (on ∙ kind_good n sizes s (message_in s) _ j e f g) in
-          let c : ◌≡◌ {A = ℕ} 0 1 = cc in
-          absurd (omega arith)
-
-  pub refused-blank : (parse_for n sizes own s).message ≡ no_message
-  refused-blank = go (shape_good n sizes) refl (check_good s) refl (addressed_to n own (message_in s)) refl
-    where
-      go : (a : Bool) → shape_good n sizes ≡ a → (b : Bool) → check_good s ≡ b → (d : Bool) → addressed_to n own (message_in s) ≡ d → (parse_for n sizes own s).message ≡ no_message
-      go false p b q d t = blank 5 (parse_5 n sizes own s p)
-      go true p false q d t = blank 8 (parse_8 n sizes own s p q)
-      go true p true q false t = blank 10 (parse_10 n sizes own s p q t)
-      go true p true q true t = blank_past_10 (parse_on n sizes own s p q t) (kind_of (get_or s 0 0)) refl

@@ -9,43 +9,31 @@ ghost use Rattle.message.specs.Laws.{cpa_count};
 use crate::{Carried, Kind, Message};
 
 // Check 10: sender and receiver are units.
+#[tactic(auto, unfolding(crate::specs::Message::address_good))]
 pub fn address_good(n: u8, m: Message) -> bool
     ensures { result ≡ address_good n m }
 {
-    if !is_unit(n, m.sender) {
-        return false;
-    }
-    is_unit(n, m.receiver)
+    is_unit(n, m.sender) && is_unit(n, m.receiver)
 }
 
 // Whether i is 1 to n.
 pub fn is_unit(n: u8, i: u8) -> bool
     ensures { result ≡ is_unit n i }
 {
-    base::is_value(base::wide(n), base::wide(i))
+    base::is_value(usize::from(n), usize::from(i))
 }
 
 // Check 9: the fields go with the kind.
+#[tactic(auto, unfolding(crate::specs::Message::well_formed))]
 pub fn well_formed(n: u8, sizes: [u8; 16], kind: Kind, m: Message) -> bool
     ensures { result ≡ well_formed n sizes kind m }
 {
-    if !direction_good(n, kind, m.sender, m.receiver) {
-        return false;
-    }
     let most = carried(kind, m);
-    let stamp = m.stamp;
-    if !filled_to(most.stamps, sizes, stamp) {
-        return false;
-    }
-    let values = m.values;
-    if !filled_to(most.values, sizes, values) {
-        return false;
-    }
-    if !cost_fits(most, m.cost) {
-        return false;
-    }
-    let best = m.best;
-    bound_fits(n, sizes, kind, m.bound, best)
+    direction_good(n, kind, m.sender, m.receiver)
+        && filled_to(most.stamps, sizes, m.stamp)
+        && filled_to(most.values, sizes, m.values)
+        && cost_fits(most, m.cost)
+        && bound_fits(n, sizes, kind, m.bound, m.best)
 }
 
 // Who may send a message of this kind to whom.
@@ -65,22 +53,16 @@ fn direction_good(n: u8, kind: Kind, sender: u8, receiver: u8) -> bool
 fn beside(sender: u8, receiver: u8) -> bool
     ensures { result ≡ (eqb receiver (sender + 1) || eqb sender (receiver + 1)) }
 {
-    let s = sender as u32;
-    let r = receiver as u32;
-    if r == s + 1 {
-        return true;
-    }
-    s == r + 1
+    let s = u32::from(sender);
+    let r = u32::from(receiver);
+    r == s + 1 || s == r + 1
 }
 
 // From this unit to another.
 fn from_to(home: u8, sender: u8, receiver: u8) -> bool
     ensures { result ≡ from_to home sender receiver }
 {
-    if sender != home {
-        return false;
-    }
-    receiver != sender
+    sender == home && receiver != sender
 }
 
 // What a kind carries besides a bound.
@@ -96,8 +78,7 @@ fn carried(kind: Kind, m: Message) -> Carried
             cost: base::ESTIMATE_LIMIT,
             none: true,
         },
-        Kind::Solution => prefix(0),
-        Kind::Stop => prefix(0),
+        Kind::Solution | Kind::Stop => prefix(0),
     }
 }
 
@@ -117,13 +98,7 @@ fn prefix(k: u8) -> Carried
 fn cost_fits(most: Carried, cost: u32) -> bool
     ensures { result ≡ cost_fits most cost }
 {
-    if cost <= most.cost {
-        return true;
-    }
-    if !most.none {
-        return false;
-    }
-    cost == base::NONE
+    cost <= most.cost || most.none && cost == base::NONE
 }
 
 // How many units a cpa has filled, going down or back.
@@ -131,22 +106,20 @@ fn cpa_count(sender: u8, receiver: u8) -> u8
     ensures { result ≡ cpa_count sender receiver }
 {
     if sender < receiver {
-        return receiver - 1;
+        receiver - 1
+    } else {
+        receiver
     }
-    receiver
 }
 
 // Whether units 1 to k of the 16 have one of their values, and the others 0.
 pub fn filled_to(k: u8, sizes: [u8; 16], places: [u8; 16]) -> bool
     ensures { result ≡ filled_to k sizes places }
 {
-    let count = k as usize;
-    let mut i = 0;
-    while i < base::PLACES {
-        if !place_good(i < count, sizes[i], places[i]) {
+    for i in 0..base::PLACES {
+        if !place_good(i < usize::from(k), sizes[i], places[i]) {
             return false;
         }
-        i += 1;
     }
     true
 }
@@ -155,21 +128,19 @@ pub fn filled_to(k: u8, sizes: [u8; 16], places: [u8; 16]) -> bool
 fn place_good(filled: bool, d: u8, x: u8) -> bool
     ensures { result ≡ cond filled (is_value d x) (eqb x 0) }
 {
-    if !filled {
-        return x == 0;
+    if filled {
+        base::is_value(usize::from(d), usize::from(x))
+    } else {
+        x == 0
     }
-    base::is_value(base::wide(d), base::wide(x))
 }
 
 // The most that k filled units can cost.
 pub fn prefix_limit(k: u8) -> u32
     ensures { result ≡ prefix_limit k }
 {
-    if k < 1 {
-        return 0;
-    }
-    let wide = k as u32;
-    base::PREFIX_FACTOR * wide * (wide - 1) + base::UNARY_LIMIT * wide
+    let k = u32::from(k);
+    base::PREFIX_FACTOR * k * k.saturating_sub(1) + base::UNARY_LIMIT * k
 }
 
 // Whether a kind may carry this bound and best assignment.
@@ -177,40 +148,36 @@ fn bound_fits(n: u8, sizes: [u8; 16], kind: Kind, bound: u32, best: [u8; 16]) ->
     ensures { result ≡ bound_fits n sizes kind bound best }
 {
     match kind {
-        Kind::Cpa => none_or_bound(n, sizes, bound, best),
-        Kind::Request => no_bound(sizes, bound, best),
-        Kind::Estimate => no_bound(sizes, bound, best),
+        Kind::Cpa | Kind::Stop => none_or_bound(n, sizes, bound, best),
+        Kind::Request | Kind::Estimate => no_bound(sizes, bound, best),
         Kind::Solution => bound_good(n, sizes, bound, best),
-        Kind::Stop => none_or_bound(n, sizes, bound, best),
     }
 }
 
 // *None* with no assignment, or a bound with its full one.
+#[tactic(auto, unfolding(crate::specs::Message::none_or_bound))]
 pub fn none_or_bound(n: u8, sizes: [u8; 16], bound: u32, best: [u8; 16]) -> bool
     ensures { result ≡ none_or_bound n sizes bound best }
 {
     if bound == base::NONE {
-        return filled_to(0, sizes, best);
+        filled_to(0, sizes, best)
+    } else {
+        bound_good(n, sizes, bound, best)
     }
-    bound_good(n, sizes, bound, best)
 }
 
 // A bound with its full assignment.
+#[tactic(auto, unfolding(crate::specs::Message::bound_good))]
 pub fn bound_good(n: u8, sizes: [u8; 16], bound: u32, best: [u8; 16]) -> bool
     ensures { result ≡ bound_good n sizes bound best }
 {
-    if base::TOTAL_LIMIT < bound {
-        return false;
-    }
-    filled_to(n, sizes, best)
+    bound <= base::TOTAL_LIMIT && filled_to(n, sizes, best)
 }
 
 // Bound and best both zero.
+#[tactic(auto, unfolding(crate::specs::Message::no_bound))]
 fn no_bound(sizes: [u8; 16], bound: u32, best: [u8; 16]) -> bool
     ensures { result ≡ no_bound sizes bound best }
 {
-    if bound != 0 {
-        return false;
-    }
-    filled_to(0, sizes, best)
+    bound == 0 && filled_to(0, sizes, best)
 }

@@ -19,26 +19,21 @@ pub fn digits(c: Count) -> Text
 {
     let mut text = [0u8; 40];
     let mut rest = c;
-    let mut start: usize = 40;
-    while 0 < start {
+    for start in (0..40).rev() {
         let d = tenth(rest);
-        start -= 1;
-        text[start] = 48 + d.digit;
+        text[start] = b'0' + d.digit;
         rest = d.quotient;
         if is_zero(rest) {
             return Text { text, start };
         }
     }
-    Text { text, start }
+    Text { text, start: 0 }
 }
 
 fn is_zero(c: Count) -> bool
     ensures { result ≡ (value_of c == 0) }
 {
-    if c.high != 0 {
-        return false;
-    }
-    c.low == 0
+    c.high == 0 && c.low == 0
 }
 
 // Long division by ten: the high word, then the low one in two halves.

@@ -1,20 +1,19 @@
 // A delivery: the checks, the step of the unit that the message is for, and what it leaves in the network and the pool.
 
 ghost use Rattle.std.specs.Prelude.{◌≡◌, ℕ, ◌+◌, ◌-◌, ◌*◌, ◌<◌, ◌≤◌, List, length};
+ghost use Rattle.std.proofs.Math.Seq.{paste};
 ghost use Rattle.base.specs.Limits.{message_size, pool_cells};
+ghost use Rattle.base.specs.Refusal.{number_of, told};
 ghost use Rattle.costs.specs.Order.{default_order};
 ghost use Rattle.runs.specs.Calls.{network_refusal, deliver_refusal, network_after, deliver_by, deliver_of};
 ghost use Rattle.runs.specs.Pool.Laws.{close_gap};
 ghost use Rattle.runs.specs.Code.{Open, Storing, stored_answer, stored_pool};
 
 use crate::pool::{close, copy_in};
-use base::MESSAGE_SIZE;
+use base::{MESSAGE_SIZE, Refusal};
 use costs::ValueOrder;
 use runs::{Answer, Network};
 use unit::Outcome;
-
-// The cells of the pool, as a number of places.
-const CELLS: usize = base::POOL_CELLS as usize;
 
 // The message at a cell is delivered: the network and pool after it, or a refusal with both as lent. Refusals 13, 5, 6, 7, 5, 12, 15, then
 // the step's from 8 on, then 14.
@@ -34,50 +33,59 @@ pub fn deliver_by(
 ) -> Answer
     ensures { (result ≡ (deliver_of order net stream.now pool.old cell).answer) × (pool.new ≡ (deliver_of order net stream.now pool.old cell).pool) }
 {
-    let refusal = deliver_refusal(order, net, stream, pool.len(), cell);
-    if refusal != 0 {
-        return Answer {
-            refusal,
-            network: net,
-        };
+    match check_delivery(order, net, stream, pool.len(), cell) {
+        Ok(()) => hand_over(order, net, stream, pool, cell as usize),
+        Err(refusal) => refused(refusal, net),
     }
-    hand_over(order, net, stream, pool, cell as usize)
 }
 
-// The first refusal of a delivery that applies before its message is read, or 0.
-fn deliver_refusal(order: ValueOrder, net: Network, stream: &[u8], room: usize, cell: u64) -> u8
-    ensures { (pool : List ℕ) → length pool ≡ room → result ≡ deliver_refusal order net stream.now pool cell }
+// What a refused call gives beside the network as it was lent.
+pub(crate) fn refused(refusal: Refusal, network: Network) -> Answer
+    ensures { result ≡ record { refusal = number_of refusal; network = network } }
 {
-    let refusal = network_refusal(order, net, stream, room);
-    if refusal != 0 {
-        return refusal;
+    Answer {
+        refusal: refusal.number(),
+        network,
     }
-    if net.used <= cell {
-        return 15;
-    }
-    0
 }
 
-// What is asked whatever message is to be handed over: the first of 13, 5, 6, 7, 5, 12 that applies, or 0.
-pub(crate) fn network_refusal(order: ValueOrder, net: Network, stream: &[u8], room: usize) -> u8
-    ensures { (pool : List ℕ) → length pool ≡ room → result ≡ network_refusal order net stream.now pool }
+// Whether a message can be delivered from the cell, before it is read.
+fn check_delivery(
+    order: ValueOrder,
+    net: Network,
+    stream: &[u8],
+    room: usize,
+    cell: u64,
+) -> Result<(), Refusal>
+    ensures { (pool : List ℕ) → length pool ≡ room → told result ≡ deliver_refusal order net stream.now pool cell }
+{
+    check_network(order, net, stream, room)?;
+    if net.used <= cell {
+        return Err(Refusal::NoMessage);
+    }
+    Ok(())
+}
+
+// What is asked whatever message is to be handed over: 13, 5, 6, 7, 5, 12 in order.
+pub(crate) fn check_network(
+    order: ValueOrder,
+    net: Network,
+    stream: &[u8],
+    room: usize,
+) -> Result<(), Refusal>
+    ensures { (pool : List ℕ) → length pool ≡ room → told result ≡ network_refusal order net stream.now pool }
 {
     if room < base::POOL_SIZE {
-        return 13;
+        return Err(Refusal::NoRoom);
     }
-    let core = net.core;
-    let refusal = shed_core::refusal(order, core, stream);
-    if refusal != 0 {
-        return refusal;
-    }
+    shed_core::check(order, net.core, stream)?;
     if base::POOL_CELLS < net.used {
-        return 5;
+        return Err(Refusal::OutOfRange);
     }
-    let first = core.units[0];
-    if first.stopped {
-        return 12;
+    if net.core.units[0].stopped {
+        return Err(Refusal::Stopped);
     }
-    0
+    Ok(())
 }
 
 // The message at the cell goes to its receiver, and what that unit sends is added at the end.
@@ -88,15 +96,13 @@ fn hand_over(order: ValueOrder, net: Network, stream: &[u8], pool: &mut [u8], ce
     let at = MESSAGE_SIZE * cell;
     let end = at + MESSAGE_SIZE;
     let own = shed_core::receiver(table::units_of(stream), &pool[at..end]);
-    let core = net.core;
-    let units = core.units;
-    let u = units[(own - 1) as usize];
+    let u = net.core.units[usize::from(own - 1)];
     let mut out = [0u8; base::SENDING_SIZE];
     let r = shed_core::step(order, u, stream, own, &pool[at..end], &mut out);
-    let refusal = r.refusal;
-    if refusal != 0 {
+    // the number goes on as it is: `Outcome` and `Answer` are what C is handed
+    if r.refusal != 0 {
         return Answer {
-            refusal,
+            refusal: r.refusal,
             network: net,
         };
     }
@@ -108,30 +114,33 @@ fn store(net: Network, pool: &mut [u8], cell: usize, own: u8, r: Outcome, out: &
     requires { (cell < net.used) × (net.used ≤ pool_cells) × Storing (net.used - 1) r pool.old out.now }
     ensures { (result ≡ stored_answer net (net.used - 1) own r) × (pool.new ≡ stored_pool (close_gap pool.old (message_size * cell) (message_size * net.used)) (net.used - 1) r out.now pool.old) }
 {
-    let used = net.used as usize;
-    let sent = r.sent as usize;
-    if CELLS < used - 1 + sent {
-        return Answer {
-            refusal: 14,
-            network: net,
-        };
+    let left = net.used - 1;
+    if base::POOL_CELLS < left + u64::from(r.sent) {
+        return refused(Refusal::PoolFull, net);
     }
-    close(pool, MESSAGE_SIZE * cell, MESSAGE_SIZE * used);
-    copy_in(pool, MESSAGE_SIZE * (used - 1), out, MESSAGE_SIZE * sent);
-    Answer {
-        refusal: 0,
-        network: advance(net, own, r, net.used - 1),
-    }
+    close(pool, MESSAGE_SIZE * cell, MESSAGE_SIZE * net.used as usize);
+    add(net, pool, left, own, r, out)
 }
 
-// The network once unit `own` has stepped, where `left` cells stay in use beside what it sent.
-pub(crate) fn advance(net: Network, own: u8, r: Outcome, left: u64) -> Network
-    requires { left ≤ pool_cells }
-    ensures { result ≡ network_after net own r.unit (left + r.sent) r.records }
+// What the unit sent is added behind the `left` cells that stay in use, and the unit and the counts are put in place.
+pub(crate) fn add(
+    net: Network,
+    pool: &mut [u8],
+    left: u64,
+    own: u8,
+    r: Outcome,
+    out: &[u8],
+) -> Answer
+    requires { Storing left r pool.old out.now × (left + r.sent ≤ pool_cells) }
+    ensures { (result ≡ record { refusal = 0; network = network_after net own r.unit (left + r.sent) r.records }) × (pool.new ≡ paste pool.old (message_size * left) out.now (message_size * r.sent)) }
 {
-    let core = net.core;
-    Network {
-        core: shed_core::advance(core, own, r),
-        used: left + r.sent as u64,
+    let sent = usize::from(r.sent);
+    copy_in(pool, MESSAGE_SIZE * left as usize, out, MESSAGE_SIZE * sent);
+    Answer {
+        refusal: 0,
+        network: Network {
+            core: shed_core::advance(net.core, own, r),
+            used: left + u64::from(r.sent),
+        },
     }
 }

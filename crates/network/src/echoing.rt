@@ -3,17 +3,12 @@
 ghost use Rattle.std.specs.Prelude.{◌≡◌};
 ghost use Rattle.costs.specs.Order.{default_order};
 ghost use Rattle.runs.specs.Calls.{echo_by, echo_of};
-ghost use Rattle.runs.specs.Code.{Passing, Storing, stored_answer, stored_pool};
+ghost use Rattle.runs.specs.Code.{Passing};
 
-use crate::delivery::{advance, network_refusal};
-use crate::pool::copy_in;
-use base::MESSAGE_SIZE;
+use crate::delivery::{add, check_network, refused};
+use base::Refusal;
 use costs::ValueOrder;
 use runs::{Answer, Network};
-use unit::Outcome;
-
-// The cells of the pool, as a number of places.
-const CELLS: usize = base::POOL_CELLS as usize;
 
 // The lent packet is heard again: the network and pool after it, or a refusal with both as lent. Refusals 13, 5, 6, 7, 5, 12, then the
 // step's from 8 on, then 14. The call can't tell an echo from a forgery.
@@ -33,53 +28,30 @@ pub fn echo_by(
 ) -> Answer
     ensures { (result ≡ (echo_of order net stream.now pool.old packet.now).answer) × (pool.new ≡ (echo_of order net stream.now pool.old packet.now).pool) }
 {
-    let refusal = network_refusal(order, net, stream, pool.len());
-    if refusal != 0 {
-        return Answer {
-            refusal,
-            network: net,
-        };
+    match check_network(order, net, stream, pool.len()) {
+        Ok(()) => hear(order, net, stream, pool, packet),
+        Err(refusal) => refused(refusal, net),
     }
-    hear(order, net, stream, pool, packet)
 }
 
-// The packet goes to its receiver, and what that unit sends is added at the end.
+// The packet goes to its receiver, and what that unit sends is added at the end; or 14, and all stays.
 fn hear(order: ValueOrder, net: Network, stream: &[u8], pool: &mut [u8], packet: &[u8]) -> Answer
     requires { Passing order net stream.now pool.old }
     ensures { (result ≡ (echo_by order 0 net stream.now pool.old packet.now).answer) × (pool.new ≡ (echo_by order 0 net stream.now pool.old packet.now).pool) }
 {
     let own = shed_core::receiver(table::units_of(stream), packet);
-    let core = net.core;
-    let units = core.units;
-    let u = units[(own - 1) as usize];
+    let u = net.core.units[usize::from(own - 1)];
     let mut out = [0u8; base::SENDING_SIZE];
     let r = shed_core::step(order, u, stream, own, packet, &mut out);
-    let refusal = r.refusal;
-    if refusal != 0 {
+    // the number goes on as it is: `Outcome` and `Answer` are what C is handed
+    if r.refusal != 0 {
         return Answer {
-            refusal,
+            refusal: r.refusal,
             network: net,
         };
     }
-    add(net, pool, own, r, &out)
-}
-
-// What was sent is added at the end, and the unit and the counts are put in place; or 14, and all stays.
-fn add(net: Network, pool: &mut [u8], own: u8, r: Outcome, out: &[u8]) -> Answer
-    requires { Storing net.used r pool.old out.now }
-    ensures { (result ≡ stored_answer net net.used own r) × (pool.new ≡ stored_pool pool.old net.used r out.now pool.old) }
-{
-    let used = net.used as usize;
-    let sent = r.sent as usize;
-    if CELLS < used + sent {
-        return Answer {
-            refusal: 14,
-            network: net,
-        };
+    if base::POOL_CELLS < net.used + u64::from(r.sent) {
+        return refused(Refusal::PoolFull, net);
     }
-    copy_in(pool, MESSAGE_SIZE * used, out, MESSAGE_SIZE * sent);
-    Answer {
-        refusal: 0,
-        network: advance(net, own, r, net.used),
-    }
+    add(net, pool, net.used, own, r, &out)
 }

@@ -11,6 +11,7 @@ use runs::Outlook;
 pub(crate) const LENT_SIZE: usize = base::PLACES * base::COSTS_SIZE;
 
 // What all units are lent in a run: where the costs of each place begin, and the next one's; and h of its values.
+// Memory is fixed: 16 places, of which n are used.
 #[derive(Clone, Copy)]
 pub(crate) struct Loans {
     pub starts: [usize; 17],
@@ -36,14 +37,12 @@ fn lay(stream: &[u8], out: &mut [u8]) -> [usize; 17]
     let mut costs = [0u8; base::COSTS_SIZE];
     let mut starts = [0usize; 17];
     let mut at = 0;
-    let mut k: u8 = 0;
-    while k < n {
-        k += 1;
-        let gathered = costs::gather(stream, k, &mut costs);
-        let count = gathered.length;
-        base::put(out, at, &costs[0..count]);
+    for k in 0..n {
+        let own = k + 1;
+        let count = costs::gather(stream, own, &mut costs).unwrap_or(0);
+        base::put(out, at, &costs[..count]);
         at += count;
-        starts[k as usize] = at;
+        starts[usize::from(own)] = at;
     }
     starts
 }
@@ -57,9 +56,8 @@ fn look(order: ValueOrder, stream: &[u8], lent: &[u8], starts: [usize; 17]) -> [
     let sizes = costs::sizes_of(stream);
     let blank = Outlook { ahead: [0u32; 16] };
     let mut looks = [blank; 16];
-    let mut k: u8 = 0;
-    while k < n {
-        let place = k as usize;
+    for k in 0..n {
+        let place = usize::from(k);
         let lo = starts[place];
         let hi = starts[place + 1];
         let seat = Seat {
@@ -70,7 +68,6 @@ fn look(order: ValueOrder, stream: &[u8], lent: &[u8], starts: [usize; 17]) -> [
         };
         let ahead = costs::lookahead(seat, &lent[lo..hi]);
         looks[place] = Outlook { ahead };
-        k += 1;
     }
     looks
 }

@@ -10,6 +10,7 @@ mod pool; // cells moved and written
 mod settling; // a network run to its end
 mod short; // a message that goes a short way
 
+// Each call that is told no order of values has `by` one that is: README and C name both.
 pub use costs::ValueOrder;
 pub use decimal::digits;
 pub use delivery::{deliver, deliver_by};

@@ -5,6 +5,7 @@ ghost use Rattle.costs.specs.Order.{default_order};
 ghost use Rattle.runs.specs.Calls.{no_network, make_of};
 ghost use Rattle.runs.specs.Code.{begun_answer};
 
+use crate::delivery::refused;
 use costs::ValueOrder;
 use runs::{Answer, Network};
 use unit::Outcome;
@@ -20,12 +21,10 @@ pub fn make(stream: &[u8], pool: &mut [u8]) -> Answer
 pub fn make_by(order: ValueOrder, stream: &[u8], pool: &mut [u8]) -> Answer
     ensures { (result ≡ (make_of order stream.now pool.old).answer) × (pool.new ≡ (make_of order stream.now pool.old).pool) }
 {
-    let refusal = shed_core::make_refusal(stream, pool.len(), base::POOL_SIZE);
-    if refusal != 0 {
-        return refused(refusal);
+    match shed_core::check_making(stream, pool.len(), base::POOL_SIZE) {
+        Ok(()) => begun(shed_core::first_step(order, stream, pool)),
+        Err(refusal) => refused(refusal, no_network()),
     }
-    let r = shed_core::first_step(order, stream, pool);
-    begun(r)
 }
 
 // The network after unit 1's making: what it sent waits in the pool.
@@ -36,20 +35,17 @@ fn begun(r: Outcome) -> Answer
         refusal: 0,
         network: Network {
             core: shed_core::begun(r),
-            used: r.sent as u64,
+            used: u64::from(r.sent),
         },
     }
 }
 
-// A refusal of making: all zero beside it.
-fn refused(refusal: u8) -> Answer
-    ensures { result ≡ record { refusal = refusal; network = no_network } }
+// What stands beside a refusal of making: all zero.
+fn no_network() -> Network
+    ensures { result ≡ no_network }
 {
-    Answer {
-        refusal,
-        network: Network {
-            core: shed_core::no_core(),
-            used: 0,
-        },
+    Network {
+        core: shed_core::no_core(),
+        used: 0,
     }
 }

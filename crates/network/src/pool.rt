@@ -12,12 +12,7 @@ pub(crate) fn close(pool: &mut [u8], at: usize, end: usize)
     requires { (at + message_size ≤ end) × (end ≤ length pool.old) }
     ensures { pool.new ≡ close_gap pool.old at end }
 {
-    let n = end - at - MESSAGE_SIZE;
-    let mut j = 0;
-    while j < n {
-        pool[at + j] = pool[at + MESSAGE_SIZE + j];
-        j += 1;
-    }
+    pool.copy_within(at + MESSAGE_SIZE..end, at);
 }
 
 // The first n bytes of `source`, written at `at`.
@@ -25,5 +20,6 @@ pub(crate) fn copy_in(pool: &mut [u8], at: usize, source: &[u8], n: usize)
     requires { (at + n ≤ length pool.old) × (n ≤ length source.now) }
     ensures { pool.new ≡ paste pool.old at source.now n }
 {
-    base::put(pool, at, &source[0..n]);
+    let end = at + n;
+    pool[at..end].copy_from_slice(&source[..n]);
 }

@@ -10,7 +10,7 @@ use crate::make_by;
 use crate::short::{changed, decided, first_seat, hear, seat_of, send_on};
 use costs::ValueOrder;
 use runs::{Answer, Network};
-use unit::{Unit, Way};
+use unit::Way;
 
 // Makes a network of a stream and delivers cell 0 until unit 1 stops; none of these deliveries is refused. Refusals: making's.
 pub fn settle(stream: &[u8], pool: &mut [u8]) -> Answer
@@ -27,8 +27,7 @@ pub fn settle_by(order: ValueOrder, stream: &[u8], pool: &mut [u8]) -> Answer
     if made.refusal != 0 {
         return made;
     }
-    let net = made.network;
-    let network = run(order, stream, net, pool);
+    let network = run(order, stream, made.network, pool);
     Answer {
         refusal: 0,
         network,
@@ -47,40 +46,29 @@ fn run(order: ValueOrder, stream: &[u8], net: Network, pool: &mut [u8]) -> Netwo
     let first = first_seat(order, stream);
     let mut core = net.core;
     let mut used = net.used;
-    while !has_stopped(core.units[0]) {
-        let seat = seat_of(first, &pool[0..base::MESSAGE_SIZE]);
-        let place = (seat.own - 1) as usize;
+    // what ends it is a state: no range counts it
+    while !core.units[0].stopped {
+        let seat = seat_of(first, &pool[..base::MESSAGE_SIZE]);
+        let place = usize::from(seat.own - 1);
         let lo = loans.starts[place];
         let hi = loans.starts[place + 1];
-        let known = loans.looks[place];
-        let h = known.ahead;
+        let h = loans.looks[place].ahead;
         let turn = hear(seat, &lent[lo..hi], &h, core.units[place], pool, used);
-        let way = turn.way;
         let mut sent = turn.sent;
-        match way {
+        match turn.way {
             Way::Quiet | Way::Reply => {}
             Way::Follow => core.units[place] = changed(turn, core.units[place]),
             Way::Store => core.units[place] = changed(turn, core.units[place]),
             Way::Lower => core.units[place] = changed(turn, core.units[place]),
             Way::Whole => {
                 let d = decided(seat, &lent[lo..hi], &h, turn, core.units[place]);
-                let w = d.unit;
-                core.units[place] = w;
-                let records = core.records;
-                core.records = shed_core::plus(records, d.records as u64);
+                core.units[place] = d.unit;
+                core.records = shed_core::plus(core.records, u64::from(d.records));
                 sent = send_on(seat, d, pool, used as usize);
             }
         }
-        used = used - 1 + sent as u64;
-        let deliveries = core.deliveries;
-        core.deliveries = shed_core::plus(deliveries, 1);
+        used = used - 1 + u64::from(sent);
+        core.deliveries = shed_core::plus(core.deliveries, 1);
     }
     Network { core, used }
-}
-
-// Whether a unit has stopped.
-fn has_stopped(u: Unit) -> bool
-    ensures { result ≡ u.stopped }
-{
-    u.stopped
 }

@@ -1,6 +1,6 @@
 // A message of a run: it is heard and taken out of the pool, and what is sent on it is put behind the others.
 
-ghost use Rattle.std.specs.Prelude.{◌≡◌, ◌-◌, ◌*◌, ◌≤◌, length, take, drop};
+ghost use Rattle.std.specs.Prelude.{◌≡◌, ◌-◌, ◌*◌, ◌≤◌, length, take, drop, Ok};
 ghost use Rattle.base.specs.Limits.{message_size, pool_cells, pool_size};
 ghost use Rattle.base.specs.Bytes.Laws.{AllBytes};
 ghost use Rattle.table.specs.Stream.{units_of};
@@ -22,14 +22,14 @@ ghost use Rattle.runs.specs.Short.{Passed, SentOn, Heard};
 use crate::pool::close;
 use base::MESSAGE_SIZE;
 use costs::{Seat, ValueOrder};
-use message::{Kind, Message, Read};
+use message::{Kind, Message};
 use unit::{Decided, Unit, Way};
 
 // What was heard: the message as it was read, the way that it goes, and how many messages were sent on it.
 #[derive(Clone, Copy)]
 pub(crate) struct Turn {
+    pub kind: Kind,
     pub message: Message,
-    pub read: Read,
     pub way: Way,
     pub sent: u8,
 }
@@ -38,11 +38,10 @@ pub(crate) struct Turn {
 pub(crate) fn first_seat(order: ValueOrder, stream: &[u8]) -> Seat
     ensures { result ≡ seat_at order 1 (units_of stream.now) (sizes_in stream.now) }
 {
-    let sizes = costs::sizes_of(stream);
     Seat {
         own: 1,
         n: table::units_of(stream),
-        sizes,
+        sizes: costs::sizes_of(stream),
         order,
     }
 }
@@ -66,16 +65,14 @@ pub(crate) fn hear(
     used: u64,
 ) -> Turn
     requires { Oldest seat.order u seat.own seat.n seat.sizes costs.now ahead.now pool.old used }
-    ensures { ((t : Oldest seat.order u seat.own seat.n seat.sizes costs.now ahead.now pool.old used) → Heard t result.way result.message result.sent pool.new) × (record { message = result.message; answer = result.read } ≡ unpack_of (take message_size (drop 0 pool.old))) × SizedUnit u }
+    ensures { ((t : Oldest seat.order u seat.own seat.n seat.sizes costs.now ahead.now pool.old used) → Heard t result.way result.message result.sent pool.new) × (Ok (result.kind, result.message) ≡ unpack_of (take message_size (drop 0 pool.old))) × SizedUnit u }
 {
-    let known = message::unpack(&pool[0..MESSAGE_SIZE]);
-    let read = known.answer;
-    let message = known.message;
-    let way = unit::way(seat, read, u, message);
+    let (kind, message) = message::unpack(&pool[..MESSAGE_SIZE]).unwrap();
+    let way = unit::way(seat, Ok((kind, message)), u);
     let sent = pass(way, seat, costs, ahead, message, pool, used as usize);
     Turn {
+        kind,
         message,
-        read,
         way,
         sent,
     }
@@ -85,18 +82,14 @@ pub(crate) fn hear(
 pub(crate) fn changed(turn: Turn, u: Unit) -> Unit
     ensures { result ≡ changed_by turn.way turn.message u }
 {
-    let way = turn.way;
-    let m = turn.message;
-    unit::changed(way, m, u)
+    unit::changed(turn.way, turn.message, u)
 }
 
 // What the message makes the unit do that goes the whole way.
 pub(crate) fn decided(seat: Seat, costs: &[u8], ahead: &[u32], turn: Turn, u: Unit) -> Decided
-    ensures { result ≡ decided_of u (on_known seat costs.now ahead.now u turn.read turn.message) }
+    ensures { result ≡ decided_of u (on_known seat costs.now ahead.now u (Ok (turn.kind, turn.message))) }
 {
-    let read = turn.read;
-    let m = turn.message;
-    unit::respond(seat, costs, ahead, read, u, m)
+    unit::respond(seat, costs, ahead, Ok((turn.kind, turn.message)), u)
 }
 
 // What the unit decided is sent: the message at cell 0 is taken out, and what is sent is put behind the others, straight into the pool.
@@ -104,10 +97,9 @@ pub(crate) fn send_on(seat: Seat, d: Decided, pool: &mut [u8], used: usize) -> u
     requires { (1 ≤ used) × (used ≤ pool_cells) × (pool_size ≤ length pool.old) }
     ensures { SentOn seat d.sending pool.old used result pool.new }
 {
-    let sending = d.sending;
     close(pool, 0, MESSAGE_SIZE * used);
     let at = MESSAGE_SIZE * (used - 1);
-    unit::send(seat, sending, &mut pool[at..])
+    unit::send(seat, d.sending, &mut pool[at..])
 }
 
 // What the way of the message at cell 0 does to the pool; how many messages are sent. The whole way does nothing yet.
@@ -124,11 +116,8 @@ fn pass(
     ensures { Passed way seat costs.now ahead.now m pool.old used result pool.new }
 {
     match way {
-        Way::Quiet => take_out(pool, used),
-        Way::Reply => answer(seat, costs, ahead, m, pool, used),
-        Way::Follow => answer(seat, costs, ahead, m, pool, used),
-        Way::Store => take_out(pool, used),
-        Way::Lower => take_out(pool, used),
+        Way::Quiet | Way::Store | Way::Lower => take_out(pool, used),
+        Way::Reply | Way::Follow => answer(seat, costs, ahead, m, pool, used),
         Way::Whole => 0,
     }
 }
@@ -149,6 +138,6 @@ fn answer(seat: Seat, costs: &[u8], ahead: &[u32], m: Message, pool: &mut [u8], 
 {
     let estimate = unit::reply(seat, costs, ahead, m);
     close(pool, 0, MESSAGE_SIZE * used);
-    message::put(Kind::Estimate, estimate, pool, MESSAGE_SIZE * (used - 1));
+    message::put(Kind::Estimate, estimate, pool, MESSAGE_SIZE * (used - 1)).unwrap();
     1
 }

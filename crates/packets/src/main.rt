@@ -3,8 +3,8 @@
 // byte short. A message that is read is written again, into 65 bytes, for 3 units and for none, and into 63 bytes; and read for none.
 #![tactic(auto)]
 
-use base::MESSAGE_SIZE;
-use message::{Kind, Message, Parsed, Read};
+use base::{MESSAGE_SIZE, Refusal};
+use message::{Kind, Message};
 use std::fs::File;
 use std::os::fd::AsRawFd;
 use std::rt::Files;
@@ -25,49 +25,41 @@ fn main(rt: HostRuntime) {
 
 // Each record, one to a line.
 fn show_all(file: &[u8]) {
-    let mut at = 0;
-    while at < file.len() {
-        show(&file[at..]);
-        at += 96;
+    for record in file.chunks(96) {
+        show(record);
     }
 }
 
-// The first record of what is left of the file.
-fn show(records: &[u8]) {
-    if records.len() < 32 {
+// A record, or what is left of the last.
+fn show(record: &[u8]) {
+    if record.len() < 32 {
         return;
     }
-    io::write_all(STDOUT_FILENO, &records[0..31]);
-    let own = records[31];
-    if records.len() < 96 {
-        let end = records.len();
-        say(own, &records[32..end]);
-        return;
-    }
-    say(own, &records[32..96]);
+    io::write_all(STDOUT_FILENO, &record[0..31]);
+    say(record[31], &record[32..]);
 }
 
 // What reading a packet gives, and what writing it again does.
 fn say(own: u8, packet: &[u8]) {
-    let p = parse(own, packet);
-    let answer = p.answer;
-    let Read::Good(kind) = answer else {
-        print::print_refusal(message::refusal_of(answer));
-        return;
-    };
-    io::write_all(STDOUT_FILENO, b" ");
-    let m = p.message;
-    print::print_message(kind, m);
-    again(kind, m, packet);
+    match parse(own, packet) {
+        Ok((kind, m)) => {
+            io::write_all(STDOUT_FILENO, b" ");
+            print::print_message(kind, m);
+            again(kind, m, packet);
+        }
+        Err(refusal) => {
+            print::print_refusal(refusal.number());
+        }
+    }
 }
 
 // Read by unit `own`, or for any receiver.
-fn parse(own: u8, packet: &[u8]) -> Parsed {
-    let sizes = SIZES;
+fn parse(own: u8, packet: &[u8]) -> Result<(Kind, Message), Refusal> {
     if own == 0 {
-        return message::parse(4, sizes, packet);
+        message::parse(4, SIZES, packet)
+    } else {
+        message::parse_for(4, SIZES, own, packet)
     }
-    message::parse_for(4, sizes, own, packet)
 }
 
 // The message written again.
@@ -79,51 +71,43 @@ fn again(kind: Kind, m: Message, packet: &[u8]) {
     io::write_all(STDOUT_FILENO, b"; for none");
     write(0, kind, m, packet);
     io::write_all(STDOUT_FILENO, b"; into 63 bytes");
-    let sizes = SIZES;
     let mut short = [255u8; MESSAGE_SIZE - 1];
-    outcome(
-        message::write(4, sizes, kind, m, &mut short),
-        &short,
-        packet,
-    );
+    let written = message::write(4, SIZES, kind, m, &mut short);
+    outcome(written, &short, packet);
     io::write_all(STDOUT_FILENO, b"; read for none");
-    let p = message::parse(0, sizes, packet);
-    let answer = p.answer;
-    outcome(message::refusal_of(answer), &short, packet);
+    let read = message::parse(0, SIZES, packet);
+    outcome(read.map(|_| ()), &short, packet);
     io::write_all(STDOUT_FILENO, b"\n");
 }
 
 // The same for n units, into 65 bytes of 255.
 fn write(n: u8, kind: Kind, m: Message, packet: &[u8]) {
-    let sizes = SIZES;
     let mut out = [255u8; MESSAGE_SIZE + 1];
-    outcome(message::write(n, sizes, kind, m, &mut out), &out, packet);
+    let written = message::write(n, SIZES, kind, m, &mut out);
+    outcome(written, &out, packet);
 }
 
-// What writing gave, and whether the output is then the packet and a byte of 255.
-fn outcome(refusal: u8, out: &[u8], packet: &[u8]) {
-    if refusal != 0 {
-        print::print_number(b" refused ", base::wide_u32(refusal));
-        return;
+// What was refused, or whether the output is then the packet and a byte of 255.
+fn outcome(done: Result<(), Refusal>, out: &[u8], packet: &[u8]) {
+    match done {
+        Err(refusal) => {
+            print::print_number(b" refused ", u32::from(refusal.number()));
+        }
+        Ok(()) => {
+            let word: &[u8] = if same(packet, out) {
+                b" the same"
+            } else {
+                b" otherwise"
+            };
+            io::write_all(STDOUT_FILENO, word);
+        }
     }
-    if same(packet, out) {
-        io::write_all(STDOUT_FILENO, b" the same");
-        return;
-    }
-    io::write_all(STDOUT_FILENO, b" otherwise");
 }
 
 // Whether `out` is the packet and a byte of 255.
 fn same(packet: &[u8], out: &[u8]) -> bool {
-    let n = packet.len();
-    if out.len() <= n {
-        return false;
+    match out.split_last() {
+        Some((last, front)) => *last == 255 && front == packet,
+        None => false,
     }
-    if out.len() - n != 1 {
-        return false;
-    }
-    if out[n] != 255 {
-        return false;
-    }
-    check::same(packet, &out[0..n])
 }

@@ -5,16 +5,43 @@
 ghost use Rattle.std.specs.Prelude.{◌≡◌};
 
 use message::{Kind, Message};
+use std::fmt;
+use std::fmt::Write;
 
 const STDOUT_FILENO: i32 = 1;
+
+// Standard output.
+#[derive(Clone, Copy)]
+struct Out;
+
+impl fmt::Write for Out {
+    fn write_str(&mut self, s: &str) -> fmt::Result {
+        if io::write_all(STDOUT_FILENO, s.as_bytes()) {
+            Ok(())
+        } else {
+            Err(fmt::Error)
+        }
+    }
+}
+
+// Places, each after a space.
+#[derive(Clone, Copy)]
+struct Places<'a, T>(&'a [T]);
+
+impl<'a, T: fmt::Display> fmt::Display for Places<'a, T> {
+    fn fmt<W: fmt::Write>(&self, f: &mut fmt::Formatter<W>) -> fmt::Result {
+        for x in self.0 {
+            write!(f, " {x}")?;
+        }
+        Ok(())
+    }
+}
 
 // A message's kind, sender, receiver and fields; ends the line.
 pub fn print_message(kind: Kind, m: Message) -> Message
     ensures { result ≡ m }
 {
-    print_kind(kind);
-    io::print_decimal(STDOUT_FILENO, m.sender as u64);
-    print_number(b" to ", base::wide_u32(m.receiver));
+    let _ = write!(Out, "{kind} {} to {}", m.sender, m.receiver);
     print_fields(m)
 }
 
@@ -22,55 +49,33 @@ pub fn print_message(kind: Kind, m: Message) -> Message
 pub fn print_fields(m: Message) -> Message
     ensures { result ≡ m }
 {
-    let stamp = m.stamp;
-    print_bytes(b" stamp", stamp);
-    let values = m.values;
-    print_bytes(b" values", values);
-    print_number(b" cost ", m.cost);
-    print_number(b" bound ", m.bound);
-    let best = m.best;
-    print_bytes(b" best", best);
-    io::write_all(STDOUT_FILENO, b"\n");
+    let _ = writeln!(
+        Out,
+        " stamp{} values{} cost {} bound {} best{}",
+        Places(&m.stamp),
+        Places(&m.values),
+        m.cost,
+        m.bound,
+        Places(&m.best)
+    );
     m
 }
 
-// A refusal's number; ends the line.
+// A refusal's number, as C's structs have it; ends the line.
 pub fn print_refusal(number: u8) -> u8
     ensures { result ≡ number }
 {
-    print_number(b" refused ", base::wide_u32(number));
-    io::write_all(STDOUT_FILENO, b"\n");
+    let _ = writeln!(Out, " refused {number}");
     number
 }
 
-// A name, then 16 bytes, each after a space.
-pub fn print_bytes(name: &[u8], l: [u8; 16]) -> [u8; 16]
+// A name, then 16 places, each after a space.
+pub fn print_places<T: fmt::Display + Copy>(name: &[u8], l: [T; 16]) -> [T; 16]
     ensures { result ≡ l }
 {
     io::write_all(STDOUT_FILENO, name);
-    let mut i = 0;
-    while i < 16 {
-        print_place(base::wide_u32(l[i]));
-        i += 1;
-    }
+    let _ = write!(Out, "{}", Places(&l));
     l
-}
-
-// A name, then 16 numbers, each after a space.
-pub fn print_words(name: &[u8], l: [u32; 16]) -> [u32; 16]
-    ensures { result ≡ l }
-{
-    io::write_all(STDOUT_FILENO, name);
-    let mut i = 0;
-    while i < 16 {
-        print_place(l[i]);
-        i += 1;
-    }
-    l
-}
-
-fn print_place(x: u32) {
-    print_number(b" ", x);
 }
 
 // A name, then a number.
@@ -78,27 +83,6 @@ pub fn print_number(name: &[u8], x: u32) -> u32
     ensures { result ≡ x }
 {
     io::write_all(STDOUT_FILENO, name);
-    io::print_decimal(STDOUT_FILENO, x as u64);
+    let _ = write!(Out, "{x}");
     x
-}
-
-// 01's word for a kind.
-fn print_kind(kind: Kind) {
-    match kind {
-        Kind::Cpa => {
-            io::write_all(STDOUT_FILENO, b"paper ");
-        }
-        Kind::Request => {
-            io::write_all(STDOUT_FILENO, b"copy ");
-        }
-        Kind::Estimate => {
-            io::write_all(STDOUT_FILENO, b"estimate ");
-        }
-        Kind::Solution => {
-            io::write_all(STDOUT_FILENO, b"news ");
-        }
-        Kind::Stop => {
-            io::write_all(STDOUT_FILENO, b"stop ");
-        }
-    }
 }

@@ -1,11 +1,9 @@
 -- Costs held in 32 bits: where each stands, what it stands for, and what an assignment is worth by them. Document 02, job 8: "Hold these costs in 32
 -- bits, own costs before pair costs in form two's order, 4,294,967,295 as barred."
 -- Units count from 0 here, values from 1, as in costs/specs/Instance. Assumes nothing.
-use Rattle.std.specs.Prelude.{ℕ, ◌+◌, ◌-◌, cond, List, ltb, get_or}
+use Rattle.std.specs.Prelude.{ℕ, ◌+◌, ◌-◌, cond, List, ltb, get_or, Some, None}
 use Rattle.base.specs.Sums.{sum_to}
-use Rattle.costs.specs.declared.Cost.{Cost}
-use Rattle.costs.specs.declared.Cost.TheVariants.{Of, Forbidden}
-use Rattle.costs.specs.Cost.{◌⊕◌}
+use Rattle.costs.specs.Cost.{Cost, ◌⊕◌}
 use Rattle.costs.specs.Instance.{Instance, dom_in, pair_start, in_pair}
 use Rattle.costs.specs.Bounds.{total}
 use Rattle.costs.specs.Laws.Stream.{row_start}
@@ -36,7 +34,7 @@ barred = 4294967295
 
 -- a number, or forbidden: barred is the last number of 32 bits
 abbrev pub held_cost : ℕ → Cost
-held_cost x = cond (ltb x barred) (Of x) Forbidden
+held_cost x = cond (ltb x barred) (Some x) None
 
 -- what is lent to a move: the floor, and the costs
 pub record Held : Type 0 where
@@ -57,4 +55,4 @@ instance_in n sizes costs = instance_by (dom_in n sizes) n costs
 
 -- 02: "For every lotting, floor plus total"; forbidden where it has a barred pair
 abbrev pub worth : ℕ → List ℕ → Held → List ℕ → Cost
-worth n sizes h l = Of h.floor ⊕ total (instance_in n sizes h.costs) l
+worth n sizes h l = Some h.floor ⊕ total (instance_in n sizes h.costs) l

@@ -1,11 +1,9 @@
 -- The three moves of held costs. Document 02, job 8, "Costs pushed forward": "do by calls of their own what source document 004 calls binary
 -- projection, unary projection and extension", section 2.2 there. In order: costs changed; the moves; their refusals; the calls.
 -- That they keep what every assignment is worth is in Moves/Worth. Assumes nothing.
-use Rattle.std.specs.Prelude.{ℕ, zero, suc, pred, ◌+◌, ◌-◌, Bool, true, cond, not, ◌&&◌, List, ltb, leb, eqb, length, get_or, set}
-use Rattle.base.specs.{Every.every, Shape.is_value, Shape.shape_good, Sums.sum_to}
-use Rattle.costs.specs.declared.Cost.{Cost}
-use Rattle.costs.specs.declared.Cost.TheVariants.{Of, Forbidden}
-use Rattle.costs.specs.Cost.{least}
+use Rattle.std.specs.Prelude.{ℕ, zero, suc, pred, ◌+◌, ◌-◌, Bool, true, cond, not, ◌&&◌, List, ltb, leb, eqb, length, get_or, set, Result, Ok, Err, unwrap_or}
+use Rattle.base.specs.{declared.Refusal.Refusal, Refusal.number_of, Every.every, Shape.is_value, Shape.shape_good, Sums.sum_to}
+use Rattle.costs.specs.Cost.{Cost, least}
 use Rattle.costs.specs.Instance.{dom_in}
 use Rattle.projections.specs.Held.{own_at, with_at, cost_count, barred, held_cost, Held}
 use Rattle.projections.specs.declared.Moved.{Moved}
@@ -41,8 +39,7 @@ least_at place d costs = least (λ v. held_cost (get_or costs (place v) 0)) d
 
 -- 02: "a row fully barred is passed over": nothing is taken off it
 abbrev pub taken : Cost → ℕ
-taken (Of a) = a
-taken Forbidden = 0
+taken c = unwrap_or c 0
 
 -- off the costs of value u of unit i with unit j
 abbrev pub row_taken : (ℕ → ℕ) → ℕ → ℕ → ℕ → ℕ → List ℕ → ℕ
@@ -144,3 +141,8 @@ held_by floor costs = record { floor = floor; costs = costs }
 -- the answer of a call; the costs stay with the caller
 abbrev pub answer_of : Outcome → Moved
 answer_of x = record { refusal = x.refusal; floor = x.held.floor }
+
+-- the same of a move that gives the floor as it leaves it, or the refusal: then the floor is as it was lent
+abbrev pub moved_by : ℕ → Result ℕ Refusal → Moved
+moved_by floor (Ok left) = record { refusal = 0; floor = left }
+moved_by floor (Err r) = record { refusal = number_of r; floor = floor }

@@ -1,24 +1,24 @@
 -- What the code goes by: runs of costs at even steps, which stand where specs/Held says; that the laws of these places carry over; and the moves as
 -- the code makes them. Assumes nothing.
-use Rattle.std.specs.Prelude.{ℕ, zero, suc, pred, ◌+◌, ◌*◌, ◌-◌, ◌≤◌, ◌<◌, min, ◌≡◌, refl, Bool, true, false, cond, ◌&&◌, List, ltb, length, get_or, set}
-use Rattle.std.proofs.Common.{sym, ap, ◌∙◌, subst, arith, mul_comm, add-one, ltb-true, ltb-false, lt-ltb, le-ltb, eq-eqb, ne_eqb}
+use Rattle.std.specs.Prelude.{ℕ, zero, suc, pred, ◌+◌, ◌*◌, ◌-◌, ◌≤◌, ◌<◌, ◌≡◌, refl, Bool, true, false, cond, ◌&&◌, List, ltb, length, get_or, set}
+use Rattle.std.proofs.Common.{sym, ap, ◌∙◌, subst, arith, mul_comm, add-one, lt-ltb, le-ltb, eq-eqb, ne_eqb}
+use Rattle.std.specs.Prelude.{take}
+use Rattle.std.specs.List.{list_all}
+use Rattle.std.proofs.lemmas.List.Folds.{list_all_more}
 use Rattle.base.specs.Every.{every}
 use Rattle.base.specs.Every.Laws.{every_by}
 use Rattle.base.specs.Shape.{shape_good}
 use Rattle.base.specs.Sums.{sum_from, sum_to}
 use Rattle.base.specs.Sums.Laws.{sum_to_sum_from}
 use Rattle.costs.specs.Instance.{dom_in, pair_start, in_pair}
-use Rattle.costs.specs.declared.Cost.{Cost}
-use Rattle.costs.specs.declared.Cost.TheVariants.{Of, Forbidden}
-use Rattle.costs.specs.Cost.{as_number}
-use Rattle.costs.specs.Cost.Laws.{AtMost, least_cong, lesser_number}
-use Rattle.costs.proofs.LeastOf.{most-least}
+use Rattle.costs.specs.Cost.{lesser}
+use Rattle.costs.specs.Cost.Laws.{least_cong}
 use Rattle.projections.specs.declared.Moved.{Moved}
 use Rattle.projections.specs.declared.Run.{Run}
 use Rattle.projections.specs.declared.Found.{Found}
 use Rattle.projections.specs.Held.{own_at, with_at, cost_count, barred, held_cost, Held}
 use Rattle.projections.specs.Held.Laws.{InDom, with_later, with_earlier}
-use Rattle.projections.specs.Moves.{in_order, change_each, least_at, taken, lowered, raised, raise_fits, row_there, lent_good, refusal_by, Outcome, held_by, answer_of}
+use Rattle.projections.specs.Moves.{in_order, change_each, least_at, lowered, raised, raise_fits, row_there, lent_good, refusal_by, Outcome, held_by, answer_of}
 use Rattle.projections.specs.Moves.Changed.{Apart, Row, apart_upto, each_next}
 use Rattle.projections.specs.Moves.Worth.{passed}
 pub mod Calls
@@ -56,8 +56,9 @@ shifted false by = lowered by
 
 -- ---- the row that a move finds
 
--- where its costs stand, and that the own cost is one
+-- where its costs stand, and that the own cost is one: nothing is refused before the amount
 pub record RowAt (n : ℕ) (sizes : List ℕ) (unit value other : ℕ) (h : Held) (f : Found) : Type 0 where
+  pub none : refusal_by n sizes h (row_there n (dom_in n sizes) unit value other) true ≡ 0
   pub row : Row (dom_in n sizes) n (pred unit) value (pred other)
   pub count : length h.costs ≡ cost_count (dom_in n sizes) n
   pub own : f.own ≡ own_at (dom_in n sizes) (pred unit) value
@@ -65,11 +66,6 @@ pub record RowAt (n : ℕ) (sizes : List ℕ) (unit value other : ℕ) (h : Held
   pub there : f.own < length h.costs
   pub small : get_or h.costs f.own 0 < barred
   pub run : RunOf (with_at (dom_in n sizes) n (pred unit) value (pred other)) (dom_in n sizes (pred other)) f.row
-
--- or the refusal that comes before the amount
-pub record RowFound (n : ℕ) (sizes : List ℕ) (unit value other : ℕ) (h : Held) (f : Found) : Type 0 where
-  pub first : f.refusal ≡ refusal_by n sizes h (row_there n (dom_in n sizes) unit value other) true
-  pub at : f.refusal ≡ 0 → RowAt n sizes unit value other h f
 
 -- ---- places that are the same
 
@@ -108,39 +104,18 @@ module _ {place : ℕ → ℕ} {d : ℕ} {run : Run} (r : RunOf place d run) whe
 
 -- ---- the least cost of a run
 
--- what is taken, from the least as a number
-abbrev pub taken_by : ℕ → ℕ
-taken_by x = cond (ltb x barred) x 0
-
-held-most : (x : ℕ) → AtMost 4294967294 (held_cost x)
-held-most x = go (ltb x barred) refl
-  where
-    go : (t : Bool) → ltb x barred ≡ t → AtMost 4294967294 (held_cost x)
-    go true e = rw e (omega (arith, ltb-true x barred e))
-    go false e = rw e tt
-
-taken_number : (c : Cost) → AtMost 4294967294 c → taken_by (as_number c) ≡ taken c
-taken_number (Of a) h = rw (lt-ltb a barred (omega arith))
-taken_number Forbidden h = refl
-
-pub taken-least : (place : ℕ → ℕ) (d : ℕ) (l : List ℕ) → taken_by (as_number (least_at place d l)) ≡ taken (least_at place d l)
-taken-least place d l = taken_number (least_at place d l) (most-least 4294967294 (λ v. held_cost (get_or l (place v) 0)) d (λ v. held-most (get_or l (place v) 0)))
-
-held_number : (x : ℕ) → x ≤ barred → as_number (held_cost x) ≡ x
-held_number x h = go (ltb x barred) refl
-  where
-    go : (t : Bool) → ltb x barred ≡ t → as_number (held_cost x) ≡ x
-    go true e = rw e
-    go false e = rw e (omega (arith, ltb-false x barred e))
-
 -- one cost more
-pub least-next : (run : Run) (k best : ℕ) (l : List ℕ) → best ≡ as_number (least_at (run_place run) k l) → best ≤ barred → get_or l (run.start + run.step * k) 0 ≤ barred
-    → min best (get_or l (run.start + run.step * k) 0) ≡ as_number (least_at (run_place run) (k + 1) l)
-least-next run k best l e small h =
+pub least-next : (run : Run) (k : ℕ) (l : List ℕ) → lesser (least_at (run_place run) k l) (held_cost (get_or l (run.start + run.step * k) 0)) ≡ least_at (run_place run) (k + 1) l
+least-next run k l =
     let q : suc k - 1 ≡ k = omega arith in
-    let x : ℕ = get_or l (run.start + run.step * k) 0 in
-    let c : Cost = least_at (run_place run) k l in
-    rw (add-one k, q) (sym (lesser_number c (held_cost x) (rw (← e) small) (rw (held_number x h) h) ∙ rw (held_number x h, e)))
+    rw (add-one k, q)
+
+-- ---- a test of the first of some costs
+
+pub all_every : (p : ℕ → Bool) (l : List ℕ) (m : ℕ) → m ≤ length l → list_all p (take m l) ≡ every (λ k. p (get_or l k 0)) m
+all_every p l zero h = refl
+all_every p l (suc m) h =
+    ap (λ (i : ℕ). list_all p (take i l)) (sym (add-one m)) ∙ list_all_more p l m 0 (omega arith) ∙ ap (λ (b : Bool). b && p (get_or l m 0)) (all_every p l m (omega arith))
 
 -- ---- costs changed one by one
 
@@ -160,18 +135,7 @@ shift_turn run by up k l m r h e t =
     let g : raise_fits by (get_or (change_each (shifted up by) (run_place run) k l) (run_place run (suc k)) 0) ≡ true = rw (each_next (shifted up by) (run_place run) l k a) f in
     rw e (subst (λ (i : ℕ). raise_fits by (get_or (change_each (shifted up by) (run_place run) k l) (run.start + run.step * i) 0) ≡ true) z g)
 
-pub raise_room : (by x : ℕ) → x < barred → raise_fits by x ≡ true → x + by < barred
-raise_room by x h e = ltb-true (x + by) barred (subst (λ (t : Bool). cond t (ltb (x + by) barred) true ≡ true) (lt-ltb x barred h) e)
-
 -- ---- tests as the code makes them
-
--- a sum stays below a limit where what is added is below what is left
-pub fits-left : (limit x more : ℕ) → x ≤ limit → ltb more (limit - x) ≡ ltb (x + more) limit
-fits-left limit x more h = go (ltb more (limit - x)) refl
-  where
-    go : (t : Bool) → ltb more (limit - x) ≡ t → ltb more (limit - x) ≡ ltb (x + more) limit
-    go true e = let m = ltb-true more (limit - x) e in e ∙ sym (lt-ltb (x + more) limit (omega arith))
-    go false e = let m = ltb-false more (limit - x) e in e ∙ sym (le-ltb (x + more) limit (omega arith))
 
 pub before_one : (x : ℕ) → x - 1 ≡ pred x
 before_one zero = refl

@@ -1,17 +1,15 @@
 -- A total as a sum of terms, one for each unit and one for each pair: parts of it taken out, so that terms can change together and the sum stays.
 -- By induction on the number of terms. Assumes nothing.
-use Rattle.std.specs.Prelude.{ℕ, zero, suc, ◌<◌, ◌≡◌, refl, Bool, true, false, cond, eqb}
+use Rattle.std.specs.Prelude.{ℕ, zero, suc, ◌<◌, ◌≡◌, refl, Bool, true, false, cond, eqb, Some}
 use Rattle.std.proofs.Common.{sym, ap, ◌∙◌, arith, ne_eqb, eqb-true}
 use Rattle.std.proofs.lemmas.Bool.{eqb-false}
-use Rattle.costs.specs.declared.Cost.{Cost}
-use Rattle.costs.specs.declared.Cost.TheVariants.{Of}
-use Rattle.costs.specs.Cost.{◌⊕◌, sum_to}
+use Rattle.costs.specs.Cost.{Cost, ◌⊕◌, sum_to}
 use Rattle.costs.specs.Cost.Laws.{add_assoc, add_comm, add_zero, add_pairs, sum_to_cong}
 
 -- ---- one term taken out
 
 abbrev without : ℕ → (ℕ → Cost) → ℕ → Cost
-without k f j = cond (eqb j k) (Of 0) (f j)
+without k f j = cond (eqb j k) (Some 0) (f j)
 
 without_other : (k : ℕ) (f : ℕ → Cost) (j : ℕ) → (j ≡ k → ⊥) → without k f j ≡ f j
 without_other k f j h = rw (ne_eqb j k h)

@@ -6,16 +6,14 @@ ghost use Rattle.projections.specs.All.{project_with, project_value, project_uni
 ghost use Rattle.projections.specs.Steps.{outcome_in};
 
 use crate::places::size_of;
-use crate::{Moved, lent_refusal, project, project_unary};
-use base::wide;
+use crate::{Moved, check_lent, project, project_unary};
 
 // All binary projections, for each unit, each of its values and each other unit, then the unary projection of each unit: a lower bound is added to the
 // floor. It ends at the first refusal, and the moves before it stand.
 pub fn project_all(costs: &mut [u32], n: u8, sizes: [u8; 16], floor: u32) -> Moved
     ensures { (result ≡ answer_of (project_all_of n sizes (held_by floor costs.old))) × (costs.new ≡ (project_all_of n sizes (held_by floor costs.old)).held.costs) }
 {
-    let there = true;
-    let refusal = lent_refusal(costs, n, sizes, floor, there);
+    let refusal = base::told(check_lent(costs, n, sizes, floor, true));
     let start = Moved { refusal, floor };
     let moved = project_units(costs, n, sizes, start);
     project_floor(costs, n, sizes, moved)
@@ -25,12 +23,10 @@ pub fn project_all(costs: &mut [u32], n: u8, sizes: [u8; 16], floor: u32) -> Mov
 fn project_units(costs: &mut [u32], n: u8, sizes: [u8; 16], start: Moved) -> Moved
     ensures { (result ≡ answer_of (project_units n sizes (outcome_in start costs.old))) × (costs.new ≡ (project_units n sizes (outcome_in start costs.old)).held.costs) }
 {
-    let count = wide(n);
+    let count = usize::from(n);
     let mut moved = start;
-    let mut i = 0;
-    while i < count {
+    for i in 0..count {
         moved = project_unit(costs, n, sizes, moved, i);
-        i += 1;
     }
     moved
 }
@@ -43,11 +39,9 @@ fn project_unit(costs: &mut [u32], n: u8, sizes: [u8; 16], start: Moved, i: usiz
     let unit = (i + 1) as u8;
     let count = size_of(n, sizes, i);
     let mut moved = start;
-    let mut k = 0;
-    while k < count {
+    for k in 0..count {
         let value = (k + 1) as u8;
         moved = project_value(costs, n, sizes, moved, unit, value);
-        k += 1;
     }
     moved
 }
@@ -63,18 +57,17 @@ fn project_value(
 ) -> Moved
     ensures { (result ≡ answer_of (project_value n sizes unit value (outcome_in start costs.old))) × (costs.new ≡ (project_value n sizes unit value (outcome_in start costs.old)).held.costs) }
 {
-    let count = wide(n);
+    let count = usize::from(n);
     let mut moved = start;
-    let mut k = 0;
-    while k < count {
+    for k in 0..count {
         let other = (k + 1) as u8;
         moved = project_with(costs, n, sizes, moved, unit, value, other);
-        k += 1;
     }
     moved
 }
 
 // A value of a unit with another, which may be the unit itself: then there is nothing to project.
+#[tactic(auto, unfolding(crate::specs::All::project_with))]
 fn project_with(
     costs: &mut [u32],
     n: u8,
@@ -86,10 +79,7 @@ fn project_with(
 ) -> Moved
     ensures { (result ≡ answer_of (project_with n sizes unit value other (outcome_in start costs.old))) × (costs.new ≡ (project_with n sizes unit value other (outcome_in start costs.old)).held.costs) }
 {
-    if unit == other {
-        return start;
-    }
-    if start.refusal != 0 {
+    if unit == other || start.refusal != 0 {
         return start;
     }
     project(costs, n, sizes, start.floor, unit, value, other)
@@ -99,18 +89,17 @@ fn project_with(
 fn project_floor(costs: &mut [u32], n: u8, sizes: [u8; 16], start: Moved) -> Moved
     ensures { (result ≡ answer_of (project_floor n sizes (outcome_in start costs.old))) × (costs.new ≡ (project_floor n sizes (outcome_in start costs.old)).held.costs) }
 {
-    let count = wide(n);
+    let count = usize::from(n);
     let mut moved = start;
-    let mut i = 0;
-    while i < count {
+    for i in 0..count {
         let unit = (i + 1) as u8;
         moved = project_own(costs, n, sizes, moved, unit);
-        i += 1;
     }
     moved
 }
 
 // Of one unit.
+#[tactic(auto, unfolding(crate::specs::All::project_own))]
 fn project_own(costs: &mut [u32], n: u8, sizes: [u8; 16], start: Moved, unit: u8) -> Moved
     ensures { (result ≡ answer_of (project_own n sizes unit (outcome_in start costs.old))) × (costs.new ≡ (project_own n sizes unit (outcome_in start costs.old)).held.costs) }
 {

@@ -11,13 +11,15 @@ use crate::held::hold;
 pub fn lower_bound(stream: &[u8], out: &mut [u32]) -> Moved
     ensures { (result ≡ bound_of stream.now (length out.old)) × (out.new ≡ bound_into stream.now out.old) }
 {
-    let held = hold(stream, out);
-    let refusal = held.refusal;
-    if refusal != 0 {
-        return Moved { refusal, floor: 0 };
+    match hold(stream, out) {
+        Ok(count) => {
+            let n = table::units_of(stream);
+            let sizes = costs::sizes_of(stream);
+            project_all(&mut out[..count], n, sizes, 0)
+        }
+        Err(refusal) => Moved {
+            refusal: refusal.number(),
+            floor: 0,
+        },
     }
-    let n = table::units_of(stream);
-    let sizes = costs::sizes_of(stream);
-    let count = held.length;
-    project_all(&mut out[0..count], n, sizes, 0)
 }

@@ -3,40 +3,32 @@
 ghost use Rattle.std.specs.Prelude.{◌≡◌, cond, ◌+◌, ◌≤◌, eqb, length};
 ghost use Rattle.base.specs.Bytes.{u16_at};
 ghost use Rattle.base.specs.Put.{put_at};
+ghost use Rattle.base.specs.Refusal.{answered};
 ghost use Rattle.table.specs.Stream.{opening, unaries_at, pairs_at};
 ghost use Rattle.costs.specs.Cost.{as_number, pair_cost};
 ghost use Rattle.projections.specs.Made.{numbers, own_number, pair_number, hold_of, hold_into};
 
 use crate::BARRED;
 use crate::places::{row_start, sum_sizes};
-use base::{Length, wide};
+use base::Refusal;
 
 // The costs of a table to the front of `out`: how many, or the refusal and nothing is written.
-pub fn hold(stream: &[u8], out: &mut [u32]) -> Length
-    ensures { (result ≡ hold_of stream.now (length out.old)) × (out.new ≡ hold_into stream.now out.old) }
+pub fn hold(stream: &[u8], out: &mut [u32]) -> Result<usize, Refusal>
+    ensures { (answered result ≡ hold_of stream.now (length out.old)) × (out.new ≡ hold_into stream.now out.old) }
 {
-    let refusal = table::stream_refusal(stream);
-    if refusal != 0 {
-        return Length { refusal, length: 0 };
-    }
+    table::check_stream(stream)?;
     let n = table::units_of(stream);
     let sizes = costs::sizes_of(stream);
-    let own = sum_sizes(n, sizes, 0, wide(n));
-    let pairs = row_start(n, sizes, wide(n));
+    let own = sum_sizes(n, sizes, 0, usize::from(n));
+    let pairs = row_start(n, sizes, usize::from(n));
     if out.len() < own + pairs {
-        return Length {
-            refusal: 13,
-            length: 0,
-        };
+        return Err(Refusal::NoRoom);
     }
     let before = table::opening(stream);
-    let from = before + 1 + wide(n);
+    let from = before + 1 + usize::from(n);
     put_own(stream, before, from, own, out);
     put_pairs(stream, from + 2 * (before * own), pairs, own, out);
-    Length {
-        refusal: 0,
-        length: own + pairs,
-    }
+    Ok(own + pairs)
 }
 
 // The own costs, which begin at byte `from`, to the front; zeros where no byte stands before n.
@@ -44,10 +36,8 @@ fn put_own(stream: &[u8], before: usize, from: usize, count: usize, out: &mut [u
     requires { (before ≡ opening stream.now) × (from ≡ unaries_at stream.now) × (from ≤ 257) × (count ≤ 65536) × (count ≤ length out.old) }
     ensures { out.new ≡ put_at out.old 0 (numbers (own_number stream.now) count) }
 {
-    let mut k = 0;
-    while k < count {
+    for k in 0..count {
         out[k] = own_number(stream, before, from + 2 * k);
-        k += 1;
     }
 }
 
@@ -56,10 +46,8 @@ fn put_pairs(stream: &[u8], from: usize, count: usize, at: usize, out: &mut [u32
     requires { (from ≡ pairs_at stream.now) × (from ≤ 262144) × (count ≤ 33554432) × (at + count ≤ length out.old) }
     ensures { out.new ≡ put_at out.old at (numbers (pair_number stream.now) count) }
 {
-    let mut k = 0;
-    while k < count {
+    for k in 0..count {
         out[at + k] = held_number(base::u16_at(stream, from + 2 * k));
-        k += 1;
     }
 }
 
@@ -68,9 +56,10 @@ fn own_number(stream: &[u8], before: usize, k: usize) -> u32
     ensures { result ≡ cond (eqb before 0) 0 (u16_at stream.now k) }
 {
     if before == 0 {
-        return 0;
+        0
+    } else {
+        base::u16_at(stream, k)
     }
-    base::u16_at(stream, k)
 }
 
 // A pair cost of 16 bits in 32.
@@ -78,7 +67,8 @@ fn held_number(number: u32) -> u32
     ensures { result ≡ as_number (pair_cost number) }
 {
     if number == base::FORBIDDEN_PAIR {
-        return BARRED;
+        BARRED
+    } else {
+        number
     }
-    number
 }

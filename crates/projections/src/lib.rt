@@ -8,15 +8,16 @@ mod held; // the costs of a table
 mod places; // where costs stand
 mod runs; // the costs of a unit's values, alone or with a value of another unit
 
-ghost use Rattle.std.specs.Prelude.{◌≡◌, true};
+ghost use Rattle.std.specs.Prelude.{◌≡◌, true, IfOk, IfErr};
+ghost use Rattle.base.specs.Refusal.{number_of, told};
 ghost use Rattle.costs.specs.Instance.{dom_in};
-ghost use Rattle.projections.specs.Moves.{held_by, row_there, refusal_by, answer_of, project_of, unary_project_of, extend_of};
-ghost use Rattle.projections.specs.Steps.{taken_by, RowFound};
+ghost use Rattle.projections.specs.Moves.{held_by, row_there, refusal_by, answer_of, moved_by, project_of, unary_project_of, extend_of};
+ghost use Rattle.projections.specs.Steps.{RowAt};
 
 use crate::places::{cost_count, own_place, own_run, row_run, size_of, sum_sizes};
 use crate::runs::{all_free, least_cost, raise_fits, shift};
 pub use all::project_all;
-use base::{is_value, wide};
+use base::{Refusal, is_value};
 pub use bound::lower_bound;
 pub use held::hold;
 
@@ -26,24 +27,23 @@ pub const BARRED: u32 = 4294967295;
 // The most costs that there are: 16 values of each of 16 units, and 256 of each of their 120 pairs.
 pub const COSTS_ROOM: usize = 30976;
 
-// What a move gives: the refusal, or 0, and the floor as the move leaves it.
+// What a move gives: the refusal, or 0, and the floor as the move leaves it. C is handed it as it is.
 #[repr(C)]
-#[derive(Clone, Copy)]
+#[derive(Clone, Copy, Debug, PartialEq, Eq)]
 pub struct Moved {
     pub refusal: u8,
     pub floor: u32,
 }
 
-// What a move of a value's row finds first: the refusal, or 0, the place of the value's own cost, and its costs with the other unit.
-#[derive(Clone, Copy)]
+// What a move of a value's row finds first: the place of the value's own cost, and its costs with the other unit.
+#[derive(Clone, Copy, Debug, PartialEq, Eq)]
 struct Found {
-    refusal: u8,
     own: usize,
     row: Run,
 }
 
 // The costs of `count` values: the first stands at `start`, each next one `step` further.
-#[derive(Clone, Copy)]
+#[derive(Clone, Copy, Debug, PartialEq, Eq)]
 struct Run {
     start: usize,
     step: usize,
@@ -62,45 +62,17 @@ pub fn project(
 ) -> Moved
     ensures { (result ≡ answer_of (project_of n sizes unit value other (held_by floor costs.old))) × (costs.new ≡ (project_of n sizes unit value other (held_by floor costs.old)).held.costs) }
 {
-    let found = find_row(costs, n, sizes, floor, unit, value, other);
-    let refusal = found.refusal;
-    if refusal != 0 {
-        return Moved { refusal, floor };
-    }
-    let own = found.own;
-    let row = found.row;
-    let least = taken(least_cost(costs, row));
-    let cost = costs[own];
-    if BARRED - cost <= least {
-        return Moved { refusal: 19, floor };
-    }
-    let up = false;
-    shift(costs, row, least, up);
-    costs[own] = cost + least;
-    Moved { refusal: 0, floor }
+    told_move(
+        floor,
+        project_row(costs, n, sizes, floor, unit, value, other),
+    )
 }
 
 // Unary projection: the least own cost of a unit is taken off all its values and added to the floor.
 pub fn project_unary(costs: &mut [u32], n: u8, sizes: [u8; 16], floor: u32, unit: u8) -> Moved
     ensures { (result ≡ answer_of (unary_project_of n sizes unit (held_by floor costs.old))) × (costs.new ≡ (unary_project_of n sizes unit (held_by floor costs.old)).held.costs) }
 {
-    let there = is_value(wide(n), wide(unit));
-    let refusal = lent_refusal(costs, n, sizes, floor, there);
-    if refusal != 0 {
-        return Moved { refusal, floor };
-    }
-    let all = own_run(n, sizes, unit);
-    let least = taken(least_cost(costs, all));
-    if BARRED - floor <= least {
-        return Moved { refusal: 19, floor };
-    }
-    let up = false;
-    shift(costs, all, least, up);
-    let risen = floor + least;
-    Moved {
-        refusal: 0,
-        floor: risen,
-    }
+    told_move(floor, project_run(costs, n, sizes, floor, unit))
 }
 
 // Extension: a part of the own cost of a unit's value is moved into all its costs with another unit.
@@ -116,29 +88,101 @@ pub fn extend(
 ) -> Moved
     ensures { (result ≡ answer_of (extend_of n sizes unit value other part (held_by floor costs.old))) × (costs.new ≡ (extend_of n sizes unit value other part (held_by floor costs.old)).held.costs) }
 {
-    let found = find_row(costs, n, sizes, floor, unit, value, other);
-    let refusal = found.refusal;
-    if refusal != 0 {
-        return Moved { refusal, floor };
+    told_move(
+        floor,
+        extend_row(costs, n, sizes, floor, unit, value, other, part),
+    )
+}
+
+// ---- the moves: each gives the floor as it leaves it
+
+// What C is told: refused, the floor as it was lent.
+fn told_move(floor: u32, left: Result<u32, Refusal>) -> Moved
+    ensures { result ≡ moved_by floor left }
+{
+    match left {
+        Ok(floor) => Moved { refusal: 0, floor },
+        Err(refusal) => Moved {
+            refusal: refusal.number(),
+            floor,
+        },
     }
+}
+
+fn project_row(
+    costs: &mut [u32],
+    n: u8,
+    sizes: [u8; 16],
+    floor: u32,
+    unit: u8,
+    value: u8,
+    other: u8,
+) -> Result<u32, Refusal>
+    ensures { (moved_by floor result ≡ answer_of (project_of n sizes unit value other (held_by floor costs.old))) × (costs.new ≡ (project_of n sizes unit value other (held_by floor costs.old)).held.costs) }
+{
+    let found = find_row(costs, n, sizes, floor, unit, value, other)?;
+    let own = found.own;
+    let row = found.row;
+    let least = least_cost(costs, row).unwrap_or(0);
+    let cost = costs[own];
+    if BARRED - cost <= least {
+        return Err(Refusal::TooLarge);
+    }
+    shift(costs, row, least, false);
+    costs[own] = cost + least;
+    Ok(floor)
+}
+
+fn project_run(
+    costs: &mut [u32],
+    n: u8,
+    sizes: [u8; 16],
+    floor: u32,
+    unit: u8,
+) -> Result<u32, Refusal>
+    ensures { (moved_by floor result ≡ answer_of (unary_project_of n sizes unit (held_by floor costs.old))) × (costs.new ≡ (unary_project_of n sizes unit (held_by floor costs.old)).held.costs) }
+{
+    let there = is_value(usize::from(n), usize::from(unit));
+    check_lent(costs, n, sizes, floor, there)?;
+    let all = own_run(n, sizes, unit);
+    let least = least_cost(costs, all).unwrap_or(0);
+    if BARRED - floor <= least {
+        return Err(Refusal::TooLarge);
+    }
+    shift(costs, all, least, false);
+    Ok(floor + least)
+}
+
+fn extend_row(
+    costs: &mut [u32],
+    n: u8,
+    sizes: [u8; 16],
+    floor: u32,
+    unit: u8,
+    value: u8,
+    other: u8,
+    part: u32,
+) -> Result<u32, Refusal>
+    ensures { (moved_by floor result ≡ answer_of (extend_of n sizes unit value other part (held_by floor costs.old))) × (costs.new ≡ (extend_of n sizes unit value other part (held_by floor costs.old)).held.costs) }
+{
+    let found = find_row(costs, n, sizes, floor, unit, value, other)?;
     let own = found.own;
     let row = found.row;
     let cost = costs[own];
     if cost < part {
-        return Moved { refusal: 19, floor };
+        return Err(Refusal::TooLarge);
     }
     if !raise_fits(costs, row, part) {
-        return Moved { refusal: 19, floor };
+        return Err(Refusal::TooLarge);
     }
-    let up = true;
-    shift(costs, row, part, up);
+    shift(costs, row, part, true);
     costs[own] = cost - part;
-    Moved { refusal: 0, floor }
+    Ok(floor)
 }
 
 // ---- what is asked of the costs lent, whatever the move
 
-// The row of a unit's value with another unit, and the first of 5, 6, 10 and 19 that applies, but for the amount that would be moved.
+// The row of a unit's value with another unit, or the first of 5, 6, 10 and 19 that applies, but for the amount that would be moved.
 fn find_row(
     costs: &[u32],
     n: u8,
@@ -147,76 +191,46 @@ fn find_row(
     unit: u8,
     value: u8,
     other: u8,
-) -> Found
-    ensures { RowFound n sizes unit value other (held_by floor costs.now) result }
+) -> Result<Found, Refusal>
+    ensures ok { IfOk result (λ found. RowAt n sizes unit value other (held_by floor costs.now) found) }
+    ensures err { IfErr result (λ refusal. number_of refusal ≡ refusal_by n sizes (held_by floor costs.now) (row_there n (dom_in n sizes) unit value other) true) }
 {
     let there = row_there(n, sizes, unit, value, other);
-    let refusal = lent_refusal(costs, n, sizes, floor, there);
-    if refusal != 0 {
-        let row = Run {
-            start: 0,
-            step: 0,
-            count: 0,
-        };
-        return Found {
-            refusal,
-            own: 0,
-            row,
-        };
-    }
+    check_lent(costs, n, sizes, floor, there)?;
     let own = own_place(n, sizes, unit, value);
     let row = row_run(n, sizes, unit, value, other);
-    Found {
-        refusal: 0,
-        own,
-        row,
-    }
+    Ok(Found { own, row })
 }
 
-// The first of 5, 6, 10 and 19 that applies, but for the amount that would be moved; `there` is whether the units and the value are.
-fn lent_refusal(costs: &[u32], n: u8, sizes: [u8; 16], floor: u32, there: bool) -> u8
-    ensures { result ≡ refusal_by n sizes (held_by floor costs.now) there true }
+// Whether none of 5, 6, 10 and 19 applies, but for the amount that would be moved; `there` is whether the units and the value are.
+fn check_lent(costs: &[u32], n: u8, sizes: [u8; 16], floor: u32, there: bool) -> Result<(), Refusal>
+    ensures { told result ≡ refusal_by n sizes (held_by floor costs.now) there true }
 {
     if !base::shape_good(n, sizes) {
-        return 5;
+        return Err(Refusal::OutOfRange);
     }
     if costs.len() != cost_count(n, sizes) {
-        return 6;
+        return Err(Refusal::BadLength);
     }
     if !there {
-        return 10;
+        return Err(Refusal::BadUnit);
     }
     if BARRED <= floor {
-        return 19;
+        return Err(Refusal::TooLarge);
     }
-    if !all_free(costs, sum_sizes(n, sizes, 0, wide(n))) {
-        return 19;
+    if !all_free(&costs[..sum_sizes(n, sizes, 0, usize::from(n))]) {
+        return Err(Refusal::TooLarge);
     }
-    0
+    Ok(())
 }
 
 // Whether the unit, its value and the other unit are there, and two units.
 fn row_there(n: u8, sizes: [u8; 16], unit: u8, value: u8, other: u8) -> bool
     ensures { result ≡ row_there n (dom_in n sizes) unit value other }
 {
-    if !is_value(wide(n), wide(unit)) {
-        return false;
-    }
-    if !is_value(size_of(n, sizes, wide(unit) - 1), wide(value)) {
-        return false;
-    }
-    if !is_value(wide(n), wide(other)) {
-        return false;
-    }
-    unit != other
-}
-
-// What is taken off costs of which this is the least: nothing where all are barred.
-fn taken(least: u32) -> u32
-    ensures { result ≡ taken_by least }
-{
-    if BARRED <= least {
-        return 0;
-    }
-    least
+    let units = usize::from(n);
+    is_value(units, usize::from(unit))
+        && is_value(size_of(n, sizes, usize::from(unit) - 1), usize::from(value))
+        && is_value(units, usize::from(other))
+        && unit != other
 }

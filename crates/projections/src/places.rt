@@ -9,14 +9,13 @@ ghost use Rattle.projections.specs.Moves.Changed.{Row};
 ghost use Rattle.projections.specs.Steps.{RunOf};
 
 use crate::Run;
-use base::wide;
 
 // The own cost of a unit's value.
 pub(crate) fn own_place(n: u8, sizes: [u8; 16], unit: u8, value: u8) -> usize
     requires { (1 ≤ unit) × (unit ≤ 16) × (1 ≤ value) }
     ensures { (result ≡ own_at (dom_in n sizes) (pred unit) value) × (result ≤ 4335) }
 {
-    sum_sizes(n, sizes, 0, wide(unit) - 1) + (wide(value) - 1)
+    sum_sizes(n, sizes, 0, usize::from(unit) - 1) + (usize::from(value) - 1)
 }
 
 // The own costs of all values of a unit.
@@ -24,7 +23,7 @@ pub(crate) fn own_run(n: u8, sizes: [u8; 16], unit: u8) -> Run
     requires { (1 ≤ unit) × (unit ≤ 16) }
     ensures { RunOf (own_at (dom_in n sizes) (pred unit)) (dom_in n sizes (pred unit)) result }
 {
-    let place = wide(unit) - 1;
+    let place = usize::from(unit) - 1;
     Run {
         start: sum_sizes(n, sizes, 0, place),
         step: 1,
@@ -37,22 +36,23 @@ pub(crate) fn row_run(n: u8, sizes: [u8; 16], unit: u8, value: u8, other: u8) ->
     requires { (n ≤ 16) × (1 ≤ unit) × (1 ≤ other) × Row (dom_in n sizes) n (pred unit) value (pred other) }
     ensures { RunOf (with_at (dom_in n sizes) n (pred unit) value (pred other)) (dom_in n sizes (pred other)) result }
 {
-    let i = wide(unit) - 1;
-    let j = wide(other) - 1;
-    let u = wide(value) - 1;
-    let own = sum_sizes(n, sizes, 0, wide(n));
+    let i = usize::from(unit) - 1;
+    let j = usize::from(other) - 1;
+    let u = usize::from(value) - 1;
+    let own = sum_sizes(n, sizes, 0, usize::from(n));
     let count = size_of(n, sizes, j);
     if i < j {
-        return Run {
+        Run {
             start: own + (pair_start(n, sizes, i, j) + u * count),
             step: 1,
             count,
-        };
-    }
-    Run {
-        start: own + (pair_start(n, sizes, j, i) + u),
-        step: size_of(n, sizes, i),
-        count,
+        }
+    } else {
+        Run {
+            start: own + (pair_start(n, sizes, j, i) + u),
+            step: size_of(n, sizes, i),
+            count,
+        }
     }
 }
 
@@ -61,7 +61,7 @@ pub(crate) fn cost_count(n: u8, sizes: [u8; 16]) -> usize
     requires { n ≤ 16 }
     ensures { result ≡ cost_count (dom_in n sizes) n }
 {
-    sum_sizes(n, sizes, 0, wide(n)) + row_start(n, sizes, wide(n))
+    sum_sizes(n, sizes, 0, usize::from(n)) + row_start(n, sizes, usize::from(n))
 }
 
 // How many pair costs stand before those of the units i and j.
@@ -77,12 +77,10 @@ pub(crate) fn row_start(n: u8, sizes: [u8; 16], i: usize) -> usize
     requires { (n ≤ 16) × (i ≤ n) }
     ensures { (result ≡ row_start (dom_in n sizes) n i) × (result ≤ 1040400 * i) }
 {
-    let count = wide(n);
+    let count = usize::from(n);
     let mut start = 0;
-    let mut a = 0;
-    while a < i {
+    for a in 0..i {
         start += size_of(n, sizes, a) * sum_sizes(n, sizes, a + 1, count - (a + 1));
-        a += 1;
     }
     start
 }
@@ -93,10 +91,8 @@ pub(crate) fn sum_sizes(n: u8, sizes: [u8; 16], lo: usize, m: usize) -> usize
     ensures { (result ≡ sum_from (dom_in n sizes) lo m) × (result ≤ 255 * m) }
 {
     let mut sum = 0;
-    let mut i = 0;
-    while i < m {
+    for i in 0..m {
         sum += size_of(n, sizes, lo + i);
-        i += 1;
     }
     sum
 }
@@ -105,11 +101,8 @@ pub(crate) fn sum_sizes(n: u8, sizes: [u8; 16], lo: usize, m: usize) -> usize
 pub(crate) fn size_of(n: u8, sizes: [u8; 16], b: usize) -> usize
     ensures { (result ≡ dom_in n sizes b) × (result ≤ 255) }
 {
-    if 16 <= b {
+    if usize::from(n) <= b {
         return 0;
     }
-    if wide(n) <= b {
-        return 0;
-    }
-    wide(sizes[b])
+    usize::from(sizes.get(b).copied().unwrap_or(0))
 }

@@ -1,24 +1,24 @@
 // The costs of a unit's values, alone or with a value of another unit: the least of them, and all of them lowered or raised.
 
-ghost use Rattle.std.specs.Prelude.{◌≡◌, true, suc, ◌≤◌, min, ltb, length, get_or};
+ghost use Rattle.std.specs.Prelude.{◌≡◌, true, suc, ltb, get_or};
+ghost use Rattle.std.specs.List.{list_all};
 ghost use Rattle.base.specs.Every.{every};
-ghost use Rattle.costs.specs.Cost.{as_number};
-ghost use Rattle.projections.specs.Held.{barred};
+ghost use Rattle.costs.specs.Cost.{lesser};
+ghost use Rattle.projections.specs.Held.{barred, held_cost};
 ghost use Rattle.projections.specs.Moves.{least_at, lowered, raised, raise_fits, change_each};
 ghost use Rattle.projections.specs.Steps.{run_place, Inside, Raisable, shifted};
 
 use crate::{BARRED, Run};
+use costs::Cost;
 
-// The least cost of the run that is permitted; BARRED where none is.
-pub(crate) fn least_cost(costs: &[u32], run: Run) -> u32
+// The least cost of the run that is permitted, where one is.
+pub(crate) fn least_cost(costs: &[u32], run: Run) -> Cost
     requires { Inside run costs.now }
-    ensures { result ≡ as_number (least_at (run_place run) run.count costs.now) }
+    ensures { result ≡ least_at (run_place run) run.count costs.now }
 {
-    let mut best = BARRED;
-    let mut k = 0;
-    while k < run.count {
-        best = lesser(best, costs[run.start + run.step * k]);
-        k += 1;
+    let mut best = None;
+    for k in 0..run.count {
+        best = lesser(best, held_cost(costs[run.start + run.step * k]));
     }
     best
 }
@@ -28,11 +28,9 @@ pub(crate) fn shift(costs: &mut [u32], run: Run, by: u32, up: bool)
     requires { Inside run costs.old × (up ≡ true → Raisable run by costs.old) }
     ensures { costs.new ≡ change_each (shifted up by) (run_place run) run.count costs.old }
 {
-    let mut k = 0;
-    while k < run.count {
+    for k in 0..run.count {
         let at = run.start + run.step * k;
         costs[at] = shifted(costs[at], by, up);
-        k += 1;
     }
 }
 
@@ -41,29 +39,19 @@ pub(crate) fn raise_fits(costs: &[u32], run: Run, by: u32) -> bool
     requires { Inside run costs.now }
     ensures { result ≡ every (λ k. raise_fits by (get_or costs.now (run_place run (suc k)) 0)) run.count }
 {
-    let mut k = 0;
-    while k < run.count {
+    for k in 0..run.count {
         if !cost_fits(costs[run.start + run.step * k], by) {
             return false;
         }
-        k += 1;
     }
     true
 }
 
-// Whether none of the first m costs is barred.
-pub(crate) fn all_free(costs: &[u32], m: usize) -> bool
-    requires { m ≤ length costs.now }
-    ensures { result ≡ every (λ k. ltb (get_or costs.now k 0) barred) m }
+// Whether none of the costs is barred.
+pub(crate) fn all_free(costs: &[u32]) -> bool
+    ensures { result ≡ list_all (λ x. ltb x barred) costs.now }
 {
-    let mut k = 0;
-    while k < m {
-        if BARRED <= costs[k] {
-            return false;
-        }
-        k += 1;
-    }
-    true
+    costs.iter().all(|cost| *cost < BARRED)
 }
 
 // ---- one cost
@@ -73,9 +61,10 @@ fn shifted(cost: u32, by: u32, up: bool) -> u32
     ensures { result ≡ shifted up by cost }
 {
     if up {
-        return raised(cost, by);
+        raised(cost, by)
+    } else {
+        lowered(cost, by)
     }
-    lowered(cost, by)
 }
 
 fn lowered(cost: u32, by: u32) -> u32
@@ -84,10 +73,7 @@ fn lowered(cost: u32, by: u32) -> u32
     if cost == BARRED {
         return cost;
     }
-    if cost < by {
-        return 0;
-    }
-    cost - by
+    cost.saturating_sub(by)
 }
 
 fn raised(cost: u32, by: u32) -> u32
@@ -103,17 +89,22 @@ fn raised(cost: u32, by: u32) -> u32
 fn cost_fits(cost: u32, by: u32) -> bool
     ensures { result ≡ raise_fits by cost }
 {
-    if BARRED <= cost {
-        return true;
-    }
-    by < BARRED - cost
+    BARRED <= cost || by < BARRED - cost
 }
 
-fn lesser(a: u32, b: u32) -> u32
-    ensures { (result ≡ min a b) × (b ≤ barred) }
+fn held_cost(number: u32) -> Cost
+    ensures { result ≡ held_cost number }
 {
-    if a <= b {
-        return a;
+    if number < BARRED { Some(number) } else { None }
+}
+
+// The lesser of two, where both are permitted.
+fn lesser(a: Cost, b: Cost) -> Cost
+    ensures { result ≡ lesser a b }
+{
+    match (a, b) {
+        (Some(m), Some(n)) => Some(m.min(n)),
+        (Some(m), None) => Some(m),
+        (None, cost) => cost,
     }
-    b
 }

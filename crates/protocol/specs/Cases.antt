@@ -1,12 +1,11 @@
 -- Runs of the machine, computed: what it does on small tables, the worst order among them. Each of 01's shortcuts that one of these runs is about
 -- makes it come out otherwise.
 -- Assumes nothing.
-use Rattle.std.specs.Prelude.{ℕ, ◌+◌, ◌*◌, ◌-◌, ◌≡◌, refl, Bool, true, false, cond, ◌&&◌, ◌||◌, List, [], ◌∷◌, map, eqb, length, get_or, replicate}
+use Rattle.std.specs.Prelude.{ℕ, ◌+◌, ◌*◌, ◌-◌, ◌≡◌, refl, Bool, true, false, cond, ◌&&◌, ◌||◌, List, [], ◌∷◌, map, eqb, length, get_or, replicate, Some, None}
 use Rattle.base.specs.Limits.{pool_cells, NONE}
 use Rattle.base.specs.Members.{here, there}
 use Rattle.costs.specs.declared.ValueOrder.{ValueOrder}
 use Rattle.costs.specs.declared.ValueOrder.TheVariants.{Ascending, CheapestFirst}
-use Rattle.costs.specs.declared.Cost.TheVariants.{Of, Forbidden}
 use Rattle.costs.specs.Instance.{Instance, view_by}
 use Rattle.costs.specs.Bounds.{h}
 use Rattle.costs.specs.Order.{earlier, place_tried, value_at}
@@ -29,11 +28,11 @@ after I cells = seen Ascending I cells
 
 -- 01: "Table T: n = 2, sizes 2 and 2, costs 5, 3, 2, 4"
 abbrev pub T : Instance
-T = record { n = 2; dom = λ k. 2; unary = λ k v. 0; cost = λ i u j v. Of (get_or (5 ∷ 3 ∷ 2 ∷ 4 ∷ []) ((u - 1) * 2 + (v - 1)) 0) }
+T = record { n = 2; dom = λ k. 2; unary = λ k v. 0; cost = λ i u j v. Some (get_or (5 ∷ 3 ∷ 2 ∷ 4 ∷ []) ((u - 1) * 2 + (v - 1)) 0) }
 
 -- three units of two values each: the costs of the pairs (1,2), (1,3), (2,3)
 abbrev three : Instance
-three = record { n = 3; dom = λ k. 2; unary = λ k v. 0; cost = λ i u j v. Of (get_or (1 ∷ 5 ∷ 3 ∷ 4 ∷ 0 ∷ 2 ∷ 0 ∷ 4 ∷ 0 ∷ 3 ∷ 3 ∷ 2 ∷ []) ((i + j - 1) * 4 + (u - 1) * 2 + (v - 1)) 0) }
+three = record { n = 3; dom = λ k. 2; unary = λ k v. 0; cost = λ i u j v. Some (get_or (1 ∷ 5 ∷ 3 ∷ 4 ∷ 0 ∷ 2 ∷ 0 ∷ 4 ∷ 0 ∷ 3 ∷ 3 ∷ 2 ∷ []) ((i + j - 1) * 4 + (u - 1) * 2 + (v - 1)) 0) }
 
 -- 01's listing: cell 0 each time
 pub oldest_first_lem : after T (0 ∷ 0 ∷ 0 ∷ 0 ∷ 0 ∷ 0 ∷ 0 ∷ 0 ∷ []) ≡ (true, 2, 1 ∷ 2 ∷ [], 5, 8)
@@ -64,7 +63,7 @@ late_estimate = refl
 
 -- units of 2 and 3 values; all but unit 1's first with unit 2's first have the least total, 1: the best is the first of them, after 3 deliveries of the 10
 abbrev tie : Instance
-tie = record { n = 2; dom = λ k. k + 2; unary = λ k v. 0; cost = λ i u j v. Of (cond (eqb u 1 && eqb v 1) 2 1) }
+tie = record { n = 2; dom = λ k. k + 2; unary = λ k v. 0; cost = λ i u j v. Some (cond (eqb u 1 && eqb v 1) 2 1) }
 
 pub first_of_a_tie : after tie (replicate 10 0) ≡ (true, 1, 2 ∷ 1 ∷ [], 3, 3)
 unfolding place_tried value_at
@@ -74,7 +73,7 @@ first_of_a_tie = refl
 
 -- T, with unit 1's value 2 forbidden beside unit 2's value 1: value 1 with 2 is the least
 abbrev barred : Instance
-barred = record { n = 2; dom = λ k. 2; unary = λ k v. 0; cost = λ i u j v. cond (eqb u 2 && eqb v 1) Forbidden (T.cost i u j v) }
+barred = record { n = 2; dom = λ k. 2; unary = λ k v. 0; cost = λ i u j v. cond (eqb u 2 && eqb v 1) None (T.cost i u j v) }
 
 pub around_a_forbidden_pair : after barred (0 ∷ 0 ∷ 0 ∷ []) ≡ (true, 3, 2 ∷ 1 ∷ [], 3, 3)
 unfolding place_tried value_at
@@ -82,7 +81,7 @@ around_a_forbidden_pair = refl
 
 -- every pair is forbidden: no value of unit 1 has an h, so it stops when made, with none to report and no record
 abbrev none : Instance
-none = record { n = 2; dom = λ k. 2; unary = λ k v. 0; cost = λ i u j v. Forbidden }
+none = record { n = 2; dom = λ k. 2; unary = λ k v. 0; cost = λ i u j v. None }
 
 pub stops_when_made : after none [] ≡ (true, NONE, [], 0, 0)
 unfolding place_tried value_at
@@ -91,7 +90,7 @@ stops_when_made = refl
 -- each value of unit 1 goes with some value of units 2 and 3, but none of these go together: unit 2's estimate is NONE, at which unit 1 gives up its
 -- value, first 1, then 2
 abbrev apart : Instance
-apart = record { n = 3; dom = λ k. 2; unary = λ k v. 0; cost = λ i u j v. cond (eqb i 1) Forbidden (Of 1) }
+apart = record { n = 3; dom = λ k. 2; unary = λ k v. 0; cost = λ i u j v. cond (eqb i 1) None (Some 1) }
 
 pub none_left : after apart (1 ∷ 2 ∷ 3 ∷ 4 ∷ []) ≡ (true, NONE, [], 2, 4)
 unfolding place_tried value_at
@@ -116,7 +115,7 @@ cheapest_on_T = refl
 
 -- a unit of five values whose h are 3, forbidden, 2, 3 and forbidden: it tries 3, 1, 4, 2, 5
 abbrev five : Instance
-five = record { n = 2; dom = λ k. cond (eqb k 0) 5 1; unary = λ k v. 0; cost = λ i u j v. cond (eqb u 2 || eqb u 5) Forbidden (Of (cond (eqb u 3) 2 3)) }
+five = record { n = 2; dom = λ k. cond (eqb k 0) 5 1; unary = λ k v. 0; cost = λ i u j v. cond (eqb u 2 || eqb u 5) None (Some (cond (eqb u 3) 2 3)) }
 
 pub order_of_five : map (value_at (view_by CheapestFirst five 0)) (0 ∷ 1 ∷ 2 ∷ 3 ∷ 4 ∷ 5 ∷ 6 ∷ []) ≡ 0 ∷ 3 ∷ 1 ∷ 4 ∷ 2 ∷ 5 ∷ 0 ∷ []
 unfolding h earlier place_tried value_at
@@ -146,7 +145,7 @@ heard_again = refl
 
 -- two units of one value each: more deliveries than a run without echoes may have
 abbrev two : Instance
-two = record { n = 2; dom = λ k. 1; unary = λ k v. 0; cost = λ i u j v. Of 7 }
+two = record { n = 2; dom = λ k. 1; unary = λ k v. 0; cost = λ i u j v. Some 7 }
 
 pub echoes-past-limit
     : shown Ascending two (hear_all (problem_by Ascending two) pool_cells (start (problem_by Ascending two)) (cell 0 ∷ echo cpa ∷ echo cpa ∷ echo cpa ∷ echo cpa ∷ cell 1 ∷ [])).network
@@ -164,7 +163,7 @@ four =
       dom = λ k. get_or (2 ∷ 2 ∷ 2 ∷ 1 ∷ []) k 0;
       unary = λ k v. 0;
       cost = λ i u j v.
-          Of (get_or (2 ∷ 2 ∷ 1 ∷ 0 ∷ 0 ∷ 0 ∷ 1 ∷ 0 ∷ 0 ∷ 0 ∷ 1 ∷ 0 ∷ 0 ∷ 0 ∷ 0 ∷ 0 ∷ 0 ∷ 0 ∷ 1 ∷ 0 ∷ 0 ∷ 0 ∷ 0 ∷ 0 ∷ 0 ∷ 0 ∷ 1 ∷ 0 ∷ []) ((2 * i + j - 1) * 4 + (u - 1) * 2 + (v - 1)) 0);
+          Some (get_or (2 ∷ 2 ∷ 1 ∷ 0 ∷ 0 ∷ 0 ∷ 1 ∷ 0 ∷ 0 ∷ 0 ∷ 1 ∷ 0 ∷ 0 ∷ 0 ∷ 0 ∷ 0 ∷ 0 ∷ 0 ∷ 1 ∷ 0 ∷ 0 ∷ 0 ∷ 0 ∷ 0 ∷ 0 ∷ 0 ∷ 1 ∷ 0 ∷ []) ((2 * i + j - 1) * 4 + (u - 1) * 2 + (v - 1)) 0);
     }
 
 -- 24 deliveries to its network in so many cells: whether unit 1 has stopped, how many were accepted, and how many are with one of the five that then wait

@@ -1,9 +1,9 @@
 -- The table of lines of wool whose mean fibre diameters were read. Document 02, job 1, "Costs from the readings". Assumes nothing.
-use Rattle.std.specs.Prelude.{ℕ, suc, ◌*◌, ◌/◌, Bool, cond, not, ◌&&◌, List, [], ◌∷◌, ltb, leb, eqb, length, get_or}
+use Rattle.std.specs.Prelude.{ℕ, suc, ◌*◌, ◌/◌, Bool, cond, not, ◌&&◌, List, [], ◌∷◌, ltb, leb, eqb, length, get_or, Some}
 use Rattle.base.specs.{declared.Length.Length, Bytes.u16_at, Every.every, Limits.pair_limit, Limits.stream_size, Shape.shape_good}
 use Rattle.std.specs.Prelude.{ℤ, pos, negsuc, ◌-ℤ◌}
 use Rattle.table.specs.File.{answer, leaves}
-use Rattle.costs.specs.{declared.Cost.TheVariants.Of, Instance.Instance, Instance.dom_in, Streamed.stream_for}
+use Rattle.costs.specs.{Instance.Instance, Instance.dom_in, Streamed.stream_for}
 
 -- ---- readings
 
@@ -42,7 +42,7 @@ in_lots cost u v = cond (eqb u v) cost 0
 
 -- n lines with their numbers of lots; the cost of lot u of line i with lot v of a later line j, never forbidden
 unfoldable pub lines_of : ℕ → List ℕ → List ℕ → Instance
-lines_of n sizes readings = record { n = n; dom = dom_in n sizes; unary = λ k v. 0; cost = λ i u j v. Of (in_lots (gap_cost (gap (reading_at readings i) (reading_at readings j))) u v) }
+lines_of n sizes readings = record { n = n; dom = dom_in n sizes; unary = λ k v. 0; cost = λ i u j v. Some (in_lots (gap_cost (gap (reading_at readings i) (reading_at readings j))) u v) }
 
 -- 02: "Readings other than one a line are 6. A reading out of range is 17, found after 5 and 6 and before any cost is made; 13 comes last."
 unfoldable pub readings_refusal : ℕ → List ℕ → List ℕ → ℕ → ℕ

@@ -1,6 +1,6 @@
 -- The table made of readings: its instance is sound, so its stream is accepted; the stream's parts, as the code writes them; and what a call leaves.
 -- Assumes nothing.
-use Rattle.std.specs.Prelude.{ℕ, zero, suc, ◌+◌, ◌*◌, ◌≤◌, ◌<◌, ◌≡◌, refl, Bool, true, cond, not, ltb, drop}
+use Rattle.std.specs.Prelude.{ℕ, zero, suc, ◌+◌, ◌*◌, ◌≤◌, ◌<◌, ◌≡◌, refl, Bool, true, cond, not, ltb, drop, Some}
 use Rattle.std.proofs.Common.{sym, ◌∙◌, zero-add, arith, length-append, take-suc}
 use Rattle.std.proofs.Math.Path.{ap}
 use Rattle.std.proofs.Math.Bool.{false}
@@ -18,7 +18,6 @@ use Rattle.base.specs.Shape.{is_value, shape_good}
 use Rattle.base.specs.Shape.Laws.{shape_n, shape_size}
 use Rattle.table.specs.Stream.{Accepted}
 use Rattle.table.specs.StreamLaws.{accepted-most}
-use Rattle.costs.specs.declared.Cost.TheVariants.{Of}
 use Rattle.costs.specs.Instance.{dom_in, instance_of}
 use Rattle.costs.specs.Laws.{Sound}
 use Rattle.costs.specs.Lent.Steps.{dom_at, dom_past_count}
@@ -70,7 +69,7 @@ module _ (n : ℕ) (sizes readings : List ℕ) (good : shape_good n sizes ≡ tr
 
   -- and its costs are those of the gaps
   pub lines_cost : (i u j v : ℕ) → i < j → j < n → is_value (dom_in n sizes i) u ≡ true → is_value (dom_in n sizes j) v ≡ true
-      → (instance_of (stream_for (lines_of n sizes readings))).cost i u j v ≡ Of (in_lots (gap_cost (gap (reading_at readings i) (reading_at readings j))) u v)
+      → (instance_of (stream_for (lines_of n sizes readings))).cost i u j v ≡ Some (in_lots (gap_cost (gap (reading_at readings i) (reading_at readings j))) u v)
   unfolding lines_of
   lines_cost = stream-cost (lines_of n sizes readings) lines_sound no_more
 

@@ -8,13 +8,14 @@ ghost use Rattle.base.specs.Bytes.{le16};
 ghost use Rattle.base.specs.Every.{every};
 ghost use Rattle.base.specs.Limits.{places};
 ghost use Rattle.base.specs.Put.{put_at};
+ghost use Rattle.base.specs.Refusal.{told, answered};
 ghost use Rattle.base.specs.Join.{join_to};
 ghost use Rattle.costs.specs.Streamed.{later_costs};
 ghost use Rattle.readings.specs.Readings.{reading_good, reading_at, in_lots, lines_of, readings_refusal, table_of, table_into};
 ghost use Rattle.readings.specs.Pieces.{row_of, pair_of, lines_pair};
 
 use crate::gap::pair_cost;
-use base::{Length, STREAM_SIZE, wide};
+use base::{Refusal, STREAM_SIZE};
 
 // The least and the most of a reading, in tenths of a micron.
 pub const READING_LEAST: u32 = 100;
@@ -22,36 +23,38 @@ pub const READING_LEAST: u32 = 100;
 pub const READING_MOST: u32 = 400;
 
 // The stream of the table of n lines of wool into the lent buffer, from a reading for each, two bytes; a refusal leaves the buffer as it was.
-pub fn write_stream(n: u8, sizes: [u8; 16], readings: &[u8], stream: &mut [u8]) -> Length
-    ensures { (result ≡ table_of n sizes readings.now (length stream.old)) × (stream.new ≡ table_into n sizes readings.now stream.old) }
+pub fn write_stream(
+    n: u8,
+    sizes: [u8; 16],
+    readings: &[u8],
+    stream: &mut [u8],
+) -> Result<usize, Refusal>
+    ensures { (answered result ≡ table_of n sizes readings.now (length stream.old)) × (stream.new ≡ table_into n sizes readings.now stream.old) }
 {
-    let refusal = refusal_of(n, sizes, readings, stream.len());
-    if refusal != 0 {
-        return Length { refusal, length: 0 };
-    }
+    check(n, sizes, readings, stream.len())?;
     put_shape(n, sizes, stream);
     let length = put_costs(n, sizes, readings, stream);
-    Length { refusal: 0, length }
+    Ok(length)
 }
 
-// The first of 5, 6, 17, 13 that applies, or 0.
-fn refusal_of(n: u8, sizes: [u8; 16], readings: &[u8], room: usize) -> u8
-    ensures { result ≡ readings_refusal n sizes readings.now room }
+// The first of 5, 6, 17, 13 that applies.
+fn check(n: u8, sizes: [u8; 16], readings: &[u8], room: usize) -> Result<(), Refusal>
+    ensures { told result ≡ readings_refusal n sizes readings.now room }
 {
     if !base::shape_good(n, sizes) {
-        return 5;
+        return Err(Refusal::OutOfRange);
     }
-    let count = wide(n);
+    let count = usize::from(n);
     if readings.len() != 2 * count {
-        return 6;
+        return Err(Refusal::BadLength);
     }
     if !readings_good(readings, count) {
-        return 17;
+        return Err(Refusal::BadReading);
     }
     if room < STREAM_SIZE {
-        return 13;
+        return Err(Refusal::NoRoom);
     }
-    0
+    Ok(())
 }
 
 // Whether the first `count` readings are in range.
@@ -59,12 +62,10 @@ fn readings_good(readings: &[u8], count: usize) -> bool
     requires { count < 256 }
     ensures { result ≡ every (λ k. reading_good (reading_at readings.now k)) count }
 {
-    let mut k = 0;
-    while k < count {
+    for k in 0..count {
         if !reading_good(base::u16_at(readings, 2 * k)) {
             return false;
         }
-        k += 1;
     }
     true
 }
@@ -72,10 +73,7 @@ fn readings_good(readings: &[u8], count: usize) -> bool
 fn reading_good(reading: u32) -> bool
     ensures { result ≡ reading_good reading }
 {
-    if reading < READING_LEAST {
-        return false;
-    }
-    reading <= READING_MOST
+    READING_LEAST <= reading && reading <= READING_MOST
 }
 
 // ---- the stream, piece by piece
@@ -86,8 +84,8 @@ fn put_shape(n: u8, sizes: [u8; 16], stream: &mut [u8])
     ensures { stream.new ≡ put_at stream.old 0 (n ∷ take n sizes) }
 {
     stream[0] = n;
-    let count = wide(n);
-    base::put(stream, 1, &sizes[0..count]);
+    let count = usize::from(n);
+    base::put(stream, 1, &sizes[..count]);
 }
 
 // The costs of all pairs, behind n and the sizes; gives the place after them.
@@ -95,12 +93,10 @@ fn put_costs(n: u8, sizes: [u8; 16], readings: &[u8], stream: &mut [u8]) -> usiz
     requires { (n ≤ places) × (1 + n + length (join_to (later_costs (lines_of n sizes readings.now)) n) ≤ length stream.old) }
     ensures { (result ≡ 1 + n + length (join_to (later_costs (lines_of n sizes readings.now)) n)) × (stream.new ≡ put_at stream.old (1 + n) (join_to (later_costs (lines_of n sizes readings.now)) n)) }
 {
-    let count = wide(n);
+    let count = usize::from(n);
     let mut at = 1 + count;
-    let mut i = 0;
-    while i < count {
+    for i in 0..count {
         at = put_later(n, sizes, readings, i, stream, at);
-        i += 1;
     }
     at
 }
@@ -117,12 +113,10 @@ fn put_later(
     requires { (n ≤ places) × (i < n) × (at + length (later_costs (lines_of n sizes readings.now) i) ≤ length stream.old) }
     ensures { (result ≡ at + length (later_costs (lines_of n sizes readings.now) i)) × (stream.new ≡ put_at stream.old at (later_costs (lines_of n sizes readings.now) i)) }
 {
-    let count = wide(n);
+    let count = usize::from(n);
     let mut end = at;
-    let mut j = i + 1;
-    while j < count {
+    for j in i + 1..count {
         end = put_lines(sizes, readings, i, j, stream, end);
-        j += 1;
     }
     end
 }
@@ -143,8 +137,8 @@ fn put_lines(
     let later = base::u16_at(readings, 2 * j);
     put_pair(
         pair_cost(earlier, later),
-        wide(sizes[i]),
-        wide(sizes[j]),
+        usize::from(sizes[i]),
+        usize::from(sizes[j]),
         stream,
         at,
     )
@@ -155,10 +149,8 @@ fn put_pair(cost: u32, d: usize, e: usize, stream: &mut [u8], at: usize) -> usiz
     requires { (cost < 65536) × (d < 256) × (e < 256) × (at + length (pair_of cost d e) ≤ length stream.old) }
     ensures { (result ≡ at + length (pair_of cost d e)) × (stream.new ≡ put_at stream.old at (pair_of cost d e)) }
 {
-    let mut u = 0;
-    while u < d {
+    for u in 0..d {
         put_row(cost, u, e, stream, at + 2 * e * u);
-        u += 1;
     }
     at + 2 * e * d
 }
@@ -168,10 +160,8 @@ fn put_row(cost: u32, u: usize, e: usize, stream: &mut [u8], at: usize)
     requires { (cost < 65536) × (e < 256) × (at + length (row_of cost e u) ≤ length stream.old) }
     ensures { stream.new ≡ put_at stream.old at (row_of cost e u) }
 {
-    let mut v = 0;
-    while v < e {
+    for v in 0..e {
         put_cost(in_lots(cost, u, v), stream, at + 2 * v);
-        v += 1;
     }
 }
 
@@ -179,10 +169,7 @@ fn put_row(cost: u32, u: usize, e: usize, stream: &mut [u8], at: usize)
 fn in_lots(cost: u32, u: usize, v: usize) -> u32
     ensures { result ≡ in_lots cost u v }
 {
-    if u == v {
-        return cost;
-    }
-    0
+    if u == v { cost } else { 0 }
 }
 
 fn put_cost(cost: u32, stream: &mut [u8], at: usize)

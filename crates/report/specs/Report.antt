@@ -3,14 +3,10 @@
 use Rattle.std.specs.Prelude.{ℕ, List, replicate}
 use Rattle.base.specs.{Limits.pool_size, Limits.stream_size, Refusal.or_else}
 use Rattle.table.specs.File.{stream_of, read_refusal}
-use Rattle.table.specs.Stream.{stream_refusal}
 use Rattle.costs.specs.declared.ValueOrder.{ValueOrder}
-use Rattle.search.specs.Search.{search_refusal}
 use Rattle.runs.specs.Settle.{settle_of}
 use Rattle.slots.specs.Slot.{slot_pool_size}
 use Rattle.slots.specs.Settle as S
-use Rattle.report.specs.declared.Printed.{Printed}
-use Rattle.report.specs.declared.Printed.TheVariants.{Search, BranchAndBound, Settled, Slots}
 pub mod Laws
 
 -- done is the number that a stream gives
@@ -24,10 +20,3 @@ settle_refusal order s = (settle_of order s (replicate pool_size 0)).answer.refu
 -- the same over 02's pool
 unfoldable pub slots_refusal : ValueOrder → List ℕ → ℕ
 slots_refusal order s = (S.settle_of order s (replicate slot_pool_size 0)).answer.refusal
-
--- the number of what is printed
-abbrev pub refusal_by : Printed → List ℕ → ℕ
-refusal_by Search s = search_refusal s
-refusal_by BranchAndBound s = stream_refusal s
-refusal_by (Settled order) s = settle_refusal order s
-refusal_by (Slots order) s = slots_refusal order s

@@ -10,9 +10,9 @@ use Rattle.base.specs.Limits.{stream_size}
 use Rattle.table.specs.File.{stream_of, read_refusal, read_of}
 use Rattle.table.specs.FileLaws.{read_most}
 
-pub read_fits : (f out : List ℕ) (r : Length) → r ≡ read_of f (length out) → r.refusal ≡ 0 → r.length ≤ stream_size
+pub read_fits : (f : List ℕ) (room count : ℕ) → ◌≡◌ {A = Length} (record { refusal = 0; length = count }) (read_of f room) → count ≤ stream_size
 unfolding read_of
-read_fits f out r e h =
-    let none : read_refusal f (length out) ≡ 0 = sym (ap (λ (x : Length). x.refusal) e) ∙ h in
-    let same : r.length ≡ length (stream_of f) = ap (λ (x : Length). x.length) e ∙ rw (eq-eqb (read_refusal f (length out)) 0 none) in
-    omega (arith, same, read_most f (length out) none)
+read_fits f room count e =
+    let none : read_refusal f room ≡ 0 = sym (ap (λ (x : Length). x.refusal) e) in
+    let same : count ≡ length (stream_of f) = ap (λ (x : Length). x.length) e ∙ rw (eq-eqb (read_refusal f room) 0 none) in
+    omega (arith, same, read_most f room none)

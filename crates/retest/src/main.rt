@@ -4,130 +4,124 @@
 // new one, each by branch and bound; or `refused` and the number. What is no retest, and a cost that the table hasn't, are told on standard error.
 #![tactic(auto)]
 
-ghost use Rattle.std.specs.Prelude.{◌+◌, ◌≤◌, ◌<◌, ◌≡◌, length};
+ghost use Rattle.std.specs.Prelude.{◌+◌, ◌≤◌, ◌<◌, IfSome};
 
-use base::{FILE_ROOM, FILE_SIZE};
+use base::{FILE_ROOM, FILE_SIZE, STREAM_SIZE};
 use std::env::Env;
+use std::fmt;
 use std::fs::File;
 use std::os::fd::AsRawFd;
 use std::rt::Files;
 use table::Form;
 
 const STDIN_FILENO: i32 = 0;
-
-const STDOUT_FILENO: i32 = 1;
-
-const STDERR_FILENO: i32 = 2;
-
-// What has no digit more to come, and what stands for no number: one has nine digits at most.
+// What has no digit more to come: a number has nine digits at most.
 const FULL: u32 = 99999999;
 
-const NO_NUMBER: u32 = 4294967295;
+// A retest as its words say it. Units and values count from 1, and `new` is what the cost becomes.
+#[derive(Clone, Copy, Debug, PartialEq, Eq)]
+enum Asked {
+    Own {
+        unit: u32,
+        value: u32,
+        new: u32,
+    },
+    Pair {
+        unit: u32,
+        value: u32,
+        other: u32,
+        other_value: u32,
+        new: u32,
+    },
+}
 
-// A retest as its words say it, all counted from 1: how many words it took, 0 where they are not understood; a pair or not; the numbers.
-#[derive(Clone, Copy)]
-struct Asked {
-    words: usize,
-    pair: bool,
-    numbers: [u32; 5],
+// A least total as it is printed. 02, job 3: "The listing then has the word none".
+#[derive(Clone, Copy, Debug, PartialEq, Eq)]
+struct Total(u32);
+
+impl fmt::Display for Total {
+    fn fmt<W: fmt::Write>(&self, f: &mut fmt::Formatter<W>) -> fmt::Result {
+        if self.0 == base::NONE {
+            write!(f, "none")
+        } else {
+            write!(f, "{}", self.0)
+        }
+    }
 }
 
 fn main(rt: HostRuntime) {
     let count = inputs::arg_count(&rt);
     if count < 2 {
-        usage();
+        tell_usage(&rt);
         return;
     }
     let mut i = 1;
+    // each retest takes as many words as it says: no range counts them
     while i < count {
-        let used = retest(&rt, i, count - i);
-        if used == 0 {
-            usage();
+        let Some(used) = retest(&rt, i, count - i) else {
+            tell_usage(&rt);
             return;
-        }
+        };
         i += used;
     }
 }
 
-// The retest that the arguments from i on say, `left` of them: how many it took, 0 where they say none.
-fn retest(rt: &(impl Files<File = File> + Env + Eprint), i: usize, left: usize) -> usize
+// The retest that the arguments from i on say, `left` of them: how many it took, where they say one.
+fn retest(
+    rt: &(impl Files<File = File> + Env + Print + Eprint),
+    i: usize,
+    left: usize,
+) -> Option<usize>
     requires { i + left < 18446744073709551616 }
-    ensures { result ≤ left }
-{
-    let skipped = named(rt, i);
-    if left <= skipped {
-        return 0;
-    }
-    let asked = parse(rt, i + skipped, left - skipped);
-    let words = asked.words;
-    if words == 0 {
-        return 0;
-    }
-    if skipped == 0 {
-        show_file(STDIN_FILENO, asked);
-        return words;
-    }
-    show_named(rt, i + 1, asked);
-    skipped + words
-}
-
-// How many words stand before a retest that name its table.
-fn named(rt: &impl Env, i: usize) -> usize
-    ensures { result ≤ 2 }
+    ensures { IfSome result (λ used. (1 ≤ used) × (used ≤ left)) }
 {
     if is_word(rt, i, b"table") {
-        return 2;
-    }
-    0
-}
-
-fn parse(rt: &impl Env, i: usize, left: usize) -> Asked
-    requires { i + left < 18446744073709551616 }
-    ensures { result.words ≤ left }
-{
-    if is_word(rt, i, b"own") {
-        return numbers(rt, i, left, false, 3);
-    }
-    if is_word(rt, i, b"pair") {
-        return numbers(rt, i, left, true, 5);
-    }
-    not_understood()
-}
-
-// The m numbers behind the word at i.
-fn numbers(rt: &impl Env, i: usize, left: usize, pair: bool, m: usize) -> Asked
-    requires { (i + left < 18446744073709551616) × (m ≤ 5) }
-    ensures { result.words ≤ left }
-{
-    if left <= m {
-        return not_understood();
-    }
-    let mut numbers = [0u32; 5];
-    let mut k = 0;
-    while k < m {
-        let x = number(rt, i + 1 + k);
-        if x == NO_NUMBER {
-            return not_understood();
+        if left < 2 {
+            return None;
         }
-        numbers[k] = x;
-        k += 1;
+        let (asked, words) = parse(rt, i + 2, left - 2)?;
+        show_named(rt, i + 1, asked);
+        return Some(2 + words);
     }
-    Asked {
-        words: m + 1,
-        pair,
-        numbers,
-    }
+    let (asked, words) = parse(rt, i, left)?;
+    show_file(rt, STDIN_FILENO, asked);
+    Some(words)
 }
 
-fn not_understood() -> Asked
-    ensures { result.words ≡ 0 }
+// The retest that the words from i on say, without a table's name, and how many words it took.
+fn parse(rt: &impl Env, i: usize, left: usize) -> Option<(Asked, usize)>
+    requires { i + left < 18446744073709551616 }
+    ensures { IfSome result (λ asked. (1 ≤ asked.1) × (asked.1 ≤ left)) }
 {
-    let none = [0u32; 5];
-    Asked {
-        words: 0,
-        pair: false,
-        numbers: none,
+    if 3 < left && is_word(rt, i, b"own") {
+        return Some((parse_own(rt, i + 1)?, 4));
     }
+    if 5 < left && is_word(rt, i, b"pair") {
+        return Some((parse_pair(rt, i + 1)?, 6));
+    }
+    None
+}
+
+fn parse_own(rt: &impl Env, i: usize) -> Option<Asked>
+    requires { i + 3 < 18446744073709551616 }
+{
+    Some(Asked::Own {
+        unit: number(rt, i)?,
+        value: number(rt, i + 1)?,
+        new: number(rt, i + 2)?,
+    })
+}
+
+fn parse_pair(rt: &impl Env, i: usize) -> Option<Asked>
+    requires { i + 5 < 18446744073709551616 }
+{
+    Some(Asked::Pair {
+        unit: number(rt, i)?,
+        value: number(rt, i + 1)?,
+        other: number(rt, i + 2)?,
+        other_value: number(rt, i + 3)?,
+        new: number(rt, i + 4)?,
+    })
 }
 
 // Whether argument i is that word; a longer one is cut, and so is none that is known.
@@ -140,157 +134,121 @@ fn is_word(rt: &impl Env, i: usize, word: &[u8]) -> bool {
 }
 
 // Argument i as a decimal number.
-fn number(rt: &impl Env, i: usize) -> u32 {
+fn number(rt: &impl Env, i: usize) -> Option<u32> {
     let mut text = [0u8; 10];
     let n = inputs::arg(rt, i, &mut text);
     if n == 0 {
-        return NO_NUMBER;
+        return None;
     }
     decimal(&text[..n])
 }
 
 // The number that the digits say.
-fn decimal(text: &[u8]) -> u32 {
+fn decimal(text: &[u8]) -> Option<u32> {
     let mut sum = 0;
-    let mut k = 0;
-    while k < text.len() {
-        sum = with_digit(sum, text[k]);
-        k += 1;
+    for digit in text {
+        sum = with_digit(sum, *digit)?;
     }
-    sum
+    Some(sum)
 }
 
-// A number with one digit more; no number where it is no digit, or one too many.
-fn with_digit(sum: u32, digit: u8) -> u32 {
-    if FULL < sum {
-        return NO_NUMBER;
+// A number with one digit more, where it is a digit and there is room for it.
+fn with_digit(sum: u32, digit: u8) -> Option<u32> {
+    if FULL < sum || digit < b'0' || b'9' < digit {
+        return None;
     }
-    if digit < 48 {
-        return NO_NUMBER;
-    }
-    if 57 < digit {
-        return NO_NUMBER;
-    }
-    10 * sum + base::wide_u32(digit - 48)
+    Some(10 * sum + u32::from(digit - b'0'))
 }
 
 // Of the table in the file that argument i names.
-fn show_named(rt: &(impl Files<File = File> + Env + Eprint), i: usize, asked: Asked) {
+fn show_named(rt: &(impl Files<File = File> + Env + Print + Eprint), i: usize, asked: Asked) {
     let mut name = io::buffer();
     let n = inputs::arg(rt, i, &mut name);
     let Some(input) = inputs::open_named(rt, &name[..n]) else {
         return;
     };
-    show_file(input.as_raw_fd(), asked);
+    show_file(rt, input.as_raw_fd(), asked);
 }
 
 // Form two has a number for each unary cost, so the table is taken in that form.
-fn show_file(fd: i32, asked: Asked) {
+fn show_file(rt: &(impl Print + Eprint), fd: i32, asked: Asked) {
     let mut file = [0u8; FILE_ROOM];
     let n = io::read_full(fd, &mut file);
     let mut two = [0u8; FILE_SIZE];
-    let done = table::convert(&file[..n], Form::Two, &mut two);
-    let refusal = done.refusal;
-    if refusal != 0 {
-        refuse(refusal);
-        return;
+    match table::convert(&file[..n], Form::Two, &mut two) {
+        Ok(length) => show_table(rt, &two[..length], asked),
+        Err(refusal) => {
+            let _ = rt.println(refusal);
+        }
     }
-    let length = done.length;
-    show_table(&two[..length], asked);
 }
 
-fn show_table(file: &[u8], asked: Asked) {
-    let mut stream = [0u8; base::STREAM_SIZE];
-    let r = table::read(file, &mut stream);
-    let refusal = r.refusal;
-    if refusal != 0 {
-        refuse(refusal);
-        return;
+fn show_table(rt: &(impl Print + Eprint), file: &[u8], asked: Asked) {
+    let mut stream = [0u8; STREAM_SIZE];
+    match table::read(file, &mut stream) {
+        Ok(length) => show_stream(rt, &mut stream[..length], asked),
+        Err(refusal) => {
+            let _ = rt.println(refusal);
+        }
     }
-    let length = r.length;
-    show_stream(&mut stream[0..length], asked);
 }
 
-fn show_stream(stream: &mut [u8], asked: Asked) {
-    let at = place(stream, asked);
-    if at == 0 {
-        io::write_all(STDERR_FILENO, b"retest: the table has no such cost\n");
+fn show_stream(rt: &(impl Print + Eprint), stream: &mut [u8], asked: Asked) {
+    let Some(at) = place(stream, asked) else {
+        let _ = rt.eprintln("retest: the table has no such cost");
         return;
-    }
+    };
     let new = new_number(asked);
-    let found = search::branch_and_bound(stream);
-    let ends = sensitivity::ends(found.total, base::u16_at(stream, at), new);
+    let total = search::branch_and_bound(stream).total;
+    let ends = sensitivity::ends(total, base::u16_at(stream, at), new);
     if ends.refusal != 0 {
-        refuse(ends.refusal);
+        let _ = println!(rt; "refused {}", ends.refusal);
         return;
     }
-    let bytes = [(new % 256) as u8, (new / 256 % 256) as u8];
-    base::put(stream, at, &bytes);
-    let again = search::branch_and_bound(stream);
-    print_line(b"total ", found.total);
-    print_line(b"lower end ", ends.lower);
-    print_line(b"upper end ", ends.upper);
-    print_line(b"new total ", again.total);
+    base::put(stream, at, &[(new % 256) as u8, (new / 256 % 256) as u8]);
+    let again = search::branch_and_bound(stream).total;
+    let _ = println!(rt; "total {}", Total(total));
+    let _ = println!(rt; "lower end {}", Total(ends.lower));
+    let _ = println!(rt; "upper end {}", Total(ends.upper));
+    let _ = println!(rt; "new total {}", Total(again));
 }
 
-// The byte at which the number stands, 0 where there is none.
-fn place(stream: &[u8], asked: Asked) -> usize {
-    let numbers = asked.numbers;
-    let unit = numbers[0] as usize;
-    let value = numbers[1] as usize;
-    if unit == 0 {
-        return 0;
+// The byte at which the number of the cost stands; of a pair, in whichever order its units come.
+fn place(stream: &[u8], asked: Asked) -> Option<usize> {
+    match asked {
+        Asked::Own { unit, value, .. } => {
+            let i = (unit as usize).checked_sub(1)?;
+            sensitivity::unary_at(stream, i, value as usize)
+        }
+        Asked::Pair {
+            unit,
+            value,
+            other,
+            other_value,
+            ..
+        } => {
+            let i = (unit as usize).checked_sub(1)?;
+            let j = (other as usize).checked_sub(1)?;
+            let u = value as usize;
+            let v = other_value as usize;
+            if i < j {
+                sensitivity::pair_at(stream, i, u, j, v)
+            } else {
+                sensitivity::pair_at(stream, j, v, i, u)
+            }
+        }
     }
-    if !asked.pair {
-        return sensitivity::unary_at(stream, unit - 1, value);
-    }
-    pair_place(stream, unit, value, numbers[2], numbers[3])
 }
 
-// The same of a pair, in whichever order its units come.
-fn pair_place(stream: &[u8], unit: usize, value: usize, second: u32, second_value: u32) -> usize
-    requires { 1 ≤ unit }
-{
-    if second == 0 {
-        return 0;
-    }
-    let other = second as usize;
-    let other_value = second_value as usize;
-    if unit < other {
-        return sensitivity::pair_at(stream, unit - 1, value, other - 1, other_value);
-    }
-    sensitivity::pair_at(stream, other - 1, other_value, unit - 1, value)
-}
-
-// What the cost becomes: the last number.
+// What the cost becomes.
 fn new_number(asked: Asked) -> u32 {
-    let numbers = asked.numbers;
-    if asked.pair {
-        return numbers[4];
+    match asked {
+        Asked::Own { new, .. } | Asked::Pair { new, .. } => new,
     }
-    numbers[2]
 }
 
-// 02, job 3: "The listing then has the word none".
-fn print_line(word: &[u8], total: u32) {
-    io::write_all(STDOUT_FILENO, word);
-    if total == base::NONE {
-        io::write_all(STDOUT_FILENO, b"none");
-    } else {
-        io::print_decimal(STDOUT_FILENO, total as u64);
-    }
-    io::write_all(STDOUT_FILENO, b"\n");
-}
-
-fn refuse(number: u8) {
-    io::write_all(STDOUT_FILENO, b"refused ");
-    io::print_decimal(STDOUT_FILENO, number as u64);
-    io::write_all(STDOUT_FILENO, b"\n");
-}
-
-fn usage() {
-    io::write_all(
-        STDERR_FILENO,
-        b"retest: say own UNIT VALUE NEW, or pair UNIT VALUE UNIT VALUE NEW; before it, unless the table is standard input, table FILE\n",
+fn tell_usage(rt: &impl Eprint) {
+    let _ = rt.eprintln(
+        "retest: say own UNIT VALUE NEW, or pair UNIT VALUE UNIT VALUE NEW; before it, unless the table is standard input, table FILE",
     );
 }

@@ -1,8 +1,9 @@
 -- Lines of wool: those that a sheet holds, and their text. Assumes nothing.
-use Rattle.std.specs.Prelude.{ℕ, ◌+◌, ◌*◌, ◌/◌, ◌%◌, Bool, false, cond, ◌&&◌, ◌||◌, List, [], ◌∷◌, ◌++◌, ltb, leb, eqb, length, get_or, take, drop}
-use Rattle.base.specs.{Bytes.u16_at, Put.put_at}
+use Rattle.std.specs.Prelude.{ℕ, ◌+◌, ◌-◌, ◌*◌, ◌/◌, ◌%◌, Bool, false, cond, ◌&&◌, ◌||◌, List, [], ◌∷◌, ◌++◌, ltb, eqb, length, take, drop, slice_get, Option, Some, None, is_none}
+use Rattle.base.specs.{Put.put_at}
+use Rattle.rows.specs.declared.Entry.{Entry}
 use Rattle.rows.specs.declared.Sheet.{Sheet}
-use Rattle.rows.specs.Row.{sort_of, digit}
+use Rattle.rows.specs.Row.{sort_of, is_solid}
 use Rattle.rows.specs.Sheet.{sheet_of, names_of}
 pub mod Laws
 
@@ -14,35 +15,42 @@ pub record Line : Type 0 where
 
 -- ---- lines of a sheet
 
--- names one behind the other, of these lengths; readings of two bytes each
-unfoldable pub cut : List ℕ → List ℕ → List ℕ → List ℕ → List Line
-cut [] readings sizes names = []
-cut (n ∷ lengths) readings sizes names =
-    record { name = take n names; reading = u16_at readings 0; lots = get_or sizes 0 0 } ∷ cut lengths (drop 2 readings) (drop 1 sizes) (drop n names)
+-- names one behind the other, of these entries
+unfoldable pub cut : List Entry → List ℕ → List Line
+cut [] names = []
+cut (e ∷ entries) names = record { name = take e.length names; reading = e.reading; lots = e.lots } ∷ cut entries (drop e.length names)
 
 unfoldable pub lines_in : Sheet → List ℕ → List Line
-lines_in s names = cut (take s.count s.lengths) (take (2 * s.count) s.readings) (take s.count s.sizes) names
+lines_in s names = cut (take s.count s.entries) names
 
 -- what a text is read as, its names in this buffer
 unfoldable pub lines_of : List ℕ → List ℕ → List Line
 lines_of text names = lines_in (sheet_of (length names) text) (names_of text names)
 
 abbrev pub accepted : List ℕ → List ℕ → Bool
-accepted text names = eqb (sheet_of (length names) text).fault 0
+accepted text names = is_none (sheet_of (length names) text).fault
 
 -- ---- text of lines
 
 -- bytes that a name without quotes can have: none of a line feed, a comma, a quote, and of blanks only the space, not at either end
 abbrev pub ordinary : ℕ → Bool
-ordinary b = eqb b 32 || leb digit (sort_of b)
+ordinary b = eqb b 32 || is_solid (sort_of b)
+
+-- a name that is there has a byte at either end, and each can stand there
+abbrev pub can_end : Option ℕ → Bool
+can_end None = false
+can_end (Some b) = is_solid (sort_of b)
+
+abbrev pub solid_ends : List ℕ → Bool
+solid_ends l = can_end (slice_get l 0) && can_end (slice_get l (length l - 1))
 
 unfoldable pub bare_from : ℕ → List ℕ → Bool
-bare_from b [] = leb digit (sort_of b)
+bare_from b [] = is_solid (sort_of b)
 bare_from b (c ∷ l) = ordinary b && bare_from c l
 
 unfoldable pub is_bare : List ℕ → Bool
 is_bare [] = false
-is_bare (b ∷ l) = leb digit (sort_of b) && bare_from b l
+is_bare (b ∷ l) = is_solid (sort_of b) && bare_from b l
 
 -- a quote in quotes is written twice
 abbrev pub twice : ℕ → List ℕ
@@ -90,9 +98,10 @@ printed lines rest = titles ++ text_of lines ++ 44 ∷ 108 ∷ 111 ∷ 116 ∷ r
 abbrev pub line_room : List ℕ → ℕ
 line_room name = 2 * length name + 11
 
--- the text of this name, or of its line, at the front of a buffer: its length, and what the buffer becomes; 0, and as it was, where there is less room
-unfoldable pub written_length : List ℕ → ℕ → List ℕ → ℕ
-written_length name room text = cond (ltb room (line_room name)) 0 (length text)
+-- the text of this name, or of its line, at the front of a buffer: its length, and what the buffer becomes; none, and as it was, where there is less
+-- room
+unfoldable pub written_length : List ℕ → ℕ → List ℕ → Option ℕ
+written_length name room text = cond (ltb room (line_room name)) None (Some (length text))
 
 unfoldable pub written_into : List ℕ → List ℕ → List ℕ → List ℕ
 written_into name out text = cond (ltb (length out) (line_room name)) out (put_at out 0 text)

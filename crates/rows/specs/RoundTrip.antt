@@ -3,13 +3,14 @@
 --     round_trip    the theorem
 --     lines_back    the text of any 1 to 16 good lines is accepted, and read as these
 --     printed_back  and so is what `desk` prints of them, with titles before and a listing behind
-use Rattle.std.specs.Prelude.{ℕ, ◌≤◌, ◌<◌, ◌≡◌, refl, true, false, List, [], ◌∷◌, ◌++◌, ltb, eqb, length}
+use Rattle.std.specs.Prelude.{ℕ, ◌≤◌, ◌<◌, ◌≡◌, refl, true, false, List, [], ◌∷◌, ◌++◌, ltb, length, Option, is_none}
 use Rattle.std.proofs.Common.{ap, subst, ◌∙◌, append-nil, arith, le-ltb, length-append}
 use Rattle.std.proofs.lemmas.List.Edits.{sets}
 use Rattle.std.proofs.Math.Seq.{length-sets}
 use Rattle.base.specs.Members.{Every}
+use Rattle.rows.specs.declared.Fault.{Fault}
 use Rattle.rows.specs.declared.Sheet.{Sheet}
-use Rattle.rows.specs.Row.{sort_of, next, fault_by, fed, fed_by}
+use Rattle.rows.specs.Row.{sort_of, next, fed, fed_by}
 use Rattle.rows.specs.Sheet.{blank_sheet, passed, ended, eaten, kept, sheet_after, names_after, closed_by, sheet_of, names_of}
 use Rattle.rows.specs.Lines.{Line, lines_in, lines_of, accepted, cut, is_bare, bare_from, name_text, text_of, titles, printed}
 use Rattle.rows.specs.RoundTrip.Held.{Good, Laid}
@@ -35,7 +36,7 @@ read_back text rest names lines fits x z =
     let whole : sheet_of room all ≡ z.end = rw short (ap (λ (s : Sheet). closed_by (eaten room s (10 ∷ []))) (x.leads.sheet rest) ∙ z.sheet) in
     let kept : names_of all names ≡ x.more = rw short (x.leads.names rest ∙ z.names) in
     let held : lines_in (sheet_of room all) (names_of all names) ≡ lines_in z.end x.more = rw (whole, kept) in
-    (ap (λ (s : Sheet). eqb s.fault 0) whole ∙ ap (λ (k : ℕ). eqb k 0) z.sound, held ∙ z.held ∙ x.ready.held)
+    (ap (λ (s : Sheet). is_none s.fault) whole ∙ ap (λ (f : Option Fault). is_none f) z.sound, held ∙ z.held ∙ x.ready.held)
 
 -- the text of 1 to 16 good lines is accepted, and read as these
 pub lines_back : (lines : List Line) (names : List ℕ) → Every Good lines → 0 < length lines → length lines ≤ 16 → length (text_of lines) ≤ length names
@@ -59,7 +60,7 @@ round_trip text names again e room = let g = accepted_good text names e in lines
 -- the row of titles is passed over: its name is kept, and then written over
 titles-lead : (room : ℕ) (names : List ℕ) → length names ≡ room → 4 ≤ room
     → Leads room blank_sheet names titles (passed blank_sheet false 0) (sets names 0 (110 ∷ 97 ∷ 109 ∷ 101 ∷ []))
-unfolding name_text is_bare bare_from sort_of sheet_after names_after eaten kept fed fed_by fault_by next ended
+unfolding name_text is_bare bare_from sort_of sheet_after names_after eaten kept fed fed_by next ended
 titles-lead room names long fits =
     let name : List ℕ = 110 ∷ 97 ∷ 109 ∷ 101 ∷ [] in
     let rest : List ℕ = 109 ∷ 105 ∷ 99 ∷ 114 ∷ 111 ∷ 110 ∷ 44 ∷ 108 ∷ 111 ∷ 116 ∷ 10 ∷ [] in
@@ -69,7 +70,7 @@ titles-lead room names long fits =
 titles_ready : (names more : List ℕ) → length more ≡ length names → Ready (length names) 0 (passed blank_sheet false 0) more []
 unfolding lines_in cut
 titles_ready names more e =
-    let laid : Laid (passed blank_sheet false 0) = record { lengths = refl; readings = refl; sizes = refl; few = omega arith; behind = refl } in
+    let laid : Laid (passed blank_sheet false 0) = record { room = refl; few = omega arith; behind = refl } in
     record { laid = laid; row = refl; free = refl; sound = refl; long = e; held = refl }
 
 -- good lines as `desk` prints them are read as these, whatever it prints behind `,lot`

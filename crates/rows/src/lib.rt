@@ -9,13 +9,65 @@ mod text;
 pub use reading::parse;
 pub use text::{write_line, write_name};
 
-// A row as far as it was read: its phase, what is wrong with it (0: nothing), whether there was a digit behind the name, whether it is still
-// empty; where in the names its own begins, how far bytes were kept there, and how far without blanks at the end; the micron before and
-// behind its point; the number of lots.
-#[derive(Clone, Copy)]
+// Where a row stands.
+#[derive(Clone, Copy, Debug, PartialEq, Eq)]
+pub enum Phase {
+    // Before its first byte; at blanks before the name.
+    Start,
+    Lead,
+    // In a name without quotes; behind the quote that opens a name; in a name in quotes; behind a quote there, which is the first of two or
+    // closes the name; behind a name in quotes.
+    Bare,
+    Opened,
+    Quoted,
+    Inner,
+    Closed,
+    // Before the micron; in the digits before its point; behind its point; behind its decimal; behind the micron.
+    Micron,
+    Whole,
+    Point,
+    Tenth,
+    Measured,
+    // Before the number of lots; in its digits; behind it, where only empty fields may follow.
+    Lots,
+    Count,
+    After,
+    // The row has left its form, outside quotes and in them.
+    Odd,
+    OddQuoted,
+    // Behind its line feed.
+    Over,
+}
+
+// What is wrong with a row, or with the text.
+#[derive(Clone, Copy, Debug, PartialEq, Eq)]
+pub enum Fault {
+    // The row has no name; something other than a comma stands behind the quotes around it; no number of microns with at most one decimal;
+    // no number of lots; something in a fourth field.
+    NoName,
+    NoComma,
+    NoMicron,
+    NoLots,
+    MoreFields,
+    // The reading is below 10.0 microns, or above 40.0; the lots are not 1 to 16.
+    TooFine,
+    TooCoarse,
+    LotsOutOfRange,
+    // The row would be a 17th line; nothing closes its quotes.
+    MoreRows,
+    NotClosed,
+    // The text has no line of wool at all; it is longer than the room for names.
+    NoRows,
+    TooLong,
+}
+
+// A row as far as it was read: its phase, what is wrong with it, whether there was a digit behind the name, whether it is still empty; where in
+// the names its own begins, how far bytes were kept there, and how far without blanks at the end; the micron before and behind its point; the
+// number of lots.
+#[derive(Clone, Copy, Debug, PartialEq, Eq)]
 pub struct Row {
-    pub phase: u8,
-    pub fault: u8,
+    pub phase: Phase,
+    pub fault: Option<Fault>,
     pub digits: bool,
     pub empty: bool,
     pub start: usize,
@@ -26,44 +78,24 @@ pub struct Row {
     pub lots: u32,
 }
 
-// The row that is being read, or was refused; whether nothing more is read; whether all rows so far were empty; what is wrong with the row
-// (0: nothing), and its number, from 1; how many lines of wool there are, the lengths of their names, which stand one behind the other, their
-// readings in tenths of a micron, two bytes each, and for how many lots.
-#[derive(Clone, Copy)]
+// A line of wool that a sheet holds: the length of its name, which stands behind those of the lines before it, its reading in tenths of a
+// micron, and for how many lots.
+#[derive(Clone, Copy, Debug, PartialEq, Eq)]
+pub struct Entry {
+    pub length: usize,
+    pub reading: u16,
+    pub lots: u8,
+}
+
+// The row that is being read, or was refused; whether nothing more is read; whether all rows so far were empty; what is wrong with the row, and
+// its number, from 1; how many lines of wool there are, and these. The lines stand in an array with their count beside it, as memory is fixed.
+#[derive(Clone, Copy, Debug)]
 pub struct Sheet {
     pub row: Row,
     pub stopped: bool,
     pub first: bool,
-    pub fault: u8,
+    pub fault: Option<Fault>,
     pub number: usize,
     pub count: usize,
-    pub lengths: [usize; 16],
-    pub readings: [u8; 32],
-    pub sizes: [u8; 16],
+    pub entries: [Entry; 16],
 }
-
-// ---- faults, as specs/Row and specs/Sheet have them
-
-pub const NO_NAME: u8 = 1;
-
-pub const NO_COMMA: u8 = 2;
-
-pub const NO_MICRON: u8 = 3;
-
-pub const NO_LOTS: u8 = 4;
-
-pub const MORE_FIELDS: u8 = 5;
-
-pub const TOO_FINE: u8 = 6;
-
-pub const TOO_COARSE: u8 = 7;
-
-pub const LOTS_OUT_OF_RANGE: u8 = 8;
-
-pub const MORE_ROWS: u8 = 9;
-
-pub const NOT_CLOSED: u8 = 10;
-
-pub const NO_ROWS: u8 = 11;
-
-pub const TOO_LONG: u8 = 12;

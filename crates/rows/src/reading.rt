@@ -1,11 +1,11 @@
 // Rows of a text, one line of wool each, up to the first that can't be used.
-ghost use Rattle.std.specs.Prelude.{◌≡◌, not, ◌&&◌, eqb, ◌+◌, ◌≤◌, ◌<◌, length, set, drop};
-ghost use Rattle.rows.specs.Row.{start};
-ghost use Rattle.rows.specs.Sheet.{fresh, blank_sheet, reading, row_fault, with_row, passed, refused, taken, ended, entered, starts_listing, eaten, kept, sheet_after, names_after, closed_by, sheet_of, names_of};
+ghost use Rattle.std.specs.Prelude.{◌≡◌, not, ◌&&◌, ◌+◌, ◌≤◌, ◌<◌, length, set, None};
+ghost use Rattle.rows.specs.Row.{is_start};
+ghost use Rattle.rows.specs.Sheet.{fresh, blank_sheet, reading, value_fault, row_fault, with_row, passed, refused, taken, ended, entered, starts_listing, eaten, kept, sheet_after, names_after, closed_by, sheet_of, names_of};
 
-use crate::{Row, Sheet, scan};
+use crate::{Entry, Fault, Phase, Row, Sheet, scan};
 
-// The least and the most of a reading, in tenths of a micron, and of a number of lots.
+// The least and the most of a reading, in tenths of a micron.
 const READING_LEAST: u64 = 100;
 
 const READING_MOST: u64 = 400;
@@ -15,12 +15,11 @@ const READING_MOST: u64 = 400;
 pub fn parse(text: &[u8], names: &mut [u8]) -> Sheet
     ensures { (result ≡ sheet_of (length names.old) text.now) × (names.new ≡ names_of text.now names.old) }
 {
-    let blank = blank_sheet();
     if names.len() < text.len() {
-        return refused(blank, fresh(0), crate::TOO_LONG);
+        return refused(blank_sheet(), fresh(0), Some(Fault::TooLong));
     }
     let s = scan(text, names);
-    closed(eaten(s, b"\n", 0, names.len()))
+    closed(eaten(s, b"\n", names.len()))
 }
 
 // The sheet after all bytes of the text.
@@ -28,82 +27,56 @@ fn scan(text: &[u8], names: &mut [u8]) -> Sheet
     ensures { (result ≡ sheet_after (length names.old) blank_sheet text.now) × (names.new ≡ names_after blank_sheet text.now names.old) × (result.number ≤ length text.now + 1) }
 {
     let mut s = blank_sheet();
-    let mut i = 0;
-    while i < text.len() {
+    for i in 0..text.len() {
         keep(s, text[i], names);
-        s = eaten(s, text, i, names.len());
-        i += 1;
+        s = eaten(s, &text[i..], names.len());
     }
     s
 }
 
 // ---- a byte
 
-// The sheet after the byte at i of the text.
-fn eaten(s: Sheet, text: &[u8], i: usize, room: usize) -> Sheet
+// The sheet after the byte that begins what is left of the text.
+#[tactic(auto, unfolding(crate::specs::Sheet::eaten))]
+fn eaten(s: Sheet, rest: &[u8], room: usize) -> Sheet
     requires { s.number < 18446744073709551615 }
-    ensures { result ≡ eaten room s (drop i text.now) }
+    ensures { result ≡ eaten room s rest.now }
 {
     if s.stopped {
         return s;
     }
     let r = s.row;
-    if starts_listing(r.phase, text, i) {
-        return refused(s, r, 0);
+    if starts_listing(r.phase, rest) {
+        return refused(s, r, None);
     }
-    entered(s, scan::feed(r, base::byte_at(text, i), room))
+    entered(s, scan::feed(r, base::byte_at(rest, 0), room))
 }
 
 fn entered(s: Sheet, r: Row) -> Sheet
     requires { s.number < 18446744073709551615 }
     ensures { result ≡ entered s r }
 {
-    if r.phase == scan::OVER {
-        return ended(s, r);
+    if r.phase.is_over() {
+        ended(s, r)
+    } else {
+        with_row(s, r)
     }
-    with_row(s, r)
 }
 
 // Whether what is left of the text, at a row's start, begins as the listing that `desk` prints behind its rows.
-fn starts_listing(phase: u8, text: &[u8], i: usize) -> bool
-    ensures { result ≡ (eqb phase start && starts_listing (drop i text.now)) }
+fn starts_listing(phase: Phase, rest: &[u8]) -> bool
+    ensures { result ≡ (is_start phase && starts_listing rest.now) }
 {
-    if phase != scan::START {
-        return false;
-    }
-    let rest = from(text, i);
-    if base::byte_at(rest, 0) != b',' {
-        return false;
-    }
-    if base::byte_at(rest, 1) != b'l' {
-        return false;
-    }
-    if base::byte_at(rest, 2) != b'o' {
-        return false;
-    }
-    base::byte_at(rest, 3) == b't'
-}
-
-// What is left of the text from i on.
-fn from<'a>(text: &'a [u8], i: usize) -> &'a [u8]
-    ensures { result.now ≡ drop i text.now }
-{
-    if text.len() < i {
-        return &text[0..0];
-    }
-    &text[i..]
+    phase.is_start() && rest.starts_with(b",lot")
 }
 
 // A byte of a name is kept.
+#[tactic(auto, unfolding(crate::specs::Sheet::kept))]
 fn keep(s: Sheet, b: u8, names: &mut [u8])
     ensures { names.new ≡ kept s b names.old }
 {
-    if s.stopped {
-        return;
-    }
-    let r = s.row;
-    if scan::in_name(scan::phase_after(r, b)) {
-        lay(names, r.kept, b);
+    if !s.stopped && scan::phase_after(s.row, b).is_in_name() {
+        lay(names, s.row.kept, b);
     }
 }
 
@@ -119,6 +92,7 @@ fn lay(names: &mut [u8], at: usize, b: u8)
 // ---- a row
 
 // The sheet after a whole row.
+#[tactic(auto, unfolding(crate::specs::Sheet::ended))]
 fn ended(s: Sheet, r: Row) -> Sheet
     requires { s.number < 18446744073709551615 }
     ensures { result ≡ ended s r }
@@ -126,79 +100,72 @@ fn ended(s: Sheet, r: Row) -> Sheet
     if r.empty {
         return passed(s, s.first, r.start);
     }
-    if is_titles(s.first, r.digits) {
+    if s.first && !r.digits {
         return passed(s, false, r.start);
     }
     let fault = row_fault(r);
-    if fault != 0 {
+    if fault.is_some() {
         return refused(s, r, fault);
     }
     if s.count >= 16 {
-        return refused(s, r, crate::MORE_ROWS);
+        return refused(s, r, Some(Fault::MoreRows));
     }
     taken(s, r)
 }
 
-fn is_titles(first: bool, digits: bool) -> bool
-    ensures { result ≡ (first && not digits) }
-{
-    if first {
-        return !digits;
-    }
-    false
-}
-
-// What is wrong with a whole row, or 0.
-fn row_fault(r: Row) -> u8
+// What is wrong with a whole row.
+#[tactic(auto, unfolding(crate::specs::Sheet::row_fault))]
+fn row_fault(r: Row) -> Option<Fault>
     ensures { result ≡ row_fault r }
 {
-    if r.fault != 0 {
-        return r.fault;
-    }
-    if r.solid <= r.start {
-        return crate::NO_NAME;
-    }
+    r.fault.or(value_fault(r))
+}
+
+// What is wrong with the values of a row in its form.
+#[tactic(auto, unfolding(crate::specs::Sheet::value_fault))]
+fn value_fault(r: Row) -> Option<Fault>
+    ensures { result ≡ value_fault r }
+{
     let reading = reading(r);
-    if reading < READING_LEAST {
-        return crate::TOO_FINE;
+    if r.solid <= r.start {
+        Some(Fault::NoName)
+    } else if reading < READING_LEAST {
+        Some(Fault::TooFine)
+    } else if reading > READING_MOST {
+        Some(Fault::TooCoarse)
+    } else if r.lots < 1 || r.lots > 16 {
+        Some(Fault::LotsOutOfRange)
+    } else {
+        None
     }
-    if reading > READING_MOST {
-        return crate::TOO_COARSE;
-    }
-    if r.lots < 1 {
-        return crate::LOTS_OUT_OF_RANGE;
-    }
-    if r.lots > 16 {
-        return crate::LOTS_OUT_OF_RANGE;
-    }
-    0
 }
 
 // Tenths of a micron.
 fn reading(r: Row) -> u64
     ensures { result ≡ reading r }
 {
-    10 * base::wide_u64(r.whole) + base::wide_u64(r.tenth)
+    10 * u64::from(r.whole) + u64::from(r.tenth)
 }
 
 // One more line of wool.
 fn taken(s: Sheet, r: Row) -> Sheet
-    requires { (s.number < 18446744073709551615) × (s.count < 16) × (row_fault r ≡ 0) }
+    requires { (s.number < 18446744073709551615) × (s.count < 16) × (row_fault r ≡ None) }
     ensures { result ≡ taken s r }
 {
-    let mut t = s;
-    let k = s.count;
-    let x = reading(r);
-    t.lengths[k] = r.solid - r.start;
-    t.readings[2 * k] = (x % 256) as u8;
-    t.readings[2 * k + 1] = (x / 256 % 256) as u8;
-    t.sizes[k] = r.lots as u8;
-    t.first = false;
-    t.number = s.number + 1;
-    t.count = k + 1;
-    let row = fresh(r.solid);
-    t.row = row;
-    t
+    let mut entries = s.entries;
+    entries[s.count] = Entry {
+        length: r.solid - r.start,
+        reading: reading(r) as u16,
+        lots: r.lots as u8,
+    };
+    Sheet {
+        row: fresh(r.solid),
+        first: false,
+        number: s.number + 1,
+        count: s.count + 1,
+        entries,
+        ..s
+    }
 }
 
 // ---- sheets made anew
@@ -207,8 +174,8 @@ fn fresh(at: usize) -> Row
     ensures { result ≡ fresh at }
 {
     Row {
-        phase: scan::START,
-        fault: 0,
+        phase: Phase::Start,
+        fault: None,
         digits: false,
         empty: true,
         start: at,
@@ -223,26 +190,26 @@ fn fresh(at: usize) -> Row
 fn blank_sheet() -> Sheet
     ensures { result ≡ blank_sheet }
 {
-    let row = fresh(0);
+    let blank = Entry {
+        length: 0,
+        reading: 0,
+        lots: 0,
+    };
     Sheet {
-        row,
+        row: fresh(0),
         stopped: false,
         first: true,
-        fault: 0,
+        fault: None,
         number: 1,
         count: 0,
-        lengths: [0; 16],
-        readings: [0; 32],
-        sizes: [0; 16],
+        entries: [blank; 16],
     }
 }
 
-fn with_row(s: Sheet, r: Row) -> Sheet
-    ensures { result ≡ with_row s r }
+fn with_row(s: Sheet, row: Row) -> Sheet
+    ensures { result ≡ with_row s row }
 {
-    let mut t = s;
-    t.row = r;
-    t
+    Sheet { row, ..s }
 }
 
 // The row is passed over.
@@ -250,38 +217,39 @@ fn passed(s: Sheet, first: bool, at: usize) -> Sheet
     requires { s.number < 18446744073709551615 }
     ensures { result ≡ passed s first at }
 {
-    let row = fresh(at);
-    let mut t = s;
-    t.row = row;
-    t.first = first;
-    t.number = s.number + 1;
-    t
+    Sheet {
+        row: fresh(at),
+        first,
+        number: s.number + 1,
+        ..s
+    }
 }
 
 // The row is refused, and nothing more is read.
-fn refused(s: Sheet, r: Row, fault: u8) -> Sheet
-    ensures { result ≡ refused s r fault }
+fn refused(s: Sheet, row: Row, fault: Option<Fault>) -> Sheet
+    ensures { result ≡ refused s row fault }
 {
-    let mut t = s;
-    t.row = r;
-    t.stopped = true;
-    t.fault = fault;
-    t
+    Sheet {
+        row,
+        stopped: true,
+        fault,
+        ..s
+    }
 }
 
 // The sheet at the end of its text.
+#[tactic(auto, unfolding(crate::specs::Sheet::closed_by))]
 fn closed(s: Sheet) -> Sheet
     ensures { result ≡ closed_by s }
 {
-    if s.fault != 0 {
+    if s.fault.is_some() {
         return s;
     }
-    let r = s.row;
-    if r.phase != scan::START {
-        return refused(s, r, crate::NOT_CLOSED);
+    if !s.row.phase.is_start() {
+        return refused(s, s.row, Some(Fault::NotClosed));
     }
     if s.count == 0 {
-        return refused(s, r, crate::NO_ROWS);
+        return refused(s, s.row, Some(Fault::NoRows));
     }
     s
 }

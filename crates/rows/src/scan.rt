@@ -1,335 +1,277 @@
-// One row, byte by byte. Phases and sorts are numbers, as specs/Row has them.
-ghost use Rattle.std.specs.Prelude.{◌≡◌, cond, ◌&&◌, ◌||◌, ◌-◌, ◌<◌, eqb, leb, get_or};
-ghost use Rattle.rows.specs.Row.{sort_of, next, fault_by, behind_name, in_name, in_solid, grown, placed, fed_by, fed, digit, comma};
-ghost use Rattle.rows.specs.Row.{tenth as tenthPhase};
+// One row, byte by byte.
+ghost use Rattle.std.specs.Prelude.{◌≡◌, cond, ◌-◌, ◌<◌};
+ghost use Rattle.rows.specs.Row.{sort_of, next, spoiled, missing, fault_by, behind_name, in_name, in_solid, grown, placed, fed_by, fed, is_solid, leaves_empty, is_digit_sort, is_start, is_over, whole_after, tenth_after, lots_after};
 
-use crate::Row;
+use crate::Fault::{MoreFields, NoComma, NoLots, NoMicron, NoName};
+use crate::Phase::*;
+use crate::{Fault, Phase, Row};
+use Sort::*;
 
-const BLANK: u8 = 0;
+// What a byte is to a row: a space, a tab or a carriage return; a line feed; a comma; a quote; a digit; a point; any other.
+#[derive(Clone, Copy, Debug, PartialEq, Eq)]
+pub(crate) enum Sort {
+    Blank,
+    Feed,
+    Comma,
+    Quote,
+    Digit,
+    Dot,
+    Other,
+}
 
-const FEED: u8 = 1;
+impl Sort {
+    #[tactic(auto, unfolding(crate::specs::Row::sort_of))]
+    pub(crate) fn of(b: u8) -> Sort
+        ensures { result ≡ sort_of b }
+    {
+        match b {
+            b' ' | b'\t' | b'\r' => Blank,
+            b'\n' => Feed,
+            b',' => Comma,
+            b'"' => Quote,
+            b'.' => Dot,
+            b'0'..=b'9' => Digit,
+            _ => Other,
+        }
+    }
 
-const COMMA: u8 = 2;
+    // Whether such a byte can stand at either end of a name without quotes.
+    pub(crate) fn is_solid(self) -> bool
+        ensures { result ≡ is_solid self }
+    {
+        matches!(self, Digit | Dot | Other)
+    }
 
-const QUOTE: u8 = 3;
+    fn is_digit(self) -> bool
+        ensures { result ≡ is_digit_sort self }
+    {
+        matches!(self, Digit)
+    }
 
-pub(crate) const DIGIT: u8 = 4;
+    // Whether a row that has such bytes alone is empty.
+    fn leaves_empty(self) -> bool
+        ensures { result ≡ leaves_empty self }
+    {
+        matches!(self, Blank | Feed | Comma)
+    }
+}
 
-const DOT: u8 = 5;
+// ---- phases
 
-const OTHER: u8 = 6;
+impl Phase {
+    // The phase that a byte leads to.
+    #[tactic(auto, unfolding(crate::specs::Row::next))]
+    fn after(self, sort: Sort) -> Phase
+        ensures { result ≡ next self sort }
+    {
+        match (self, sort) {
+            // Within quotes a line feed and a comma are bytes like others.
+            (Opened | Quoted, Quote) => Inner,
+            (Opened | Quoted, _) => Quoted,
+            (OddQuoted, Quote) => Odd,
+            (OddQuoted, _) => OddQuoted,
+            // Outside them a line feed ends the row.
+            (Over, _) | (_, Feed) => Over,
+            // The name.
+            (Start | Lead, Blank) => Lead,
+            (Start | Lead, Quote) => Opened,
+            (Start | Lead, Digit | Dot | Other) => Bare,
+            (Bare, Comma) => Micron,
+            (Bare, _) => Bare,
+            (Inner, Quote) => Quoted,
+            (Inner | Closed, Blank) => Closed,
+            (Inner | Closed, Comma) => Micron,
+            // Its micron.
+            (Micron, Blank) => Micron,
+            (Micron | Whole, Digit) => Whole,
+            (Whole, Dot) => Point,
+            (Point, Digit) => Tenth,
+            (Whole | Tenth | Measured, Blank) => Measured,
+            (Whole | Tenth | Measured, Comma) => Lots,
+            // The number of lots.
+            (Lots, Blank) => Lots,
+            (Lots | Count, Digit) => Count,
+            (Count | After, Blank | Comma) => After,
+            // The row leaves its form.
+            (_, Quote) => OddQuoted,
+            _ => Odd,
+        }
+    }
 
-pub(crate) const START: u8 = 0;
+    pub(crate) fn is_start(self) -> bool
+        ensures { result ≡ is_start self }
+    {
+        matches!(self, Start)
+    }
 
-const LEAD: u8 = 1;
+    pub(crate) fn is_over(self) -> bool
+        ensures { result ≡ is_over self }
+    {
+        matches!(self, Over)
+    }
 
-const BARE: u8 = 2;
+    // Whether the byte that leads here is the name's.
+    pub(crate) fn is_in_name(self) -> bool
+        ensures { result ≡ in_name self }
+    {
+        matches!(self, Bare | Quoted)
+    }
 
-const OPENED: u8 = 3;
+    fn is_behind_name(self) -> bool
+        ensures { result ≡ behind_name self }
+    {
+        !matches!(self, Start | Lead | Bare | Opened | Quoted | Inner | Closed)
+    }
 
-const QUOTED: u8 = 4;
+    // What is wrong where a byte of another sort is wanted in this phase.
+    fn spoiled(self) -> Option<Fault>
+        ensures { result ≡ spoiled self }
+    {
+        match self {
+            Start | Lead => Some(NoName),
+            Inner | Closed => Some(NoComma),
+            Micron | Whole | Point | Tenth | Measured => Some(NoMicron),
+            Lots | Count => Some(NoLots),
+            After => Some(MoreFields),
+            _ => None,
+        }
+    }
 
-const INNER: u8 = 5;
+    // What is wrong where the row ends in this phase.
+    fn missing(self) -> Option<Fault>
+        ensures { result ≡ missing self }
+    {
+        match self {
+            Bare | Inner | Closed | Micron | Point => Some(NoMicron),
+            Whole | Tenth | Measured | Lots => Some(NoLots),
+            _ => None,
+        }
+    }
+}
 
-const CLOSED: u8 = 6;
-
-const MICRON: u8 = 7;
-
-const WHOLE: u8 = 8;
-
-const POINT: u8 = 9;
-
-const TENTH: u8 = 10;
-
-const MEASURED: u8 = 11;
-
-const LOTS: u8 = 12;
-
-const COUNT: u8 = 13;
-
-const AFTER: u8 = 14;
-
-const ODD: u8 = 15;
-
-const ODD_QUOTED: u8 = 16;
-
-pub(crate) const OVER: u8 = 17;
-
-// The phase after a byte: for each phase the place of each sort, blank, feed, comma, quote, digit, dot, other.
-const NEXT: [u8; 126] = [
-    LEAD, OVER, ODD, OPENED, BARE, BARE, BARE, LEAD, OVER, ODD, OPENED, BARE, BARE, BARE, BARE,
-    OVER, MICRON, BARE, BARE, BARE, BARE, QUOTED, QUOTED, QUOTED, INNER, QUOTED, QUOTED, QUOTED,
-    QUOTED, QUOTED, QUOTED, INNER, QUOTED, QUOTED, QUOTED, CLOSED, OVER, MICRON, QUOTED, ODD, ODD,
-    ODD, CLOSED, OVER, MICRON, ODD_QUOTED, ODD, ODD, ODD, MICRON, OVER, ODD, ODD_QUOTED, WHOLE,
-    ODD, ODD, MEASURED, OVER, LOTS, ODD_QUOTED, WHOLE, POINT, ODD, ODD, OVER, ODD, ODD_QUOTED,
-    TENTH, ODD, ODD, MEASURED, OVER, LOTS, ODD_QUOTED, ODD, ODD, ODD, MEASURED, OVER, LOTS,
-    ODD_QUOTED, ODD, ODD, ODD, LOTS, OVER, ODD, ODD_QUOTED, COUNT, ODD, ODD, AFTER, OVER, AFTER,
-    ODD_QUOTED, COUNT, ODD, ODD, AFTER, OVER, AFTER, ODD_QUOTED, ODD, ODD, ODD, ODD, OVER, ODD,
-    ODD_QUOTED, ODD, ODD, ODD, ODD_QUOTED, ODD_QUOTED, ODD_QUOTED, ODD, ODD_QUOTED, ODD_QUOTED,
-    ODD_QUOTED, OVER, OVER, OVER, OVER, OVER, OVER, OVER,
-];
-
-// What is wrong where a byte of another sort is wanted in this phase.
-const SPOILED: [u8; 18] = [
-    crate::NO_NAME,
-    crate::NO_NAME,
-    0,
-    0,
-    0,
-    crate::NO_COMMA,
-    crate::NO_COMMA,
-    crate::NO_MICRON,
-    crate::NO_MICRON,
-    crate::NO_MICRON,
-    crate::NO_MICRON,
-    crate::NO_MICRON,
-    crate::NO_LOTS,
-    crate::NO_LOTS,
-    crate::MORE_FIELDS,
-    0,
-    0,
-    0,
-];
-
-// What is wrong where the row ends in this phase.
-const MISSING: [u8; 18] = [
-    0,
-    0,
-    crate::NO_MICRON,
-    0,
-    0,
-    crate::NO_MICRON,
-    crate::NO_MICRON,
-    crate::NO_MICRON,
-    crate::NO_LOTS,
-    crate::NO_MICRON,
-    crate::NO_LOTS,
-    crate::NO_LOTS,
-    crate::NO_LOTS,
-    0,
-    0,
-    0,
-    0,
-    0,
-];
+// ---- a byte
 
 // A row after one more byte, where there is room for so many bytes of names.
+#[tactic(auto, unfolding(crate::specs::Row::fed))]
 pub(crate) fn feed(r: Row, b: u8, room: usize) -> Row
     ensures { result ≡ fed room r b }
 {
-    let sort = sort_of(b);
-    fed_by(r, b, sort, next(r.phase, sort), room)
+    let sort = Sort::of(b);
+    fed_by(r, b, sort, r.phase.after(sort), room)
 }
 
 // The phase that a byte leads to.
-pub(crate) fn phase_after(r: Row, b: u8) -> u8
+pub(crate) fn phase_after(r: Row, b: u8) -> Phase
     ensures { result ≡ next r.phase (sort_of b) }
 {
-    next(r.phase, sort_of(b))
+    r.phase.after(Sort::of(b))
 }
 
-fn fed_by(r: Row, b: u8, sort: u8, to: u8, room: usize) -> Row
+#[tactic(auto, unfolding(crate::specs::Row::fed_by))]
+fn fed_by(r: Row, b: u8, sort: Sort, to: Phase, room: usize) -> Row
     ensures { result ≡ fed_by room r b sort to }
 {
     Row {
         phase: to,
-        fault: fault_after(r.fault, r.phase, to),
-        digits: digits_after(r.digits, to, sort),
-        empty: empty_after(r.empty, sort),
+        fault: r.fault.or(fault_by(r.phase, to)),
+        digits: r.digits || (to.is_behind_name() && sort.is_digit()),
+        empty: r.empty && sort.leaves_empty(),
         start: r.start,
         kept: kept_after(r.kept, to, room),
         solid: solid_after(r.solid, r.kept, to, sort, room),
-        whole: grown_in(WHOLE, to, r.whole, b),
+        whole: whole_after(to, r.whole, b),
         tenth: tenth_after(to, r.tenth, b),
-        lots: grown_in(COUNT, to, r.lots, b),
+        lots: lots_after(to, r.lots, b),
     }
 }
 
-// ---- sorts and phases
-
-pub(crate) fn sort_of(b: u8) -> u8
-    ensures { result ≡ sort_of b }
-{
-    if b == b' ' {
-        return BLANK;
-    }
-    if b == 9 {
-        return BLANK;
-    }
-    if b == 13 {
-        return BLANK;
-    }
-    if b == 10 {
-        return FEED;
-    }
-    if b == b',' {
-        return COMMA;
-    }
-    if b == b'"' {
-        return QUOTE;
-    }
-    if b == b'.' {
-        return DOT;
-    }
-    if b < 48 {
-        return OTHER;
-    }
-    if b <= 57 {
-        return DIGIT;
-    }
-    OTHER
-}
-
-fn next(phase: u8, sort: u8) -> u8
-    ensures { result ≡ next phase sort }
-{
-    let at = 7 * base::wide(phase) + base::wide(sort);
-    if at < 126 {
-        return NEXT[at];
-    }
-    0
-}
-
-// ---- faults
-
-// The row's fault, or what is wrong where this phase leads to that.
-fn fault_after(fault: u8, phase: u8, to: u8) -> u8
-    ensures { result ≡ cond (eqb fault 0) (fault_by phase to) fault }
-{
-    if fault != 0 {
-        return fault;
-    }
-    fault_by(base::wide(phase), to)
-}
-
-fn fault_by(phase: usize, to: u8) -> u8
+// What is wrong where the one phase leads to the other.
+fn fault_by(phase: Phase, to: Phase) -> Option<Fault>
     ensures { result ≡ fault_by phase to }
 {
-    if to == OVER {
-        return in_list(MISSING, phase);
+    match to {
+        Over => phase.missing(),
+        Odd | OddQuoted => phase.spoiled(),
+        _ => None,
     }
-    if to < ODD {
-        return 0;
-    }
-    in_list(SPOILED, phase)
 }
 
-fn in_list(faults: [u8; 18], phase: usize) -> u8
-    ensures { result ≡ get_or faults phase 0 }
-{
-    if phase < 18 {
-        return faults[phase];
-    }
-    0
-}
-
-// ---- what a byte does
-
-fn digits_after(digits: bool, to: u8, sort: u8) -> bool
-    ensures { result ≡ (digits || (behind_name to && eqb sort digit)) }
-{
-    if digits {
-        return true;
-    }
-    if to < MICRON {
-        return false;
-    }
-    sort == DIGIT
-}
-
-fn empty_after(empty: bool, sort: u8) -> bool
-    ensures { result ≡ (empty && leb sort comma) }
-{
-    if empty {
-        return sort <= COMMA;
-    }
-    false
-}
-
-pub(crate) fn in_name(phase: u8) -> bool
-    ensures { result ≡ in_name phase }
-{
-    if phase == BARE {
-        return true;
-    }
-    phase == QUOTED
-}
-
-fn in_solid(phase: u8, sort: u8) -> bool
-    ensures { result ≡ in_solid phase sort }
-{
-    if phase == QUOTED {
-        return true;
-    }
-    if phase == BARE {
-        return sort != BLANK;
-    }
-    false
-}
-
-fn kept_after(kept: usize, to: u8, room: usize) -> usize
+fn kept_after(kept: usize, to: Phase, room: usize) -> usize
     ensures { result ≡ cond (in_name to) (placed room kept) kept }
 {
-    if in_name(to) {
-        return placed(kept, room);
+    if to.is_in_name() {
+        placed(kept, room)
+    } else {
+        kept
     }
-    kept
 }
 
-fn solid_after(solid: usize, kept: usize, to: u8, sort: u8, room: usize) -> usize
+fn solid_after(solid: usize, kept: usize, to: Phase, sort: Sort, room: usize) -> usize
     ensures { result ≡ cond (in_solid to sort) (placed room kept) solid }
 {
     if in_solid(to, sort) {
-        return placed(kept, room);
+        placed(kept, room)
+    } else {
+        solid
     }
-    solid
+}
+
+// Blanks at the end of a name without quotes are not the name's.
+fn in_solid(phase: Phase, sort: Sort) -> bool
+    ensures { result ≡ in_solid phase sort }
+{
+    match (phase, sort) {
+        (Bare, Blank) => false,
+        (Bare | Quoted, _) => true,
+        _ => false,
+    }
 }
 
 // The place after one more byte, where there is room.
 fn placed(at: usize, room: usize) -> usize
     ensures { result ≡ placed room at }
 {
-    if at < room {
-        return at + 1;
-    }
-    at
+    if at < room { at + 1 } else { at }
 }
 
 // ---- numbers
 
-// A number with one more digit in the phase of its digits.
-fn grown_in(phase: u8, to: u8, x: u32, b: u8) -> u32
-    ensures { result ≡ cond (eqb to phase) (grown x b) x }
+fn whole_after(to: Phase, whole: u32, b: u8) -> u32
+    ensures { result ≡ whole_after to whole b }
 {
-    if to == phase {
-        return grown(x, b);
+    match to {
+        Whole => grown(whole, b),
+        _ => whole,
     }
-    x
 }
 
+fn tenth_after(to: Phase, tenth: u32, b: u8) -> u32
+    ensures { result ≡ tenth_after to tenth b }
+{
+    match to {
+        Tenth => digit_of(b),
+        _ => tenth,
+    }
+}
+
+fn lots_after(to: Phase, lots: u32, b: u8) -> u32
+    ensures { result ≡ lots_after to lots b }
+{
+    match to {
+        Count => grown(lots, b),
+        _ => lots,
+    }
+}
+
+// A number with one more digit; of five digits it is too large already.
 fn grown(x: u32, b: u8) -> u32
     ensures { result ≡ grown x b }
 {
-    if x < 10000 {
-        return 10 * x + digit_of(b);
-    }
-    x
-}
-
-fn tenth_after(to: u8, tenth: u32, b: u8) -> u32
-    ensures { result ≡ cond (eqb to tenthPhase) (b - 48) tenth }
-{
-    if to == TENTH {
-        return digit_of(b);
-    }
-    tenth
+    if x < 10000 { 10 * x + digit_of(b) } else { x }
 }
 
 fn digit_of(b: u8) -> u32
     ensures { (result ≡ b - 48) × (result < 256) }
 {
-    if b < 48 {
-        return 0;
-    }
-    base::wide_u32(b - 48)
+    u32::from(b.saturating_sub(b'0'))
 }

@@ -1,41 +1,38 @@
 // A line of wool as text: name, micron, lots.
-ghost use Rattle.std.specs.Prelude.{◌≡◌, ◌+◌, ◌*◌, ◌≤◌, not, ltb, leb, length};
+ghost use Rattle.std.specs.Prelude.{◌≡◌, ◌+◌, ◌*◌, ◌≤◌, not, ltb, length};
+ghost use Rattle.std.specs.List.{list_all};
 ghost use Rattle.base.specs.Put.{put_at};
-ghost use Rattle.rows.specs.Row.{sort_of, digit};
-ghost use Rattle.rows.specs.Lines.{ordinary, is_bare, twice, doubled, name_text, glyph, tail_text, line_text, written_length, written_into};
+ghost use Rattle.rows.specs.Lines.{ordinary, can_end, solid_ends, is_bare, twice, doubled, name_text, glyph, tail_text, line_text, written_length, written_into};
 
-use crate::scan;
+use crate::scan::Sort;
 
 // The text of a line of wool at the front of the lent buffer, which has room for twice the name and 11 bytes more; gives its length. Where
-// there is less room it gives 0 and leaves the buffer as it was.
-pub fn write_line(name: &[u8], reading: u32, lots: u32, out: &mut [u8]) -> usize
+// there is less room it gives none and leaves the buffer as it was.
+pub fn write_line(name: &[u8], reading: u32, lots: u32, out: &mut [u8]) -> Option<usize>
     ensures { (result ≡ written_length name.entry.now (length out.old) (line_text (record { name = name.entry.now; reading = reading; lots = lots }))) × (out.new ≡ written_into name.entry.now out.old (line_text (record { name = name.entry.now; reading = reading; lots = lots }))) }
 {
     if !has_room(name.len(), out.len()) {
-        return 0;
+        return None;
     }
     let at = put_name(name, out);
-    put_tail(reading, lots, out, at)
+    Some(put_tail(reading, lots, out, at))
 }
 
 // The same of its name alone.
-pub fn write_name(name: &[u8], out: &mut [u8]) -> usize
+pub fn write_name(name: &[u8], out: &mut [u8]) -> Option<usize>
     ensures { (result ≡ written_length name.now (length out.old) (name_text name.now)) × (out.new ≡ written_into name.now out.old (name_text name.now)) }
 {
     if !has_room(name.len(), out.len()) {
-        return 0;
+        return None;
     }
-    put_name(name, out)
+    Some(put_name(name, out))
 }
 
 // Whether there is room for twice the name and 11 bytes more.
 fn has_room(length: usize, room: usize) -> bool
     ensures { result ≡ not (ltb room (2 * length + 11)) }
 {
-    if room < 11 {
-        return false;
-    }
-    length <= (room - 11) / 2
+    room >= 11 && length <= (room - 11) / 2
 }
 
 // The name at the front, in quotes where it needs them; gives the place after it.
@@ -59,10 +56,8 @@ fn put_doubled(name: &[u8], out: &mut [u8]) -> usize
     ensures { (result ≡ 1 + length (doubled name.now)) × (result ≤ 1 + 2 * length name.now) × (out.new ≡ put_at out.old 1 (doubled name.now)) }
 {
     let mut at = 1;
-    let mut i = 0;
-    while i < name.len() {
-        at = put_twice(name[i], out, at);
-        i += 1;
+    for b in name {
+        at = put_twice(*b, out, at);
     }
     at
 }
@@ -88,15 +83,13 @@ fn put_tail(reading: u32, lots: u32, out: &mut [u8], at: usize) -> usize
     let a = glyph(reading / 100);
     let b = glyph(reading / 10);
     let c = glyph(reading);
+    let d = glyph(lots);
     if lots < 10 {
-        base::put(out, at, &[b',', a, b, b'.', c, b',', glyph(lots), 10]);
+        base::put(out, at, &[b',', a, b, b'.', c, b',', d, b'\n']);
         return at + 8;
     }
-    base::put(
-        out,
-        at,
-        &[b',', a, b, b'.', c, b',', glyph(lots / 10), glyph(lots), 10],
-    );
+    let e = glyph(lots / 10);
+    base::put(out, at, &[b',', a, b, b'.', c, b',', e, d, b'\n']);
     at + 9
 }
 
@@ -108,37 +101,32 @@ fn glyph(x: u32) -> u8
 }
 
 // Whether a name needs no quotes.
+#[tactic(auto, using(crate::specs::Lines::Laws::bare_ends))]
 fn is_bare(name: &[u8]) -> bool
     ensures { result ≡ is_bare name.now }
 {
-    if name.len() == 0 {
-        return false;
-    }
-    if !is_solid(name[0]) {
-        return false;
-    }
-    let mut i = 0;
-    while i + 1 < name.len() {
-        if !is_ordinary(name[i]) {
-            return false;
-        }
-        i += 1;
-    }
-    is_solid(name[i])
+    has_solid_ends(name) && is_ordinary(name)
 }
 
-// Whether a byte can stand at either end of a name without quotes.
-fn is_solid(b: u8) -> bool
-    ensures { result ≡ leb digit (sort_of b) }
+// Whether each byte can stand in a name without quotes, but for its ends.
+fn is_ordinary(name: &[u8]) -> bool
+    ensures { result ≡ list_all ordinary name.now }
 {
-    scan::DIGIT <= scan::sort_of(b)
+    name.iter().all(|b| *b == b' ' || Sort::of(*b).is_solid())
 }
 
-fn is_ordinary(b: u8) -> bool
-    ensures { result ≡ ordinary b }
+fn has_solid_ends(name: &[u8]) -> bool
+    ensures { result ≡ solid_ends name.now }
 {
-    if b == b' ' {
-        return true;
+    can_end(name.first().copied()) && can_end(name.last().copied())
+}
+
+// Whether there is such a byte, and it can stand at either end of a name without quotes.
+fn can_end(b: Option<u8>) -> bool
+    ensures { result ≡ can_end b }
+{
+    match b {
+        Some(b) => Sort::of(b).is_solid(),
+        None => false,
     }
-    is_solid(b)
 }

@@ -1,9 +1,9 @@
 -- The calls: making a unit and a step, refusals in 01's order; 02, job 9: each names the order in which values are tried.
 -- 01: "Making a unit ..: 5, 10 (unit only), 6, 7, 13." "Step: 13, 5 (n, sizes), 10 (own number), 6, 7, 5 (state), 8, 10, 9, 12, 11." Assumes nothing.
-use Rattle.std.specs.Prelude.{ℕ, zero, suc, pred, cond, not, List, ltb, length}
-use Rattle.base.specs.{Limits.sending_size, Refusal.or_else, Shape.shape_good}
+use Rattle.std.specs.Prelude.{ℕ, zero, suc, pred, cond, not, List, ltb, length, Result, Ok, Err}
+use Rattle.base.specs.{declared.Refusal.Refusal, Limits.sending_size, Refusal.number_of, Refusal.or_else, Shape.shape_good}
 use Rattle.costs.specs.{declared.ValueOrder.ValueOrder, Instance.View, Instance.lent_view, Lent.lent_refusal}
-use Rattle.message.specs.{declared.Message.Message, declared.Read.Read, declared.Read.TheVariants.Good, declared.Read.TheVariants.Refused, Message.is_unit, Decode.parse_for}
+use Rattle.message.specs.{declared.Kind.Kind, declared.Message.Message, Message.is_unit, Decode.parse_for}
 use Rattle.rules.specs.{declared.Unit.Unit, declared.Outcome.Outcome, declared.Report.Report, State.fresh, State.in_range, Send.packets, Send.laid}
 use Rattle.rules.specs.Step.{Decision, refused, accepted, quiet, assign, respond}
 
@@ -56,11 +56,10 @@ make_out order own n sizes costs room = unless_refused (make_refusal own n sizes
 -- ---- a step
 
 -- 01: "A message is read into its kind and fields, or a refusal; unless reading gave a message, the step ends there."
-abbrev pub on_read : View → Unit → Read → Message → Decision
-on_read w u (Good k) m = respond w k u m
-on_read w u (Refused r) m = refused r
+abbrev pub on_read : View → Unit → Result (Kind × Message) Refusal → Decision
+on_read w u (Ok (k, m)) = respond w k u m
+on_read w u (Err r) = refused (number_of r)
 
 unfoldable pub step_out : ValueOrder → Unit → ℕ → ℕ → List ℕ → List ℕ → List ℕ → ℕ → Decision
 step_out order u own n sizes costs bytes room =
-    let p = parse_for n sizes own bytes in
-    unless_refused (step_refusal order u own n sizes costs room) (on_read (lent_view order own n sizes costs) u p.answer p.message)
+    unless_refused (step_refusal order u own n sizes costs room) (on_read (lent_view order own n sizes costs) u (parse_for n sizes own bytes))

@@ -1,14 +1,17 @@
 -- A unit's state, its parts set one at a time, the order of stamps, and which lent states are in range.
 --     fresh, the setters `with..`          a new unit; one idea changed, the rest kept
 --     own_value, own_cost                    the own value and its costs
---     order_of, compare_on, same_on           01: "Stamps compare from unit 1 on"
+--     compare_on, same_on                     01: "Stamps compare from unit 1 on"
 --     cpa_out_in_range .. in_range             01: "A lent state is in range when .."
 -- Places count from 0: place k of an array is unit k + 1's; numbers of units (`own`) count from 1. Assumes nothing.
-use Rattle.std.specs.Prelude.{ℕ, zero, suc, pred, ◌-◌, Bool, true, false, cond, ◌&&◌, List, [], ltb, leb, eqb, get_or, replicate}
+use Rattle.std.specs.Prelude.{ℕ, zero, suc, pred, ◌-◌, Bool, true, false, cond, ◌&&◌, List, [], leb, eqb, get_or, replicate}
 use Rattle.base.specs.{Limits.NONE, Limits.estimate_limit, Limits.prefix_limit, Every.every}
 use Rattle.costs.specs.{Cost.as_number, Instance.View, Bounds.cost_with, Order.place_tried}
 use Rattle.message.specs.Message.{is_unit, filled_to, none_or_bound}
-use Rattle.rules.specs.{declared.Unit.Unit, declared.Ordering.Ordering, declared.Ordering.TheVariants.Less, declared.Ordering.TheVariants.Equal, declared.Ordering.TheVariants.Greater}
+use Rattle.rules.specs.{declared.Unit.Unit}
+use Rattle.std.specs.declared.cmp.Ordering.{Ordering}
+use Rattle.std.specs.declared.cmp.Ordering.TheVariants.{Equal}
+use Rattle.std.specs.Ordering.{is_ge, nat_cmp, ordering_then}
 
 abbrev pub zeros : List ℕ
 zeros = replicate 16 0
@@ -62,29 +65,15 @@ own_cost w u = as_number (cost_with w u.values w.place (own_value w u))
 
 -- ---- 01: "Stamps compare from unit 1 on"
 
-abbrev pub order_of : ℕ → ℕ → Ordering
-order_of a b = cond (ltb a b) Less (cond (ltb b a) Greater Equal)
-
--- the first difference decides
-abbrev pub followed : Ordering → Ordering → Ordering
-followed Less o = Less
-followed Equal o = o
-followed Greater o = Greater
-
--- a compared with b on the first k units
+-- a compared with b on the first k units: the first difference decides
 unfoldable pub compare_on : ℕ → List ℕ → List ℕ → Ordering
 compare_on zero a b = Equal
-compare_on (suc k) a b = followed (compare_on k a b) (order_of (get_or a k 0) (get_or b k 0))
+compare_on (suc k) a b = ordering_then (compare_on k a b) (nat_cmp (get_or a k 0) (get_or b k 0))
 
 -- the first k places are equal
 unfoldable pub same_on : ℕ → List ℕ → List ℕ → Bool
 same_on zero a b = true
 same_on (suc k) a b = same_on k a b && eqb (get_or a k 0) (get_or b k 0)
-
-abbrev pub not_less : Ordering → Bool
-not_less Less = false
-not_less Equal = true
-not_less Greater = true
 
 -- ---- in range
 
@@ -104,7 +93,7 @@ unfoldable pub cpa_out_in_range : List ℕ → ℕ → ℕ → ℕ → Unit → 
 cpa_out_in_range sizes i paid place u =
     filled_to i sizes u.stamp && filled_to i sizes u.values && leb u.cost (prefix_limit i)
     && eqb u.counter (get_or u.stamp (pred i) 0) && leb u.counter place
-    && not_less (compare_on i u.threshold u.stamp)
+    && is_ge (compare_on i u.threshold u.stamp)
     && leb paid u.cost && leb (u.cost - paid) (prefix_limit (pred i))
 
 -- 01: "A lent state is in range when threshold bytes are at most 17, estimates at most 7,200,000, and bound and paper keep the

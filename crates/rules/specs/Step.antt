@@ -6,15 +6,17 @@
 --     assign, backtrack                    01: "Assign", "Back up"
 --     on_cpa .. on_stop, respond             01: "Paper", "Copy", "Estimate", "News", "Stop"
 -- Places count from 0: the unit at place k is 01's unit i = k + 1. Assumes nothing.
-use Rattle.std.specs.Prelude.{ℕ, zero, suc, ◌+◌, ◌-◌, Bool, true, false, cond, ◌&&◌, ◌||◌, List, [], ◌∷◌, ltb, leb, eqb, get_or, set, take}
+use Rattle.std.specs.Prelude.{ℕ, zero, suc, ◌+◌, ◌-◌, Bool, true, false, cond, ◌&&◌, ◌||◌, List, [], ◌∷◌, ltb, leb, eqb, get_or, set, take, Some}
 use Rattle.base.specs.Sums.{sum_from}
-use Rattle.costs.specs.{declared.Cost.TheVariants.Of, Cost.◌⊕◌, Cost.below, Cost.as_number, Instance.View, Bounds.cost_with, Bounds.h, Bounds.estimate, Order.next, Order.left}
+use Rattle.costs.specs.{Cost.◌⊕◌, Cost.below, Cost.as_number, Instance.View, Bounds.cost_with, Bounds.h, Bounds.estimate, Order.next, Order.left}
 use Rattle.message.specs.{declared.Message.Message, declared.Kind.Kind, Message.no_message}
 use Rattle.message.specs.declared.Kind.TheVariants.{Cpa, Request, Estimate, Solution, Stop}
-use Rattle.rules.specs.{declared.Unit.Unit, declared.Ordering.Ordering, declared.Sending.Sending}
-use Rattle.rules.specs.declared.Ordering.TheVariants.{Less, Equal, Greater}
+use Rattle.rules.specs.{declared.Unit.Unit, declared.Sending.Sending}
+use Rattle.std.specs.declared.cmp.Ordering.{Ordering}
+use Rattle.std.specs.declared.cmp.Ordering.TheVariants.{Less, Equal, Greater}
+use Rattle.std.specs.Ordering.{is_ge}
 use Rattle.rules.specs.declared.Plan.TheVariants.{Nothing, Forward, Back, Reply}
-use Rattle.rules.specs.State.{zeros, with_threshold, with_best, with_estimates, with_cpa, with_counter, with_stopped, own_value, own_cost, compare_on, same_on, not_less}
+use Rattle.rules.specs.State.{zeros, with_threshold, with_best, with_estimates, with_cpa, with_counter, with_stopped, own_value, own_cost, compare_on, same_on}
 
 -- 01: "At each record unit i writes a beginning: the values of units 1 to i"; beside it the stamp on these units
 pub record Written : Type 0 where
@@ -90,7 +92,7 @@ unfoldable pub try_after : View → ℕ → ℕ → Bool → Unit → Decision
 try_after w zero v improved u = backtrack w improved u
 try_after w (suc m) v improved u =
     let x = next w v in
-    let c = Of u.cost ⊕ cost_with w u.values w.place x in
+    let c = Some u.cost ⊕ cost_with w u.values w.place x in
     cond (below (c ⊕ h w x) u.bound) (after_write w (eqb (suc w.place) w.n) (write w x (as_number c) u) (λ (b : Bool) (t : Unit). try_after w m x b t)) (try_after w m x improved u)
 
 -- 01: "Clear estimates; if the paper has no own value the counter becomes 0."
@@ -124,7 +126,7 @@ abbrev pub is_cpa_out : View → Unit → Message → Bool
 is_cpa_out w u m = is_out w u && same_on (suc w.place) m.stamp u.stamp && same_on (suc w.place) m.values u.values && eqb m.cost u.cost
 
 abbrev pub on_back : View → Ordering → Unit → Message → Decision
-on_back w o u m = cond (not_less o) (cond (is_cpa_out w u m) (resume w (take_bound m u)) (refused 11)) (quiet u)
+on_back w o u m = cond (is_ge o) (cond (is_cpa_out w u m) (resume w (take_bound m u)) (refused 11)) (quiet u)
 
 -- 01: "Compare stamps on units 1 to i." A lower sender's cpa goes down.
 unfoldable pub on_cpa : View → Unit → Message → Decision

@@ -1,9 +1,9 @@
 -- Parts of a step that its proofs speak of: small ones, and each test with what either answer leads to. Nobody has to believe these: Step has
 -- the same.
 -- Assumes nothing.
-use Rattle.std.specs.Prelude.{ℕ, suc, ◌-◌, Bool, false, cond, List, eqb, get_or, set}
+use Rattle.std.specs.Prelude.{ℕ, suc, ◌-◌, Bool, false, cond, List, eqb, get_or, set, Some}
 use Rattle.base.specs.Sums.{sum_from}
-use Rattle.costs.specs.{declared.Cost.Cost, declared.Cost.TheVariants.Of, Cost.◌⊕◌, Instance.View, Bounds.cost_with}
+use Rattle.costs.specs.{Cost.Cost, Cost.◌⊕◌, Instance.View, Bounds.cost_with}
 use Rattle.message.specs.{declared.Message.Message, declared.Kind.Kind, Message.no_message}
 use Rattle.rules.specs.{declared.Unit.Unit, declared.Held.Held, declared.Sending.Sending, declared.Plan.TheVariants.Nothing}
 use Rattle.rules.specs.State.{unit, with_threshold, with_best, with_estimates, with_counter, compare_on}
@@ -19,7 +19,7 @@ is_last w = eqb (suc w.place) w.n
 
 -- the cost with own value v
 abbrev pub cost_at : View → ℕ → Unit → Cost
-cost_at w v u = Of u.cost ⊕ cost_with w u.values w.place v
+cost_at w v u = Some u.cost ⊕ cost_with w u.values w.place v
 
 -- the unit with what is held of it and these estimates
 abbrev pub holding : Held → List ℕ → Unit

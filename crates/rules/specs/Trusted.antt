@@ -1,10 +1,10 @@
 -- What a unit does on what is known to be good: a run checks its table once and knows h of its values, and its units send what can be read. Nobody
 -- has to believe it: on what a step accepts it is the step, `trusted_steps` of Laws/Trusted, and a run hands it nothing else (runs/specs/Trusted).
 -- Assumes nothing.
-use Rattle.std.specs.Prelude.{ℕ, pred, ◌*◌, ◌-◌, Bool, cond, ◌&&◌, ◌||◌, List, [], ltb, leb, eqb, get_or, length}
-use Rattle.base.specs.Limits.{sending_size, message_size}
+use Rattle.std.specs.Prelude.{ℕ, pred, ◌*◌, ◌-◌, Bool, cond, ◌&&◌, ◌||◌, List, [], ltb, leb, eqb, get_or, length, Result, Ok, Err}
+use Rattle.base.specs.{declared.Refusal.Refusal, Limits.sending_size, Limits.message_size, Refusal.number_of}
 use Rattle.costs.specs.{declared.Seat.Seat, Instance.view_knowing}
-use Rattle.message.specs.{declared.Message.Message, declared.Kind.Kind, declared.Read.Read, declared.Read.TheVariants.Good, declared.Read.TheVariants.Refused, Message.is_unit, Message.Packet, Unpack.unpack_of}
+use Rattle.message.specs.{declared.Message.Message, declared.Kind.Kind, Message.is_unit, Message.Packet, Unpack.unpack_of}
 use Rattle.rules.specs.{declared.Unit.Unit, declared.Sending.Sending, Send.packets, State.fresh, State.in_range, Calls.start}
 use Rattle.rules.specs.Step.{Decision, refused, respond}
 
@@ -31,13 +31,13 @@ start_to seat costs ahead = cond (can_step seat.own seat.n seat.sizes fresh) (st
 unfoldable pub in_range_at : Seat → List ℕ → List ℕ → Unit → Bool
 in_range_at seat costs ahead u = is_unit 16 seat.own && in_range seat.sizes (view_knowing seat costs ahead) u
 
-abbrev pub on_known : Seat → List ℕ → List ℕ → Unit → Read → Message → Decision
-on_known seat costs ahead u (Good k) m = respond_to seat costs ahead k u m
-on_known seat costs ahead u (Refused r) m = refused r
+abbrev pub on_known : Seat → List ℕ → List ℕ → Unit → Result (Kind × Message) Refusal → Decision
+on_known seat costs ahead u (Ok (k, m)) = respond_to seat costs ahead k u m
+on_known seat costs ahead u (Err r) = refused (number_of r)
 
 -- 13; then 8 and 9 of the packet; then 5 and 9, and what a step gives
 unfoldable pub trusted_out : Seat → Unit → List ℕ → List ℕ → List ℕ → ℕ → Decision
-trusted_out seat u costs ahead bytes room = let p = unpack_of bytes in cond (ltb room sending_size) (refused 13) (on_known seat costs ahead u p.answer p.message)
+trusted_out seat u costs ahead bytes room = cond (ltb room sending_size) (refused 13) (on_known seat costs ahead u (unpack_of bytes))
 
 -- What was decided is sent: by one of at most 16 units, and where all of it fits into the bytes that there are; else nothing.
 abbrev pub can_send : Seat → Sending → ℕ → Bool

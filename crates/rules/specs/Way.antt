@@ -1,13 +1,15 @@
 -- The way of a message: whether it changes so little that a run need not carry the whole state through a step. Nobody has to believe it: a unit
 -- decides what the way says, `way_decides` of Laws/Ways. Assumes nothing.
-use Rattle.std.specs.Prelude.{ℕ, ◌+◌, ◌-◌, Bool, cond, ◌&&◌, List, [], ltb, leb, get_or, set}
+use Rattle.std.specs.Prelude.{ℕ, ◌+◌, ◌-◌, Bool, cond, ◌&&◌, List, [], ltb, leb, get_or, set, Result, Ok, Err}
+use Rattle.base.specs.declared.Refusal.{Refusal}
 use Rattle.base.specs.Sums.{sum_from}
 use Rattle.costs.specs.declared.Seat.{Seat}
 use Rattle.costs.specs.{Cost.as_number, Instance.View, Instance.view_knowing, Bounds.estimate}
-use Rattle.message.specs.{declared.Message.Message, declared.Read.Read, declared.Read.TheVariants.Good, declared.Read.TheVariants.Refused, Message.is_unit}
+use Rattle.message.specs.{declared.Kind.Kind, declared.Message.Message, Message.is_unit}
 use Rattle.message.specs.declared.Kind.TheVariants.{Cpa, Request, Estimate, Solution, Stop}
-use Rattle.rules.specs.{declared.Unit.Unit, declared.Way.Way, declared.Ordering.Ordering}
-use Rattle.rules.specs.declared.Ordering.TheVariants.{Less, Equal, Greater}
+use Rattle.rules.specs.{declared.Unit.Unit, declared.Way.Way}
+use Rattle.std.specs.declared.cmp.Ordering.{Ordering}
+use Rattle.std.specs.declared.cmp.Ordering.TheVariants.{Less, Equal, Greater}
 use Rattle.rules.specs.declared.Way.TheVariants.{Quiet, Reply, Follow, Store, Lower, Whole}
 use Rattle.rules.specs.State.{zeros, with_threshold, with_best, compare_on, same_on}
 use Rattle.rules.specs.Step.{Decision, accepted, quiet, reply}
@@ -31,17 +33,17 @@ estimate_way Less below = Quiet
 estimate_way Equal below = cond below Store Whole
 estimate_way Greater below = Whole
 
-abbrev pub way_by : ℕ → ℕ → Read → Unit → Message → Way
-way_by own n (Good Cpa) u m = Whole
-way_by own n (Good Request) u m = request_way (compare_on (own - 1) m.stamp u.threshold)
-way_by own n (Good Estimate) u m = estimate_way (compare_on own m.stamp u.threshold) (stays_below own n u m)
-way_by own n (Good Solution) u m = cond (ltb m.bound u.bound) Lower Quiet
-way_by own n (Good Stop) u m = Whole
-way_by own n (Refused r) u m = Whole
+abbrev pub way_by : ℕ → ℕ → Kind → Unit → Message → Way
+way_by own n Cpa u m = Whole
+way_by own n Request u m = request_way (compare_on (own - 1) m.stamp u.threshold)
+way_by own n Estimate u m = estimate_way (compare_on own m.stamp u.threshold) (stays_below own n u m)
+way_by own n Solution u m = cond (ltb m.bound u.bound) Lower Quiet
+way_by own n Stop u m = Whole
 
--- one of at most 16 units, and from one of 16
-unfoldable pub way_of : Seat → Read → Unit → Message → Way
-way_of seat read u m = cond (is_unit seat.n seat.own && leb seat.n 16 && is_unit 16 m.sender) (way_by seat.own seat.n read u m) Whole
+-- read, by one of at most 16 units, and from one of 16
+unfoldable pub way_of : Seat → Result (Kind × Message) Refusal → Unit → Way
+way_of seat (Ok (k, m)) u = cond (is_unit seat.n seat.own && leb seat.n 16 && is_unit 16 m.sender) (way_by seat.own seat.n k u m) Whole
+way_of seat (Err r) u = Whole
 
 -- what a unit decides, told by the way; o where it does not tell
 abbrev pub by_way : Way → View → Unit → Message → Decision → Decision

@@ -5,8 +5,9 @@ use message::Message;
 
 // 01: "A unit's state keeps its threshold stamp, its best bound and lotting, its estimates, its paper, its own counter and
 // whether it has stopped." The paper out is the cpa in stamp, values and cost; the own value 0 means that none is out.
+// C lends it, with its arrays of 16 places and the numbers that stand for none.
 #[repr(C)]
-#[derive(Clone, Copy)]
+#[derive(Clone, Copy, Debug, PartialEq, Eq)]
 pub struct Unit {
     pub threshold: [u8; 16],
     pub bound: u32,
@@ -19,8 +20,8 @@ pub struct Unit {
     pub stopped: bool,
 }
 
-// A unit's state without its estimates, which assigning and backtracking clear. A cpa that comes in is worked on as this, as less is copied.
-#[derive(Clone, Copy)]
+// A unit's state without its estimates, which assigning and backtracking clear. A cpa that comes in is worked on as this, as less is copied. Not a part of `Unit`, whose layout is C's.
+#[derive(Clone, Copy, Debug, PartialEq, Eq)]
 pub struct Held {
     pub threshold: [u8; 16],
     pub bound: u32,
@@ -32,17 +33,9 @@ pub struct Held {
     pub stopped: bool,
 }
 
-// How two stamps compare.
-#[derive(Clone, Copy)]
-pub enum Ordering {
-    Less,
-    Equal,
-    Greater,
-}
-
 // What a step sends: nothing; the cpa to the next unit with a request to every later one; the cpa to the unit before, or
 // from unit 1 a stop to all others, and solutions behind it if unit n improved; an estimate.
-#[derive(Clone, Copy)]
+#[derive(Clone, Copy, Debug, PartialEq, Eq)]
 pub enum Plan {
     Nothing,
     Forward,
@@ -52,7 +45,7 @@ pub enum Plan {
 
 // How a message goes where it changes little: the state stays; the same, and an estimate is sent; the threshold becomes the message's
 // stamp, and an estimate is sent; its cost is stored as an estimate; its bound and best are taken. Or `Whole`: what it does is not said.
-#[derive(Clone, Copy)]
+#[derive(Clone, Copy, Debug, PartialEq, Eq)]
 pub enum Way {
     Quiet,
     Reply,
@@ -71,7 +64,8 @@ pub struct Sending {
 }
 
 // What a unit decides: a refusal with the state as lent, or the new state, what is sent and how many records were written. As in
-// `Sending`, what is large stands first, where a copy of it is quick.
+// `Sending`, what is large stands first, where a copy of it is quick. No Result: a refusal hands the state back too, and its number goes on into C's
+// `Outcome`.
 #[derive(Clone, Copy)]
 pub struct Decided {
     pub unit: Unit,
@@ -80,9 +74,9 @@ pub struct Decided {
     pub records: u8,
 }
 
-// What making a unit and a step hand back beside the bytes.
+// What making a unit and a step hand back beside the bytes; C is handed it as it is, so what is refused is a number.
 #[repr(C)]
-#[derive(Clone, Copy)]
+#[derive(Clone, Copy, Debug, PartialEq, Eq)]
 pub struct Outcome {
     pub refusal: u8,
     pub unit: Unit,
@@ -90,9 +84,9 @@ pub struct Outcome {
     pub records: u8,
 }
 
-// What a step in place hands back beside the state and the bytes.
+// What a step in place hands back beside the state and the bytes, for C too.
 #[repr(C)]
-#[derive(Clone, Copy)]
+#[derive(Clone, Copy, Debug, PartialEq, Eq)]
 pub struct Report {
     pub refusal: u8,
     pub sent: u8,

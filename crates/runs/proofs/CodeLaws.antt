@@ -8,16 +8,17 @@
 --     make-checks, first_step, begins          making
 -- Each by the definitions' tests, and by the laws of `costs` and `unit` about gathered costs and steps. Assumes nothing.
 use Prim.Native.Nat.{ℕ, zero, suc, pred, ◌+◌, ◌*◌, ◌-◌, ◌≤◌, ◌<◌}
-use Rattle.std.specs.Prelude.{◌≡◌, Bool, ltb, leb, eqb, get_or, set, drop}
+use Rattle.std.specs.Prelude.{◌≡◌, Bool, ltb, leb, eqb, get_or, set}
+use Rattle.std.specs.Prelude.{Result as Gathering, Ok, Err}
+use Rattle.std.specs.Result.{result_unwrap_or}
 use Rattle.std.proofs.Math.Path.{refl, sym, ap}
 use Rattle.std.proofs.Common.{◌∙◌, subst, arith}
 use Rattle.std.proofs.Math.Bool.{true, false, cond}
 use mathlib.Core.List.{List, [], ◌∷◌}
-use Rattle.std.proofs.Math.Nat.{sub-zero}
 use Rattle.std.proofs.Math.ListN.{length, take, replicate, length-replicate}
 use Rattle.std.proofs.Math.Seq.{paste}
 use borrow.Author.Tests.{lt-ltb, le-ltb, ltb-false, le-leb, lt-leb, leb-true, leb-false, eqb-true}
-use Rattle.base.specs.Refusal.{or_else}
+use Rattle.base.specs.Refusal.{answered, or_else}
 use Rattle.base.specs.Shape.{is_value}
 use Rattle.base.specs.Refusal.Laws.{or_left, or_right, or_first}
 use Rattle.base.specs.Limits.{pool_cells, pool_size, sending_size, message_size, costs_size}
@@ -29,6 +30,7 @@ use Rattle.costs.specs.Cost.{as_number}
 use Rattle.costs.specs.Bounds.{cost_with}
 use Rattle.costs.specs.Order.{place_tried}
 use Rattle.base.specs.declared.Length.{Length}
+use Rattle.base.specs.declared.Refusal.{Refusal}
 use Rattle.costs.specs.Gather.{sizes_in, gather_refusal, gather_of, gather_into}
 use Rattle.costs.specs.Gathered.{gathered}
 use Rattle.costs.specs.Gather.Sizes.{length_sizes, accepted-sizes-first, accepted-sizes_good}
@@ -229,9 +231,14 @@ module _ (s : List ℕ) (own : ℕ) where
       go false e = omega arith
 
   -- the part of the buffer that is lent
-  pub lent-part : (out : List ℕ) (g : Length) → g ≡ gather_of s own costs_size → out ≡ gather_into s own (replicate costs_size 0) → take (g.length - 0) (drop 0 out) ≡ lent_of s own
+  pub lent-part : (out : List ℕ) (g : Length) → g ≡ gather_of s own costs_size → out ≡ gather_into s own (replicate costs_size 0) → take g.length out ≡ lent_of s own
   unfolding lent_of
-  lent-part out g e f = rw (sub-zero, e, f)
+  lent-part out g e f = rw (e, f)
+
+-- how many bytes were gathered, 0 where gathering refused
+pub counted : (r : Gathering ℕ Refusal) → result_unwrap_or r 0 ≡ (answered r).length
+counted (Ok count) = refl
+counted (Err r) = refl
 
 -- ---- of one of the n units of a good stream, in front of a buffer of 7,712 bytes or more
 
@@ -242,8 +249,8 @@ module _ (s : List ℕ) (ok : Accepted s) (own : ℕ) (first : 1 ≤ own) (last 
   pub lent_length : (room : ℕ) (g : Length) → costs_size ≤ room → g ≡ gather_of s own room → g.length ≡ length (gathered s own)
   lent_length room g h e = rw (e, gather_enough s ok own first last room h)
 
-  pub lent_front : (l out : List ℕ) (g : Length) → costs_size ≤ length l → g ≡ gather_of s own (length l) → out ≡ gather_into s own l → take (g.length - 0) (drop 0 out) ≡ gathered s own
-  lent_front l out g h e f = rw (sub-zero, e, f) (gather_front s ok own first last l h)
+  pub lent_front : (l out : List ℕ) (g : Length) → costs_size ≤ length l → g ≡ gather_of s own (length l) → out ≡ gather_into s own l → take g.length out ≡ gathered s own
+  lent_front l out g h e f = rw (e, f) (gather_front s ok own first last l h)
 
   -- so these are what a unit is lent
   pub lent_is : lent_of s own ≡ gathered s own
@@ -251,7 +258,7 @@ module _ (s : List ℕ) (ok : Accepted s) (own : ℕ) (first : 1 ≤ own) (last 
   lent_is =
       let blank : List ℕ = replicate costs_size 0 in
       let e : length blank ≡ costs_size = length-replicate {A = ℕ} costs_size 0 in
-      sym (ap (λ k. take k (gather_into s own blank)) (sub-zero (gather_of s own costs_size).length)) ∙ lent_front blank (gather_into s own blank) (gather_of s own costs_size) (omega (arith, e)) (ap (gather_of s own) (sym e)) refl
+      lent_front blank (gather_into s own blank) (gather_of s own costs_size) (omega (arith, e)) (ap (gather_of s own) (sym e)) refl
 
 module _ (order : ValueOrder) (s : List ℕ) (ok : Accepted s) (us : List UnitState) (own : ℕ) (first : 1 ≤ own) (last : own ≤ units_of s) (state : unit_in_range order s us (pred own) ≡ true) (bytes : List ℕ) (room : ℕ) (fits : sending_size ≤ room) where
   pub passes : Passed order (unit_at us (pred own)) own (units_of s) (sizes_in s) (gathered s own) room
@@ -279,8 +286,7 @@ module _ (order : ValueOrder) (s : List ℕ) (ok : Accepted s) (us : List UnitSt
 pub step_numbered : (order : ValueOrder) (s : List ℕ) (us : List UnitState) (own : ℕ) (bytes : List ℕ) → Numbered (step_from8 order s us own bytes)
 unfolding step_from8
 step_numbered order s us own bytes =
-    let p = parse_for (units_of s) (sizes_in s) own bytes in
-    read_numbered (view_by order (instance_of s) (pred own)) (unit_at us (pred own)) p.answer p.message (parse_numbered (units_of s) (sizes_in s) own bytes)
+    read_numbered (view_by order (instance_of s) (pred own)) (unit_at us (pred own)) (parse_for (units_of s) (sizes_in s) own bytes) (parse_numbered (units_of s) (sizes_in s) own bytes)
 
 -- the step of `unit`, lent what the stream says
 pub step-told : (order : ValueOrder) (s : List ℕ) (own : ℕ) (u : UnitState) → Stepping order s own u → (n : ℕ) (sizes costs bytes before after : List ℕ) (r : Outcome) → n ≡ units_of s → sizes ≡ sizes_in s → costs ≡ gathered s own

@@ -1,6 +1,6 @@
 -- The delivery of the oldest message where it changes little: what the way of the message says is what the delivery gives.
 -- From the step that trusts: as it is not refused, the unit decides by the message's kind. Assumes nothing.
-use Rattle.std.specs.Prelude.{ℕ, suc, pred, ◌+◌, ◌*◌, ◌-◌, ◌≤◌, ◌<◌, ◌≡◌, ◌⊎◌, Bool, true, false, cond, List, [], ◌∷◌, ◌++◌, length, get_or, set, take, drop, replicate}
+use Rattle.std.specs.Prelude.{ℕ, suc, pred, ◌+◌, ◌*◌, ◌-◌, ◌≤◌, ◌<◌, ◌≡◌, ◌⊎◌, Bool, true, false, cond, List, [], ◌∷◌, ◌++◌, length, get_or, set, take, drop, replicate, Ok}
 use Rattle.std.proofs.Math.Path.{refl, sym, ap}
 use Rattle.std.proofs.Common.{◌∙◌, subst, ⊎_elim, append-nil, append_assoc, arith, length-drop, take-append-drop, drop-drop}
 use Rattle.std.proofs.lemmas.List.{length-replicate, set-get_or}
@@ -18,9 +18,6 @@ use Rattle.costs.specs.Gathered.{gathered}
 use Rattle.message.specs.declared.Kind.{Kind}
 use Rattle.message.specs.declared.Kind.TheVariants.{Estimate}
 use Rattle.message.specs.declared.Message.{Message}
-use Rattle.message.specs.declared.Parsed.{Parsed}
-use Rattle.message.specs.declared.Read.{Read}
-use Rattle.message.specs.declared.Read.TheVariants.{Good, Refused}
 use Rattle.message.specs.Message.{Packet}
 use Rattle.message.specs.Sized.{Sized}
 use Rattle.message.specs.Decode.{put_into}
@@ -45,7 +42,7 @@ use Rattle.rules.specs.Trusted.{on_known, trusted_out, can_send, send_to}
 use Rattle.rules.specs.Way.{way_of, by_way, reply_to, changed_by}
 use Rattle.rules.specs.Laws.Range.{SizedUnit}
 use Rattle.rules.specs.Laws.Trusted.{seat_at, trusted_known, trusted_on, send_all, can_send_lem}
-use Rattle.rules.specs.Laws.Ways.{way_decides, reply_is, store-sender, unrefused_by_kind, way_unread}
+use Rattle.rules.specs.Laws.Ways.{way_decides, reply_is, store-sender, unrefused_by_kind}
 use Rattle.runs.specs.declared.Count.{Count}
 use Rattle.runs.specs.declared.Core.{Core}
 use Rattle.runs.specs.declared.Network.{Network}
@@ -77,7 +74,7 @@ one_sent pool at m out z fits =
     let front : take message_size (laid (packet Estimate m ∷ []) out) ≡ encode Estimate m = sent_front (packet Estimate m ∷ []) out (wide_one Estimate m z) ∙ append-nil (encode Estimate m) in
     rw (front, (put-fits Estimate m pool at fits).1, length_encode Estimate m z)
 
-module _ {order : ValueOrder} {u : UnitState} {own n : ℕ} {sizes costs ahead pool : List ℕ} {used : ℕ} (t : Oldest order u own n sizes costs ahead pool used) (arrays : SizedUnit u) (p : Parsed) (read : p ≡ unpack_of (take message_size (drop 0 pool))) where
+module _ {order : ValueOrder} {u : UnitState} {own n : ℕ} {sizes costs ahead pool : List ℕ} {used : ℕ} (t : Oldest order u own n sizes costs ahead pool used) (arrays : SizedUnit u) (k : Kind) (m : Message) (read : Ok (k, m) ≡ unpack_of (take message_size (drop 0 pool))) where
   abbrev blank : List ℕ
   blank = replicate sending_size 0
 
@@ -96,19 +93,13 @@ module _ {order : ValueOrder} {u : UnitState} {own n : ℕ} {sizes costs ahead p
   unrefused : (outcome_of n (pred own) u decision).refusal ≡ 0
   unrefused = oldest_unrefused t blank (bytes_of n (pred own) blank decision) fits (outcome_of n (pred own) u decision) refl refl arrays
 
-  by_kind_lem : (k : Kind) → p.answer ≡ Good k → decision ≡ by_kind view k u p.message
-  by_kind_lem k e =
-      let f = trusted_on seat u costs ahead (take message_size (drop 0 pool)) (length blank) fits p read k e in
-      f ∙ unrefused_by_kind seat costs ahead k u p.message n (pred own) (ap (λ (o : Decision). (outcome_of n (pred own) u o).refusal) (sym f) ∙ unrefused)
+  by_kind_lem : decision ≡ by_kind view k u m
+  by_kind_lem =
+      let f = trusted_on seat u costs ahead (take message_size (drop 0 pool)) (length blank) fits (Ok (k, m)) read k m refl in
+      f ∙ unrefused_by_kind seat costs ahead k u m n (pred own) (ap (λ (o : Decision). (outcome_of n (pred own) u o).refusal) (sym f) ∙ unrefused)
 
-  by_way_lem : decision ≡ by_way (way_of seat p.answer u p.message) view u p.message decision
-  by_way_lem = go p.answer refl
-    where
-      go : (r : Read) → p.answer ≡ r → decision ≡ by_way (way_of seat r u p.message) view u p.message decision
-      go (Good k) e =
-          let f = by_kind_lem k e in
-          f ∙ way_decides seat costs ahead k u p.message ∙ ap (λ (o : Decision). by_way (way_of seat (Good k) u p.message) view u p.message o) (sym f)
-      go (Refused r) e = ap (λ (x : Way). by_way x view u p.message decision) (sym (way_unread seat r u p.message))
+  by_way_lem : decision ≡ by_way (way_of seat (Ok (k, m)) u) view u m decision
+  by_way_lem = by_kind_lem ∙ way_decides seat costs ahead k u m ∙ ap (λ (o : Decision). by_way (way_of seat (Ok (k, m)) u) view u m o) (sym by_kind_lem)
 
   -- what the unit decides is handed over
   handed : (o : Decision) → decision ≡ o → (after : List ℕ)
@@ -133,12 +124,12 @@ module _ {order : ValueOrder} {u : UnitState} {own n : ℕ} {sizes costs ahead p
       omega (arith, length_closed pool used 0 here (omega (arith, few, room)))
 
   -- an estimate is sent
-  answering : (v : UnitState) → decision ≡ accepted v (reply view p.message) [] → (m : Message) → m ≡ (reply view p.message).message → Sized m → (after : List ℕ)
-      → after ≡ put_into Estimate m (close_gap pool 0 (message_size * used)) (message_size * (used - 1)) → Handed t (short_outcome v 1) after
+  answering : (v : UnitState) → decision ≡ accepted v (reply view m) [] → (sent : Message) → sent ≡ (reply view m).message → Sized sent → (after : List ℕ)
+      → after ≡ put_into Estimate sent (close_gap pool 0 (message_size * used)) (message_size * (used - 1)) → Handed t (short_outcome v 1) after
   unfolding packets
-  answering v e m f z after g =
-      handed (accepted v (reply view p.message) []) e after
-      (g ∙ sym (one_sent (close_gap pool 0 (message_size * used)) (message_size * (used - 1)) m blank z behind)
+  answering v e sent f z after g =
+      handed (accepted v (reply view m) []) e after
+      (g ∙ sym (one_sent (close_gap pool 0 (message_size * used)) (message_size * (used - 1)) sent blank z behind)
       ∙ ap (λ (x : Message). paste (close_gap pool 0 (message_size * used)) (message_size * (used - 1)) (laid (packet Estimate x ∷ []) blank) message_size) f)
 
   -- ---- the whole way: what the unit decided is sent on
@@ -151,12 +142,12 @@ module _ {order : ValueOrder} {u : UnitState} {own n : ℕ} {sizes costs ahead p
   laid_behind : (ps : List Packet) (closed out : List ℕ) (at : ℕ) → length (encode_all ps) ≡ message_size * length ps → take at closed ++ laid ps (drop at closed) ≡ paste closed at (laid ps out) (message_size * length ps)
   laid_behind ps closed out at w = rw (sent_front ps out w, laid_is ps (drop at closed), drop-drop (message_size * length ps) at closed, append_assoc (take at closed) (encode_all ps) (drop (at + message_size * length ps) closed))
 
-  module _ (d : Decided) (is : d ≡ decided_of u (on_known seat costs ahead u p.answer p.message)) (sent : ℕ) (after : List ℕ) (on : SentOn seat d.sending pool used sent after) where
+  module _ (d : Decided) (is : d ≡ decided_of u (on_known seat costs ahead u (Ok (k, m)))) (sent : ℕ) (after : List ℕ) (on : SentOn seat d.sending pool used sent after) where
     abbrev closed : List ℕ
     closed = close_gap pool 0 (message_size * used)
 
-    told : decision ≡ on_known seat costs ahead u p.answer p.message
-    told = trusted_known seat u costs ahead (take message_size (drop 0 pool)) (length blank) fits p read
+    told : decision ≡ on_known seat costs ahead u (Ok (k, m))
+    told = trusted_known seat u costs ahead (take message_size (drop 0 pool)) (length blank) fits (Ok (k, m)) read
 
     placed : Placed seat
     placed =
@@ -177,7 +168,7 @@ module _ {order : ValueOrder} {u : UnitState} {own n : ℕ} {sizes costs ahead p
         rw (← pred_sub own) (omega (arith, l, length-drop (message_size * (used - 1)) closed, length_closed pool used 0 here (omega (arith, few, long))))
 
     pub whole_handed : Handed t whole_outcome after
-    whole_handed = go (on_known seat costs ahead u p.answer p.message) told is
+    whole_handed = go (on_known seat costs ahead u (Ok (k, m))) told is
       where
         go : (o : Decision) → decision ≡ o → d ≡ decided_of u o → Handed t whole_outcome after
         go (refused x) e f =
@@ -204,34 +195,34 @@ module _ {order : ValueOrder} {u : UnitState} {own n : ℕ} {sizes costs ahead p
 
   -- ---- the way of the message
 
-  module _ (way : Way) (is : way ≡ way_of seat p.answer u p.message) where
-    decided : (x : Way) → way ≡ x → decision ≡ by_way x view u p.message decision
-    decided x e = by_way_lem ∙ ap (λ (y : Way). by_way y view u p.message decision) (sym is ∙ e)
+  module _ (way : Way) (is : way ≡ way_of seat (Ok (k, m)) u) where
+    decided : (x : Way) → way ≡ x → decision ≡ by_way x view u m decision
+    decided x e = by_way_lem ∙ ap (λ (y : Way). by_way y view u m decision) (sym is ∙ e)
 
     module _ (sent : ℕ) (after : List ℕ) where
       -- nothing was sent
-      still : (x : Way) (v : UnitState) → way ≡ x → by_way x view u p.message decision ≡ quiet v → (sent ≡ 0) × (after ≡ close_gap pool 0 (message_size * used)) → Handed t (short_outcome v sent) after
+      still : (x : Way) (v : UnitState) → way ≡ x → by_way x view u m decision ≡ quiet v → (sent ≡ 0) × (after ≡ close_gap pool 0 (message_size * used)) → Handed t (short_outcome v sent) after
       still x v e f q = rw q.0 (quietly v (decided x e ∙ f) after q.1)
 
       -- the estimate was
-      answered : (x : Way) (v : UnitState) → way ≡ x → by_way x view u p.message decision ≡ accepted v (reply view p.message) []
-          → (sent ≡ 1) × Sized (reply_to seat costs ahead p.message) × (after ≡ put_into Estimate (reply_to seat costs ahead p.message) (close_gap pool 0 (message_size * used)) (message_size * (used - 1))) → Handed t (short_outcome v sent) after
+      answered : (x : Way) (v : UnitState) → way ≡ x → by_way x view u m decision ≡ accepted v (reply view m) []
+          → (sent ≡ 1) × Sized (reply_to seat costs ahead m) × (after ≡ put_into Estimate (reply_to seat costs ahead m) (close_gap pool 0 (message_size * used)) (message_size * (used - 1))) → Handed t (short_outcome v sent) after
       answered x v e f q =
           let first = own_first order t.net.core t.stream short_open.passed.core n own (take message_size (drop 0 pool)) t.units t.named in
-          rw q.0 (answering v (decided x e ∙ f) (reply_to seat costs ahead p.message) (reply_is seat costs ahead p.message first) q.1 after q.2)
+          rw q.0 (answering v (decided x e ∙ f) (reply_to seat costs ahead m) (reply_is seat costs ahead m first) q.1 after q.2)
 
-      stored_is : way ≡ Store → changed_by Store p.message u ≡ stored p.message u
-      stored_is e = rw (store-sender seat p.answer u p.message (sym is ∙ e))
+      stored_is : way ≡ Store → changed_by Store m u ≡ stored m u
+      stored_is e = rw (store-sender seat k u m (sym is ∙ e))
 
-      pub heard : Passed way seat costs ahead p.message pool used sent after → Heard t way p.message sent after
+      pub heard : Passed way seat costs ahead m pool used sent after → Heard t way m sent after
       heard = go way refl
         where
-          go : (x : Way) → way ≡ x → Passed x seat costs ahead p.message pool used sent after → Heard t x p.message sent after
+          go : (x : Way) → way ≡ x → Passed x seat costs ahead m pool used sent after → Heard t x m sent after
           go Quiet e q = still Quiet u e refl q
           go Reply e q = answered Reply u e refl q
-          go Follow e q = answered Follow (with_threshold p.message.stamp u) e refl q
-          go Store e q = rw (stored_is e) (still Store (stored p.message u) e refl q)
-          go Lower e q = still Lower (with_best p.message.bound p.message.best u) e refl q
+          go Follow e q = answered Follow (with_threshold m.stamp u) e refl q
+          go Store e q = rw (stored_is e) (still Store (stored m u) e refl q)
+          go Lower e q = still Lower (with_best m.bound m.best u) e refl q
           go Whole e q = q.1
 
 pub record Turned {order : ValueOrder} {u : UnitState} {own n : ℕ} {sizes costs ahead pool : List ℕ} {used : ℕ} (t : Oldest order u own n sizes costs ahead pool used) (core : Core) (place : ℕ) (after : List ℕ) (next : Core) (sent : ℕ) : Type 0 where

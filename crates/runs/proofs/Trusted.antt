@@ -1,13 +1,16 @@
 -- A delivery that is known to be accepted, by the step that trusts what it is lent: its checks would have passed, its packet reads well, and what
 -- it sends fits, so that the step, the gap closed and what is sent put behind give what the delivery gives. From its refusal, 0. Assumes nothing.
 use Prim.Native.Nat.{ℕ, zero, suc, pred, ◌+◌, ◌*◌, ◌-◌, ◌≤◌}
-use Rattle.std.specs.Prelude.{◌≡◌, Bool, true, false, cond, List, leb, eqb, length, take, drop}
+use Rattle.std.specs.Prelude.{◌≡◌, Bool, true, false, cond, List, leb, eqb, length, take, drop, Result as Reading, Ok, Err}
 use Rattle.std.proofs.Math.Path.{refl}
 use Rattle.std.proofs.Common.{sym, ap, ◌∙◌, arith, leb-true, eqb-true}
 use Rattle.std.proofs.Math.Seq.{paste}
 use Rattle.std.proofs.lemmas.Bool.{eqb-false}
 use Rattle.base.specs.Bytes.Laws.{AllBytes}
+use Rattle.base.specs.declared.Refusal.{Refusal}
 use Rattle.base.specs.Limits.{pool_cells, sending_size, message_size}
+use Rattle.base.specs.Refusal.{number_of}
+use Rattle.base.specs.Refusal.Laws.{number_some}
 use Rattle.table.specs.Stream.{units_of}
 use Rattle.table.specs.StreamLaws.{accepted_units}
 use Rattle.costs.specs.declared.ValueOrder.{ValueOrder}
@@ -17,9 +20,10 @@ use Rattle.costs.specs.Gather.{sizes_in}
 use Rattle.costs.specs.Gathered.{gathered}
 use Rattle.costs.specs.Gather.Sizes.{length_sizes}
 use Rattle.message.specs.declared.Kind.{Kind}
-use Rattle.message.specs.declared.Read.{Read}
-use Rattle.message.specs.declared.Read.TheVariants.{Good, Refused}
+use Rattle.message.specs.declared.Message.{Message}
 use Rattle.message.specs.Decode.{parse_for}
+use Rattle.message.specs.RoundTrip.{unpack_parsed}
+use Rattle.message.specs.Unpack.{unpack_of}
 use Rattle.rules.specs.declared.Unit.{Unit as UnitState}
 use Rattle.rules.specs.declared.Outcome.{Outcome}
 use Rattle.rules.specs.Step.{Decision, refused}
@@ -27,7 +31,6 @@ use Rattle.rules.specs.Units.{unit_at}
 use Rattle.rules.specs.Calls.{outcome_of, bytes_of, step_out}
 use Rattle.rules.specs.Trusted.{trusted_out}
 use Rattle.rules.specs.Laws.Range.{SizedUnit}
-use Rattle.rules.specs.Laws.Refusals.{NumberedRead, parse_numbered}
 use Rattle.rules.specs.Laws.Trusted.{seat_at, trusted_steps}
 use Rattle.runs.specs.declared.Network.{Network}
 use Rattle.runs.specs.declared.Answer.{Answer}
@@ -40,10 +43,10 @@ use Rattle.runs.specs.Trusted.{Handed, Oldest}
 
 -- the step that trusts, lent what the stream says
 trusted_told : (order : ValueOrder) (s : List ℕ) (own : ℕ) (u : UnitState) (us : List UnitState) → unit_at us (pred own) ≡ u → Stepping order s own u → (n : ℕ) (sizes costs ahead bytes before after : List ℕ) (r : Outcome) → n ≡ units_of s
-    → sizes ≡ sizes_in s → costs ≡ gathered s own → Knows (lent_view order own n sizes costs) ahead → sending_size ≤ length before → (k : Kind) → (parse_for (units_of s) (sizes_in s) own bytes).answer ≡ Good k
+    → sizes ≡ sizes_in s → costs ≡ gathered s own → Knows (lent_view order own n sizes costs) ahead → sending_size ≤ length before → (k : Kind) (m : Message) → parse_for (units_of s) (sizes_in s) own bytes ≡ Ok (k, m)
     → r ≡ outcome_of n (pred own) u (trusted_out (seat_at order own n sizes) u costs ahead bytes (length before)) → after ≡ bytes_of n (pred own) before (trusted_out (seat_at order own n sizes) u costs ahead bytes (length before))
     → Stepped order s own u bytes before r after
-trusted_told order s own u us at g n sizes costs ahead bytes before after r units array lent knows fits k good e f =
+trusted_told order s own u us at g n sizes costs ahead bytes before after r units array lent knows fits k m good e f =
     step-told order s own u g n sizes costs bytes before after r units array lent fits (e ∙ ap (λ (o : Decision). outcome_of n (pred own) u o) same) (f ∙ ap (λ (o : Decision). bytes_of n (pred own) before o) same)
   where
     same : trusted_out (seat_at order own n sizes) u costs ahead bytes (length before) ≡ step_out order u own n sizes costs bytes (length before)
@@ -51,7 +54,7 @@ trusted_told order s own u us at g n sizes costs ahead bytes before after r unit
         let long : units_of s ≤ length (sizes_in s) = omega (arith, length_sizes s, (accepted_units s g.table).1) in
         let p = passes order s g.table us own g.first g.last (rw at g.state) bytes (length before) fits in
         let k' : Knows (lent_view order own (units_of s) (sizes_in s) (gathered s own)) ahead = rw (units, array, lent) at knows in
-        rw (units, array, lent) (trusted_steps (seat_at order own (units_of s) (sizes_in s)) u (gathered s own) ahead (length before) (rw at at p) long k' bytes k good)
+        rw (units, array, lent) (trusted_steps (seat_at order own (units_of s) (sizes_in s)) u (gathered s own) ahead (length before) (rw at at p) long k' bytes k m good)
 
 module _ (order : ValueOrder) (net : Network) (s pool : List ℕ) (cell : ℕ) (accepted : (deliver_of order net s pool cell).answer.refusal ≡ 0) where
   unrefused : deliver_refusal order net s pool cell ≡ 0
@@ -70,19 +73,19 @@ module _ (order : ValueOrder) (net : Network) (s pool : List ℕ) (cell : ℕ) (
 
   -- its packet reads well
   module _ (own : ℕ) (named : own ≡ receiver_of (units_of s) (cell_of pool cell)) where
-    unread : (r : ℕ) → (parse_for (units_of s) (sizes_in s) own (cell_of pool cell)).answer ≡ Refused r → step_from8 order s net.core.units own (cell_of pool cell) ≡ refused r
+    unread : (r : Refusal) → parse_for (units_of s) (sizes_in s) own (cell_of pool cell) ≡ Err r → step_from8 order s net.core.units own (cell_of pool cell) ≡ refused (number_of r)
     unfolding step_from8
     unread r e = rw e
 
-    reads : (k : Kind) × ((parse_for (units_of s) (sizes_in s) own (cell_of pool cell)).answer ≡ Good k)
-    reads = go (parse_for (units_of s) (sizes_in s) own (cell_of pool cell)).answer refl (parse_numbered (units_of s) (sizes_in s) own (cell_of pool cell))
+    reads : (k : Kind) × (m : Message) × (parse_for (units_of s) (sizes_in s) own (cell_of pool cell) ≡ Ok (k, m))
+    reads = go (parse_for (units_of s) (sizes_in s) own (cell_of pool cell)) refl
       where
-        go : (a : Read) → (parse_for (units_of s) (sizes_in s) own (cell_of pool cell)).answer ≡ a → NumberedRead a → (k : Kind) × ((parse_for (units_of s) (sizes_in s) own (cell_of pool cell)).answer ≡ Good k)
-        go (Good k) e f = (k, e)
-        go (Refused r) e f =
-            let z : r ≡ 0 =
+        go : (a : Reading (Kind × Message) Refusal) → parse_for (units_of s) (sizes_in s) own (cell_of pool cell) ≡ a → (k : Kind) × (m : Message) × (parse_for (units_of s) (sizes_in s) own (cell_of pool cell) ≡ Ok (k, m))
+        go (Ok (k, m)) e = (k, m, e)
+        go (Err r) e =
+            let z : number_of r ≡ 0 =
             ap (λ (o : Decision). (on_out net pool cell (units_of s) own o).answer.refusal) (sym (unread r e)) ∙ ap (λ (i : ℕ). (on_out net pool cell (units_of s) i (step_from8 order s net.core.units i (cell_of pool cell))).answer.refusal) named ∙ goes in
-            absurd (omega (arith, f, z))
+            absurd (number_some r z)
 
   -- ---- n and own as the code has them, and the cell's m bytes
 
@@ -96,13 +99,13 @@ module _ (order : ValueOrder) (net : Network) (s pool : List ℕ) (cell : ℕ) (
     cell_is : take m (drop (message_size * cell) pool) ≡ cell_of pool cell
     cell_is = rw size
 
-    good : (k : Kind) × ((parse_for (units_of s) (sizes_in s) own (take m (drop (message_size * cell) pool))).answer ≡ Good k)
+    good : (k : Kind) × (read : Message) × (parse_for (units_of s) (sizes_in s) own (take m (drop (message_size * cell) pool)) ≡ Ok (k, read))
     good = rw size (reads own named_is)
 
     steps : Stepped order s own u (take m (drop (message_size * cell) pool)) before r out
     steps =
         trusted_told order s own u net.core.units (ap (λ (k : ℕ). unit_at net.core.units k) (pred_sub own) ∙ sym at) (stepping order net.core s checks.passed.core n own (take m (drop (message_size * cell) pool)) units named u at) n sizes costs ahead (take m (drop (message_size * cell) pool))
-        before out r units array lent knows fits good.0 good.1 told left
+        before out r units array lent knows fits good.0 good.1 good.2 told left
 
     unrefused_step : r.refusal ≡ 0
     unrefused_step = go (eqb r.refusal 0) refl
@@ -149,3 +152,10 @@ module _ {order : ValueOrder} {u : UnitState} {own n : ℕ} {sizes costs ahead p
   oldest_handed after e =
       let g = trusted_gives order t.net t.stream pool 0 t.accepted n own message_size t.units refl t.named u t.unit sizes costs ahead before out t.array t.lent t.knows fits r told left arrays t.bytes in
       (g.0, e ∙ rw t.count g.1, oldest_room)
+
+-- the message that waits longest can be read
+pub oldest_readable : {order : ValueOrder} {u : UnitState} {own n : ℕ} {sizes costs ahead pool : List ℕ} {used : ℕ} (t : Oldest order u own n sizes costs ahead pool used)
+    → (k : Kind) × (m : Message) × (unpack_of (take message_size (drop 0 pool)) ≡ Ok (k, m))
+oldest_readable {order} {u} {own} {n} {sizes} {costs} {ahead} {pool} t =
+    let g = reads order t.net t.stream pool 0 t.accepted own (t.named ∙ rw t.units) in
+    (g.0, g.1, unpack_parsed (units_of t.stream) (sizes_in t.stream) own (take message_size (drop 0 pool)) g.0 g.1 g.2 ∙ g.2)

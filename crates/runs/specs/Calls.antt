@@ -84,8 +84,7 @@ receiver_of n bytes = cond (is_unit n (get_or bytes 2 0)) (get_or bytes 2 0) 1
 -- 01: "the step's from 8 on"
 unfoldable pub step_from8 : ValueOrder → List ℕ → List Unit → ℕ → List ℕ → Decision
 step_from8 order stream units own bytes =
-    let p = parse_for (units_of stream) (sizes_in stream) own bytes in
-    on_read (view_by order (instance_of stream) (pred own)) (unit_at units (pred own)) p.answer p.message
+    on_read (view_by order (instance_of stream) (pred own)) (unit_at units (pred own)) (parse_for (units_of stream) (sizes_in stream) own bytes)
 
 abbrev pub refused_delivery : Network → List ℕ → ℕ → Result
 refused_delivery net pool r = record { answer = record { refusal = r; network = net }; pool = pool }

@@ -12,7 +12,7 @@ pub struct Count {
     pub high: u64,
 }
 
-// A count in decimal digits, as text: the bytes from `start` on.
+// A count in decimal digits, as text: the bytes from `start` on. C is handed it as it is.
 #[repr(C)]
 #[derive(Clone, Copy)]
 pub struct Text {
@@ -37,7 +37,7 @@ pub struct Network {
     pub used: u64,
 }
 
-// What making and a delivery give beside the pool's bytes.
+// What making and a delivery give beside the pool's bytes; C is handed it as it is.
 #[repr(C)]
 #[derive(Clone, Copy)]
 pub struct Answer {

@@ -4,14 +4,13 @@
 -- In order: the parts; the choices; the search picks their first least; places past the units; the whole search.
 -- Assumes nothing.
 use Prim.Native.Nat.{ℕ, zero, suc, ◌+◌, ◌≤◌, ◌<◌}
-use Rattle.std.specs.Prelude.{◌≡◌, refl, Bool, true, false, List, ◌⊎◌, ◌≢◌, eqb, ltb, length, get_or, set, replicate}
+use Rattle.std.specs.Prelude.{◌≡◌, refl, Bool, true, false, List, ◌⊎◌, ◌≢◌, eqb, ltb, length, get_or, set, replicate, Some, None}
 use Rattle.std.proofs.Common.{sym, ap, ◌∙◌, inl, inr, length-set, get_or-set_same, get_or-set_other, ltb-true, ltb-false, eqb-true}
 use native.Mathlib.Omega.{arith}
 use Rattle.std.proofs.lemmas.List.{get_or-replicate}
 use Rattle.std.proofs.Math.ListN.{get_or-eq_default}
 use Rattle.std.proofs.lemmas.Bool.{eqb-false}
 use Rattle.base.specs.Limits.{NONE, total_limit}
-use Rattle.costs.specs.declared.Cost.TheVariants.{Of, Forbidden}
 use Rattle.costs.specs.Cost.{as_number}
 use Rattle.costs.specs.Cost.Laws.{number_most, number_below, number_is}
 use Rattle.costs.specs.declared.ValueOrder.TheVariants.{Ascending}
@@ -226,11 +225,11 @@ module _ (I : Instance) (sound : Sound I) where
             first = λ m a o. absurd (none m a);
           }
       go (inr h) =
-          let number : total I (best_of I).values ≢ Forbidden = number_below (total I (best_of I).values) (omega (arith, h.1, h.2)) in
+          let number : total I (best_of I).values ≢ None = number_below (total I (best_of I).values) (omega (arith, h.1, h.2)) in
           record {
             reported = inr (
               (λ i l. h.0.1 i (omega arith) l, total_permitted I (best_of I).values number),
-              number_is (total I (best_of I).values) number ∙ ap Of (sym h.1),
+              number_is (total I (best_of I).values) number ∙ ap Some (sym h.1),
               λ m a. best_picked.least m (any_extends m a),
             );
             first = λ m a o. h.3 m (any_extends m a) o;

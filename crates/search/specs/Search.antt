@@ -1,8 +1,9 @@
 -- What the two searches give. 01: ".. gives the least total with its first lotting in ascending order." 02: "If no lotting remains, stop and
 -- bench give *none* with best all zero." They differ in what they refuse alone.
 -- costs/specs/Least says of the answer, without a search, which one it is; specs/Best is the search. Assumes nothing.
-use Rattle.std.specs.Prelude.{ℕ, cond, List, ltb, eqb, replicate}
+use Rattle.std.specs.Prelude.{ℕ, cond, List, ltb, eqb, replicate, Result, Ok, Err}
 use Rattle.base.specs.Limits.{search_limit}
+use Rattle.base.specs.{Refusal.number_of, declared.Refusal.Refusal}
 use Rattle.table.specs.Stream.{stream_refusal}
 use Rattle.costs.specs.{Instance.Instance, Instance.instance_of, Bounds.prefix_count}
 use Rattle.search.specs.{declared.Found.Found, declared.Best.Best, Best.best_of}
@@ -14,6 +15,11 @@ refused_by k = record { refusal = k; total = 0; values = replicate 16 0 }
 
 abbrev pub found_best : Best → Found
 found_best b = record { refusal = 0; total = b.total; values = b.values }
+
+-- as C has it what a search found, or the refusal
+abbrev pub found_by : Result Best Refusal → Found
+found_by (Ok b) = found_best b
+found_by (Err r) = refused_by (number_of r)
 
 -- k is the refusal, or 0
 abbrev pub answer_by : ℕ → List ℕ → Found

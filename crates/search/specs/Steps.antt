@@ -2,7 +2,7 @@
 -- specs/Search go on by one value, one unit or one size.
 -- Assumes nothing.
 use Prim.Native.Nat.{ℕ, zero, suc, ◌+◌, ◌*◌, ◌-◌, ◌≤◌, ◌<◌}
-use Rattle.std.specs.Prelude.{◌≡◌, refl, Bool, true, false, cond, not, List, ◌∷◌, eqb, ltb, leb, length, get_or, set, replicate}
+use Rattle.std.specs.Prelude.{◌≡◌, refl, Bool, true, false, cond, not, List, ◌∷◌, eqb, ltb, leb, length, get_or, set, replicate, Some, None}
 use Rattle.std.proofs.Common.{sym, ◌∙◌, mul-le-mul, le_refl, zero-add, add-zero, mul-add, add-one, length-set, get_or-set_same, get_or-set_other}
 use Rattle.std.proofs.Math.Path.{ap}
 use Rattle.std.proofs.lemmas.Bool.{false≢true}
@@ -15,9 +15,7 @@ use Rattle.base.specs.Bytes.Laws.{u16_past}
 use Rattle.base.specs.Sums.{sum_from, sum_to}
 use Rattle.table.specs.Stream.{in_form_two, opening, units_of, unaries_in, unaries_at, pairs_at, Accepted}
 use Rattle.table.specs.StreamLaws.{opening-most, opening-two, form_two_lem, unaries_one, unaries_two, accepted_units, accepted_length, accepted-most}
-use Rattle.costs.specs.declared.Cost.{Cost}
-use Rattle.costs.specs.declared.Cost.TheVariants.{Of, Forbidden}
-use Rattle.costs.specs.Cost.{◌⊕◌, pair_cost, as_number}
+use Rattle.costs.specs.Cost.{Cost, ◌⊕◌, pair_cost, as_number}
 use Rattle.costs.specs.Cost.Laws.{◌⊑◌, le_trans, add_more, most_is}
 use Rattle.costs.specs.declared.ValueOrder.TheVariants.{Ascending}
 use Rattle.costs.specs.Instance.{Instance, instance_of, view_of, pair_start, in_pair, table_unary, unary_of, dom_of}
@@ -72,7 +70,7 @@ pub record Extending (s : List ℕ) (first : ℕ) (starts : List ℕ) (left leve
   pub sized : Sized s first (level + left)
   pub filled : Filled s 256 starts
   pub values : Within (instance_of s) level chosen
-  pub costs : Of cost ≡ cost_of (instance_of s) (pre level chosen)
+  pub costs : Some cost ≡ cost_of (instance_of s) (pre level chosen)
   pub small : cost ≤ total_limit
 
 -- at one value v of the next unit, which has d
@@ -124,7 +122,7 @@ best_of_values I (suc left) k d l b h e =
     (ap (λ (m : ℕ). in_turn (λ (v : ℕ) (a : Best). best_from I m (suc k) (set l k v) a) 1 (I.dom k) b) (sym q)
     ∙ ap (λ (m : ℕ). in_turn (λ (v : ℕ) (a : Best). best_from I (suc left - 1) m (set l k v) a) 1 (I.dom k) b) (sym (add-one k)))
 
-pub best_full : (I : Instance) (left k : ℕ) (l : List ℕ) (b : Best) (cost : ℕ) → left ≡ 0 → Of cost ≡ total I l → keep b cost l ≡ best_from I left k l b
+pub best_full : (I : Instance) (left k : ℕ) (l : List ℕ) (b : Best) (cost : ℕ) → left ≡ 0 → Some cost ≡ total I l → keep b cost l ≡ best_from I left k l b
 unfolding best_from
 best_full I left k l b cost e t = rw (e, ← t)
 
@@ -140,16 +138,16 @@ in_turn_same f v zero a e = refl
 in_turn_same f v (suc d) a e = rw (e v) (in_turn_same f (suc v) d a e)
 
 -- a forbidden cost counts as NONE, and no total is above it
-not_lower : (B : ℕ) (c : Cost) → B ≤ NONE → Of B ⊑ c → ltb (as_number c) B ≡ false
-not_lower B (Of n) most h = le-ltb n B h
-not_lower B Forbidden most h = le-ltb NONE B most
+not_lower : (B : ℕ) (c : Cost) → B ≤ NONE → Some B ⊑ c → ltb (as_number c) B ≡ false
+not_lower B (Some n) most h = le-ltb n B h
+not_lower B None most h = le-ltb NONE B most
 
 -- a value more never costs less
 cost_rises : (I : Instance) (k v : ℕ) (l : List ℕ) → cost_of I (pre k l) ⊑ cost_of I (pre (suc k) (set l k v))
 cost_rises I k v l = rw (pre_set k k l v (omega arith)) (add_more (cost_of I (pre k l)) _)
 
 -- so all that begins with these values costs as much, and is never lower
-pub best_reached : (I : Instance) (left k : ℕ) (l : List ℕ) (b : Best) → k + left ≡ I.n → Of b.total ⊑ cost_of I (pre k l) → b.total ≤ NONE → best_from I left k l b ≡ b
+pub best_reached : (I : Instance) (left k : ℕ) (l : List ℕ) (b : Best) → k + left ≡ I.n → Some b.total ⊑ cost_of I (pre k l) → b.total ≤ NONE → best_from I left k l b ≡ b
 unfolding best_from
 best_reached I zero k l b n h most =
     let q : k ≡ I.n = omega arith in
@@ -157,7 +155,7 @@ best_reached I zero k l b n h most =
     rw (t, not_lower b.total (cost_of I (pre k l)) most h)
 best_reached I (suc left) k l b n h most =
     in_turn_same (λ (v : ℕ) (a : Best). best_from I left (suc k) (set l k v) a) 1 (I.dom k) b
-    (λ v. best_reached I left (suc k) (set l k v) b (omega arith) (le_trans (Of b.total) (cost_of I (pre k l)) (cost_of I (pre (suc k) (set l k v))) h (cost_rises I k v l)) most)
+    (λ v. best_reached I left (suc k) (set l k v) b (omega arith) (le_trans (Some b.total) (cost_of I (pre k l)) (cost_of I (pre (suc k) (set l k v))) h (cost_rises I k v l)) most)
 
 -- what is dropped has reached it
 pub dropped_reaches : (bounded r : Bool) {best cost : ℕ} → r ≡ cond bounded (leb best cost) false → not r ≡ false → best ≤ cost
@@ -200,8 +198,8 @@ module _ {s starts : List ℕ} {k d v : ℕ} {l : List ℕ} (x : Adding s starts
   unary_read =
       read ∙ rw (x.filled.unaries k x.inside) (unary_at s k v x.v1 (omega (arith, x.vd, x.size))) ∙ sym (ap (λ (f : ℕ → ℕ → ℕ). f k v) (instance_unary s))
 
-  pub cost_alone : Of number ≡ cost_with (view_of (instance_of s) k) l 0 v
-  cost_alone = ap Of unary_read ∙ sym (cost_none (view_of (instance_of s) k) l v)
+  pub cost_alone : Some number ≡ cost_with (view_of (instance_of s) k) l 0 v
+  cost_alone = ap Some unary_read ∙ sym (cost_none (view_of (instance_of s) k) l v)
 
   pub alone_small : number ≤ unary_limit
   alone_small = omega (arith, unary_read, (sound_of s x.accepted).unary_small k v)
@@ -217,15 +215,15 @@ module _ {s starts : List ℕ} {k d v : ℕ} {l : List ℕ} (x : Adding s starts
       ∙ rw (read, start, x.size) (cost_at_lem s i k (get_or l i 0) v h x.inside (x.values i h).0 (omega (arith, (x.values i h).1)) x.v1 (omega (arith, x.vd, x.size)))
 
   -- a forbidden pair
-  pub cost_ends : number ≡ forbidden_pair → Forbidden ≡ cost_with (view_of (instance_of s) k) l k v
+  pub cost_ends : number ≡ forbidden_pair → None ≡ cost_with (view_of (instance_of s) k) l k v
   cost_ends e = sym (cost_forbidden (view_of (instance_of s) k) l i k v h (pair_read ∙ ap pair_cost e))
 
   -- a pair that costs a number
   module _ (other : number ≡ forbidden_pair → ⊥) where
-    pair_number_lem : (view_of (instance_of s) k).pair i (get_or l i 0) v ≡ Of number
+    pair_number_lem : (view_of (instance_of s) k).pair i (get_or l i 0) v ≡ Some number
     pair_number_lem = pair_read ∙ rw (ne_eqb number forbidden_pair other)
 
-    pub cost-turn : (sum : ℕ) → Of sum ≡ cost_with (view_of (instance_of s) k) l i v → Of (sum + number) ≡ cost_with (view_of (instance_of s) k) l (i + 1) v
+    pub cost-turn : (sum : ℕ) → Some sum ≡ cost_with (view_of (instance_of s) k) l i v → Some (sum + number) ≡ cost_with (view_of (instance_of s) k) l (i + 1) v
     cost-turn sum e = sym (cost_more (view_of (instance_of s) k) l i v ∙ rw (pair_number_lem, ← e))
 
     pub cost_small : number ≤ pair_limit
@@ -257,7 +255,7 @@ extending_first s starts first n chosen z filled =
 
 module _ {s starts : List ℕ} {first left level cost : ℕ} {chosen : List ℕ} (x : Extending s first starts left level cost chosen) where
   -- full: its cost is its total
-  pub cost_is_total : left ≡ 0 → Of cost ≡ total (instance_of s) chosen
+  pub cost_is_total : left ≡ 0 → Some cost ≡ total (instance_of s) chosen
   cost_is_total e =
       let n : level ≡ (instance_of s).n = omega (arith, x.sized.units, instance_units s) in
       x.costs ∙ rw n (sym (total_prefix (instance_of s) chosen))
@@ -278,22 +276,22 @@ module _ {s starts : List ℕ} {first left level cost : ℕ} {chosen : List ℕ}
           (best_picks (instance_of s) (left - 1) (level + 1) (set chosen level v) b (omega (arith, x.sized.units)) (rw (length-set chosen level v) (omega (arith, x.sized.units, x.sized.most)))).below
 
       -- the cost with the next value
-      next-cost : cost_of (instance_of s) (pre (level + 1) (set chosen level v)) ≡ Of cost ⊕ cost_with (view_of (instance_of s) level) chosen level v
+      next-cost : cost_of (instance_of s) (pre (level + 1) (set chosen level v)) ≡ Some cost ⊕ cost_with (view_of (instance_of s) level) chosen level v
       next-cost =
           let next : pre (level + 1) (set chosen level v) ≡ v ∷ pre level chosen = rw add-one (pre_set_next level chosen v (omega (arith, x.sized.most))) in
           rw (next, x.costs) (sym (cost-next Ascending (instance_of s) level chosen v))
 
       -- which reaches the best total, as where it is forbidden
-      pub reached_next : (b : Best) (c : Cost) → b.total ≤ NONE → cost_with (view_of (instance_of s) level) chosen level v ≡ c → Of b.total ⊑ Of cost ⊕ c
+      pub reached_next : (b : Best) (c : Cost) → b.total ≤ NONE → cost_with (view_of (instance_of s) level) chosen level v ≡ c → Some b.total ⊑ Some cost ⊕ c
           → with_value (instance_of s) left level chosen v b ≡ b
       reached_next b c most e h =
           best_reached (instance_of s) (left - 1) (level + 1) (set chosen level v) b (omega (arith, x.sized.units, instance_units s)) (rw (next-cost, e) h) most
 
       -- or a number
-      pub extending_next : (more : ℕ) → 1 ≤ v → v ≤ d → cost_with (view_of (instance_of s) level) chosen level v ≡ Of more
+      pub extending_next : (more : ℕ) → 1 ≤ v → v ≤ d → cost_with (view_of (instance_of s) level) chosen level v ≡ Some more
           → Extending s first starts (left - 1) (level + 1) (cost + more) (set chosen level v)
       extending_next more v1 vd e =
-          let whole : cost_of (instance_of s) (pre (level + 1) (set chosen level v)) ≡ Of (cost + more) = next-cost ∙ rw e in
+          let whole : cost_of (instance_of s) (pre (level + 1) (set chosen level v)) ≡ Some (cost + more) = next-cost ∙ rw e in
           let n : (instance_of s).n ≡ units_of s = instance_units s in
           let p = length_pre (level + 1) (set chosen level v) in
           let same : level + 1 + (left - 1) ≡ level + left = omega arith in

@@ -6,15 +6,17 @@ ghost use Rattle.base.specs.Limits.{pair_limit, unary_limit, search_limit};
 ghost use Rattle.costs.specs.Cost.Laws.{AtMost};
 ghost use Rattle.costs.specs.Instance.{instance_of, view_of};
 ghost use Rattle.costs.specs.Bounds.{cost_with};
-ghost use Rattle.search.specs.Search.{assignment_count, refused_by, found_best, search_of, branch_and_bound_of};
+ghost use Rattle.search.specs.Search.{assignment_count, found_by, search_of, branch_and_bound_of};
 ghost use Rattle.search.specs.Best.{keep, best_from, best_of};
 ghost use Rattle.search.specs.Steps.{Sized, Filled, Filling, Adding, Extending};
 
+use base::Refusal;
 use costs::Cost;
 
 // What a search gives: the refusal, or 0 with the least total and its first assignment, places past n zero; where there is none, NONE and zeros.
+// C is handed it as it is.
 #[repr(C)]
-#[derive(Clone, Copy)]
+#[derive(Clone, Copy, Debug, PartialEq, Eq)]
 pub struct Found {
     pub refusal: u8,
     pub total: u32,
@@ -28,53 +30,74 @@ struct Best {
     total: u32,
 }
 
+impl From<Result<Best, Refusal>> for Found {
+    ghost use Rattle.search.specs.Search.{found_by};
+
+    ghost from_gives = { λ r f. f ≡ found_by r };
+
+    fn from(r: Result<Best, Refusal>) -> Found {
+        match r {
+            Ok(best) => {
+                let values = best.values;
+                Found {
+                    refusal: 0,
+                    total: best.total,
+                    values,
+                }
+            }
+            Err(e) => {
+                let values = [0u8; 16];
+                Found {
+                    refusal: e.number(),
+                    total: 0,
+                    values,
+                }
+            }
+        }
+    }
+}
+
 // The least total over all assignments, with its first assignment in ascending order; NONE where there is none.
 pub fn exhaustive(stream: &[u8]) -> Found
     ensures { result ≡ search_of stream.now }
 {
-    let refusal = table::stream_refusal(stream);
-    if refusal != 0 {
-        return refused(refusal);
-    }
-    let first = table::opening(stream) + 1;
-    let n = base::wide(table::units_of(stream));
-    if too_many(stream, first, n) {
-        return refused(16);
-    }
-    let bounded = false;
-    find(stream, first, n, bounded)
+    Found::from(search_all(stream))
 }
 
 // The same of any number of assignments, by synchronous branch and bound: a value is dropped when the cost so far reaches the best total.
 pub fn branch_and_bound(stream: &[u8]) -> Found
     ensures { result ≡ branch_and_bound_of stream.now }
 {
-    let refusal = table::stream_refusal(stream);
-    if refusal != 0 {
-        return refused(refusal);
-    }
-    let first = table::opening(stream) + 1;
-    let n = base::wide(table::units_of(stream));
-    let bounded = true;
-    find(stream, first, n, bounded)
+    Found::from(search_bounded(stream))
 }
 
-// A refusal, and nothing beside it.
-fn refused(refusal: u8) -> Found
-    ensures { result ≡ refused_by refusal }
+// What the exhaustive search finds, where there are not too many assignments.
+fn search_all(stream: &[u8]) -> Result<Best, Refusal>
+    ensures { found_by result ≡ search_of stream.now }
 {
-    let none = [0u8; 16];
-    Found {
-        refusal,
-        total: 0,
-        values: none,
+    table::check_stream(stream)?;
+    let first = table::opening(stream) + 1;
+    let n = usize::from(table::units_of(stream));
+    if too_many(stream, first, n) {
+        return Err(Refusal::TooMany);
     }
+    Ok(find(stream, first, n, false))
 }
 
-// What is found of n units, whose sizes begin at byte `first`.
-fn find(stream: &[u8], first: usize, n: usize, bounded: bool) -> Found
+// What branch and bound finds.
+fn search_bounded(stream: &[u8]) -> Result<Best, Refusal>
+    ensures { found_by result ≡ branch_and_bound_of stream.now }
+{
+    table::check_stream(stream)?;
+    let first = table::opening(stream) + 1;
+    let n = usize::from(table::units_of(stream));
+    Ok(find(stream, first, n, true))
+}
+
+// The best of n units, whose sizes begin at byte `first`.
+fn find(stream: &[u8], first: usize, n: usize, bounded: bool) -> Best
     requires { Sized stream.now first n }
-    ensures { result ≡ found_best (best_of (instance_of stream.now)) }
+    ensures { result ≡ best_of (instance_of stream.now) }
 {
     let none = [0u8; 16];
     let starts = cost_starts(stream, first, n);
@@ -82,13 +105,7 @@ fn find(stream: &[u8], first: usize, n: usize, bounded: bool) -> Found
         values: none,
         total: base::NONE,
     };
-    let best = extend(stream, first, &starts, bounded, n, 0, 0, none, nothing);
-    let values = best.values;
-    Found {
-        refusal: 0,
-        total: best.total,
-        values,
-    }
+    extend(stream, first, &starts, bounded, n, 0, 0, none, nothing)
 }
 
 // Whether there are more than 1,048,576 assignments of n units, whose sizes begin at byte `first`, forbidden ones counted; the product
@@ -98,13 +115,11 @@ fn too_many(stream: &[u8], first: usize, n: usize) -> bool
     ensures { result ≡ ltb search_limit (assignment_count (instance_of stream.now)) }
 {
     let mut count = 1;
-    let mut i = 0;
-    while i < n {
+    for i in 0..n {
         count *= byte(stream, first + i);
         if base::SEARCH_LIMIT < count {
             return true;
         }
-        i += 1;
     }
     false
 }
@@ -130,12 +145,11 @@ fn extend(
     }
     let d = byte(stream, first + level);
     let mut best = b;
-    let mut v: usize = 1;
-    while v <= d {
+    for v in 1..d + 1 {
         // stored before the costs are added, as the call's copy would wait for a byte just stored
         let mut next = chosen;
         next[level] = v as u8;
-        if let Cost::Of(more) = added_cost(stream, starts, level, d, chosen, v) {
+        if let Some(more) = added_cost(stream, starts, level, d, chosen, v) {
             let sum = cost + more;
             if !dropped(bounded, sum, best.total) {
                 best = extend(
@@ -151,7 +165,6 @@ fn extend(
                 );
             }
         }
-        v += 1;
     }
     best
 }
@@ -160,10 +173,7 @@ fn extend(
 fn dropped(bounded: bool, cost: u32, best: u32) -> bool
     ensures { result ≡ cond bounded (leb best cost) false }
 {
-    if bounded {
-        return best <= cost;
-    }
-    false
+    bounded && best <= cost
 }
 
 // The assignment in place of b where its total is lower.
@@ -171,9 +181,10 @@ fn better(b: Best, total: u32, values: [u8; 16]) -> Best
     ensures { result ≡ keep b total values }
 {
     if total < b.total {
-        return Best { values, total };
+        Best { values, total }
+    } else {
+        b
     }
-    b
 }
 
 // The cost of value v of the unit at `level`, which has d values, alone and with the values chosen before it: forbidden as soon as one pair is.
@@ -190,17 +201,15 @@ fn added_cost(
 {
     let column = 16 * level;
     let mut sum = base::u16_at(stream, unary_place(starts[column + level], v));
-    let mut i = 0;
-    while i < level {
+    for i in 0..level {
         let at = cost_place(starts[column + i], d, chosen[i], v);
         let number = base::u16_at(stream, at);
         if number == base::FORBIDDEN_PAIR {
-            return Cost::Forbidden;
+            return None;
         }
         sum += number;
-        i += 1;
     }
-    Cost::Of(sum)
+    Some(sum)
 }
 
 // Where the unary cost of value v stands, of a unit whose unary costs begin at `start`.
@@ -216,7 +225,7 @@ fn cost_place(start: u32, d: usize, u: u8, v: usize) -> usize
     requires { (d < 256) × (1 ≤ u) × (1 ≤ v) × (v < 256) }
     ensures { result ≡ start + 2 * ((u - 1) * d + (v - 1)) }
 {
-    start as usize + 2 * ((base::wide(u) - 1) * d + (v - 1))
+    start as usize + 2 * ((usize::from(u) - 1) * d + (v - 1))
 }
 
 // Where in the stream the costs of each pair of places i < j begin, at 16 × j + i, and the unary costs of each place k, at 16 × k + k.
@@ -227,10 +236,8 @@ fn cost_starts(stream: &[u8], first: usize, n: usize) -> [u32; 256]
     let end = stream.len() as u32;
     let mut starts = [end; 256];
     let mut at = fill_unaries(stream, first, n, &mut starts);
-    let mut i = 0;
-    while i < n {
+    for i in 0..n {
         at = fill_row(stream, first, n, i, at, &mut starts);
-        i += 1;
     }
     starts
 }
@@ -245,11 +252,9 @@ fn fill_unaries(stream: &[u8], first: usize, n: usize, starts: &mut [u32]) -> us
     if first == 1 {
         return at;
     }
-    let mut i = 0;
-    while i < n {
+    for i in 0..n {
         starts[16 * i + i] = at as u32;
         at += 2 * byte(stream, first + i);
-        i += 1;
     }
     at
 }
@@ -261,11 +266,9 @@ fn fill_row(stream: &[u8], first: usize, n: usize, i: usize, at: usize, starts: 
 {
     let d = byte(stream, first + i);
     let mut from = at;
-    let mut j = i + 1;
-    while j < n {
+    for j in i + 1..n {
         starts[16 * j + i] = from as u32;
         from += 2 * (d * byte(stream, first + j));
-        j += 1;
     }
     from
 }
@@ -274,5 +277,5 @@ fn fill_row(stream: &[u8], first: usize, n: usize, i: usize, at: usize, starts: 
 fn byte(stream: &[u8], k: usize) -> usize
     ensures { (result ≡ get_or stream.now k 0) × (result < 256) }
 {
-    base::wide_at(stream, k) as usize
+    usize::from(base::byte_at(stream, k))
 }

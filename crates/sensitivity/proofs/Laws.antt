@@ -1,12 +1,10 @@
 -- The least totals of two tables of one shape are as far apart as the sums of lowerings and raises allow, and where one cost alone changes, the new
 -- least total lies between the ends that the call gives. Assumes nothing.
-use Rattle.std.specs.Prelude.{ℕ, ◌+◌, ◌-◌, ◌≤◌, ◌≡◌, refl, Bool, true, false, cond, List, eqb}
+use Rattle.std.specs.Prelude.{ℕ, ◌+◌, ◌-◌, ◌≤◌, ◌≡◌, refl, Bool, true, false, cond, List, eqb, Some}
 use Rattle.std.proofs.Common.{subst, inl, inr, arith}
 use borrow.Author.Tests.{le-leb, eqb-true}
 use Rattle.base.specs.Limits.{NONE, pair_limit, total_limit}
-use Rattle.costs.specs.declared.Cost.{Cost}
-use Rattle.costs.specs.declared.Cost.TheVariants.{Of}
-use Rattle.costs.specs.Cost.{◌⊕◌}
+use Rattle.costs.specs.Cost.{Cost, ◌⊕◌}
 use Rattle.costs.specs.Cost.Laws.{◌⊑◌, most_is}
 use Rattle.costs.specs.Instance.{Instance}
 use Rattle.costs.specs.Bounds.{Assignment, total, Reported}
@@ -27,8 +25,8 @@ module _ (I J : Instance) (same : SameShape I J) (t t' : ℕ) (l m : List ℕ) (
       go (inr p) (inl q) = absurd (q.2 l (same_assignments I J same l p.0))
       go (inr p) (inr q) =
           let back : Assignment I m = same_assignments J I (same_back I J same) m q.0 in
-          let up : total J l ⊑ Of (t + raises I J) = subst (λ (c : Cost). total J l ⊑ c ⊕ Of (raises I J)) p.1 (raised-total I J same l p.0.0) in
-          let down : total I m ⊑ Of (t' + lowerings I J) = subst (λ (c : Cost). total I m ⊑ c ⊕ Of (lowerings I J)) q.1 (lowered-total I J same m back.0) in
+          let up : total J l ⊑ Some (t + raises I J) = subst (λ (c : Cost). total J l ⊑ c ⊕ Some (raises I J)) p.1 (raised-total I J same l p.0.0) in
+          let down : total I m ⊑ Some (t' + lowerings I J) = subst (λ (c : Cost). total I m ⊑ c ⊕ Some (lowerings I J)) q.1 (lowered-total I J same m back.0) in
           let lower : t ≤ t' + lowerings I J = reach t (t' + lowerings I J) (total I m) (p.2 m back) down in
           (omega arith, reach t' (t + raises I J) (total J l) (q.2 l (same_assignments I J same l p.0)) up)
 

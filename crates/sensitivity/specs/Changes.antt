@@ -1,9 +1,9 @@
 -- Two tables of one shape, and by how much costs are lowered and raised from the one to the other. 02, job 12: "for two tables of the same n, sizes
 -- and barred marks the ends add up: lowerings for the lower end, raises for the upper." In order: which cost; tables of one shape; lowerings and
 -- raises; two tables that differ in one cost. Units count from 0, as in costs/specs/Instance. Assumes nothing.
-use Rattle.std.specs.Prelude.{ℕ, ◌+◌, ◌-◌, ◌≤◌, ◌<◌, ◌≡◌, ◌≢◌}
+use Rattle.std.specs.Prelude.{ℕ, ◌+◌, ◌-◌, ◌≤◌, ◌<◌, ◌≡◌, ◌≢◌, Some, None}
 use Rattle.base.specs.Sums.{sum_from, sum_to}
-use Rattle.costs.specs.{declared.Cost.Cost, declared.Cost.TheVariants.Of, declared.Cost.TheVariants.Forbidden, Instance.Instance}
+use Rattle.costs.specs.{Cost.Cost, Instance.Instance}
 
 -- ---- which cost
 
@@ -13,7 +13,7 @@ pub data Which : Type 0 where
   Pair : (i u j v : ℕ) → Which
 
 abbrev pub cost_at : Instance → Which → Cost
-cost_at I (Unary k v) = Of (I.unary k v)
+cost_at I (Unary k v) = Some (I.unary k v)
 cost_at I (Pair i u j v) = I.cost i u j v
 
 -- it is one of the table's
@@ -26,16 +26,16 @@ There I (Pair i u j v) = (i < j) × (j < I.n) × (1 ≤ u) × (u ≤ I.dom i) ×
 pub record SameShape (I J : Instance) : Type 0 where
   pub units : J.n ≡ I.n
   pub sizes : (k : ℕ) → k < I.n → J.dom k ≡ I.dom k
-  pub forbidden : (w : Which) → There I w → cost_at I w ≡ Forbidden → cost_at J w ≡ Forbidden
-  pub only_forbidden : (w : Which) → There I w → cost_at J w ≡ Forbidden → cost_at I w ≡ Forbidden
+  pub forbidden : (w : Which) → There I w → cost_at I w ≡ None → cost_at J w ≡ None
+  pub only_forbidden : (w : Which) → There I w → cost_at J w ≡ None → cost_at I w ≡ None
 
 -- ---- lowerings and raises
 
 -- from the first cost to the second. "Barred marks are neither raised nor lowered"
 abbrev pub lowered_by : Cost → Cost → ℕ
-lowered_by (Of x) (Of y) = x - y
-lowered_by (Of x) Forbidden = 0
-lowered_by Forbidden d = 0
+lowered_by (Some x) (Some y) = x - y
+lowered_by (Some x) None = 0
+lowered_by None d = 0
 
 abbrev pub raised_by : Cost → Cost → ℕ
 raised_by c d = lowered_by d c
@@ -59,6 +59,6 @@ raises I J = over_costs I (λ w. raised_by (cost_at I w) (cost_at J w))
 pub record OneCost (I J : Instance) (w : Which) (old new : ℕ) : Type 0 where
   pub units : J.n ≡ I.n
   pub sizes : (k : ℕ) → k < I.n → J.dom k ≡ I.dom k
-  pub was : cost_at I w ≡ Of old
-  pub becomes : cost_at J w ≡ Of new
+  pub was : cost_at I w ≡ Some old
+  pub becomes : cost_at J w ≡ Some new
   pub others : (x : Which) → There I x → x ≢ w → cost_at J x ≡ cost_at I x

@@ -4,15 +4,13 @@
 -- These theorems are in proofs/Laws; what they go by is here.
 -- In order: sums with one term; an assignment's two totals; the same assignments; the least totals; one cost.
 -- Assumes nothing.
-use Rattle.std.specs.Prelude.{ℕ, zero, suc, ◌+◌, ◌-◌, ◌≤◌, ◌<◌, ◌≡◌, refl, ◌≢◌, Bool, true, false, cond, ◌||◌, List, leb, eqb, get_or}
+use Rattle.std.specs.Prelude.{ℕ, zero, suc, ◌+◌, ◌-◌, ◌≤◌, ◌<◌, ◌≡◌, refl, ◌≢◌, Bool, true, false, cond, ◌||◌, List, leb, eqb, get_or, Some, None}
 use Rattle.std.proofs.Common.{sym, ap, ◌∙◌, subst, inl, inr, arith}
 use borrow.Author.Tests.{le-leb, eqb-true, eqb-false}
 use Rattle.base.specs.Limits.{NONE, pair_limit, total_limit}
 use Rattle.base.specs.Sums as N
 use Rattle.base.specs.Sums.Laws.{sum_from-part, sum_to_sum_from}
-use Rattle.costs.specs.declared.Cost.{Cost}
-use Rattle.costs.specs.declared.Cost.TheVariants.{Of, Forbidden}
-use Rattle.costs.specs.Cost.{◌⊕◌, sum_to, as_number}
+use Rattle.costs.specs.Cost.{Cost, ◌⊕◌, sum_to, as_number}
 use Rattle.costs.specs.Cost.Laws.{◌⊑◌, le_refl, le_trans, add_mono, add_pairs, number_not_forbidden, number_eq, most_is}
 use Rattle.costs.specs.Instance.{Instance}
 use Rattle.costs.specs.Bounds.{Valued, Assignment, total, Reported}
@@ -114,13 +112,13 @@ module _ (I : Instance) (f : Which → ℕ) where
 -- ---- an assignment's two totals
 
 -- c is at most d and a number more: with a larger number, and of sums
-plus_more : (c d : Cost) (a b : ℕ) → a ≤ b → c ⊑ d ⊕ Of a → c ⊑ d ⊕ Of b
-plus_more c d a b h p = le_trans c (d ⊕ Of a) (d ⊕ Of b) p (add_mono d (Of a) d (Of b) (le_refl d) h)
+plus_more : (c d : Cost) (a b : ℕ) → a ≤ b → c ⊑ d ⊕ Some a → c ⊑ d ⊕ Some b
+plus_more c d a b h p = le_trans c (d ⊕ Some a) (d ⊕ Some b) p (add_mono d (Some a) d (Some b) (le_refl d) h)
 
-both_plus : (a b c d : Cost) (x y : ℕ) → a ⊑ c ⊕ Of x → b ⊑ d ⊕ Of y → a ⊕ b ⊑ c ⊕ d ⊕ Of (x + y)
-both_plus a b c d x y p q = subst (λ (z : Cost). a ⊕ b ⊑ z) (add_pairs c (Of x) d (Of y)) (add_mono a b (c ⊕ Of x) (d ⊕ Of y) p q)
+both_plus : (a b c d : Cost) (x y : ℕ) → a ⊑ c ⊕ Some x → b ⊑ d ⊕ Some y → a ⊕ b ⊑ c ⊕ d ⊕ Some (x + y)
+both_plus a b c d x y p q = subst (λ (z : Cost). a ⊕ b ⊑ z) (add_pairs c (Some x) d (Some y)) (add_mono a b (c ⊕ Some x) (d ⊕ Some y) p q)
 
-sums_plus : (f g : ℕ → Cost) (e : ℕ → ℕ) (m : ℕ) → ((j : ℕ) → j < m → f j ⊑ g j ⊕ Of (e j)) → sum_to f m ⊑ sum_to g m ⊕ Of (N.sum_to e m)
+sums_plus : (f g : ℕ → Cost) (e : ℕ → ℕ) (m : ℕ) → ((j : ℕ) → j < m → f j ⊑ g j ⊕ Some (e j)) → sum_to f m ⊑ sum_to g m ⊕ Some (N.sum_to e m)
 sums_plus f g e zero h = omega arith
 sums_plus f g e (suc m) h = both_plus (sum_to f m) (f m) (sum_to g m) (g m) (N.sum_to e m) (e m) (sums_plus f g e m (λ j l. h j (omega arith))) (h m (omega arith))
 
@@ -133,8 +131,8 @@ unfolding total
 total_by_lem I l = refl
 
 -- where each cost c of a table is at most the cost d and some number f more, so is the total, with the sum of these
-module _ (I : Instance) (c d : Which → Cost) (f : Which → ℕ) (near : (w : Which) → There I w → c w ⊑ d w ⊕ Of (f w)) (l : List ℕ) (valued : Valued I l) where
-  pair_near : (i k : ℕ) → i < k → k < I.n → c (Pair i (get_or l i 0) k (get_or l k 0)) ⊑ d (Pair i (get_or l i 0) k (get_or l k 0)) ⊕ Of (over_values (λ u. f (Pair i u k (get_or l k 0))) (I.dom i))
+module _ (I : Instance) (c d : Which → Cost) (f : Which → ℕ) (near : (w : Which) → There I w → c w ⊑ d w ⊕ Some (f w)) (l : List ℕ) (valued : Valued I l) where
+  pair_near : (i k : ℕ) → i < k → k < I.n → c (Pair i (get_or l i 0) k (get_or l k 0)) ⊑ d (Pair i (get_or l i 0) k (get_or l k 0)) ⊕ Some (over_values (λ u. f (Pair i u k (get_or l k 0))) (I.dom i))
   pair_near i k h hk =
       let u : ℕ = get_or l i 0 in
       let v : ℕ = get_or l k 0 in
@@ -145,7 +143,7 @@ module _ (I : Instance) (c d : Which → Cost) (f : Which → ℕ) (near : (w : 
 
   unit_near : (k : ℕ) → k < I.n
       → c (Unary k (get_or l k 0)) ⊕ sum_to (λ i. c (Pair i (get_or l i 0) k (get_or l k 0))) k
-      ⊑ d (Unary k (get_or l k 0)) ⊕ sum_to (λ i. d (Pair i (get_or l i 0) k (get_or l k 0))) k ⊕ Of (over_values (λ v. f (Unary k v) + backward I f k v) (I.dom k))
+      ⊑ d (Unary k (get_or l k 0)) ⊕ sum_to (λ i. d (Pair i (get_or l i 0) k (get_or l k 0))) k ⊕ Some (over_values (λ v. f (Unary k v) + backward I f k v) (I.dom k))
   unit_near k h =
       let v : ℕ = get_or l k 0 in
       let hv = valued k h in
@@ -155,18 +153,18 @@ module _ (I : Instance) (c d : Which → Cost) (f : Which → ℕ) (near : (w : 
       (both_plus (c (Unary k v)) cs (d (Unary k v)) ds (f (Unary k v)) (backward I f k v) (near (Unary k v) (h, hv.0, hv.1))
       (sums_plus (λ i. c (Pair i (get_or l i 0) k v)) (λ i. d (Pair i (get_or l i 0) k v)) (λ i. over_values (λ u. f (Pair i u k v)) (I.dom i)) k (λ i q. pair_near i k q h)))
 
-  total_near : total_by c I.n l ⊑ total_by d I.n l ⊕ Of (over_costs I f)
+  total_near : total_by c I.n l ⊑ total_by d I.n l ⊕ Some (over_costs I f)
   total_near =
       sums_plus (λ k. c (Unary k (get_or l k 0)) ⊕ sum_to (λ i. c (Pair i (get_or l i 0) k (get_or l k 0))) k)
       (λ k. d (Unary k (get_or l k 0)) ⊕ sum_to (λ i. d (Pair i (get_or l i 0) k (get_or l k 0))) k)
       (λ k. over_values (λ v. f (Unary k v) + backward I f k v) (I.dom k)) I.n unit_near
 
 -- a cost is at most another one, and by how much that was lowered more
-near_lowered : (c d : Cost) → (c ≡ Forbidden → d ≡ Forbidden) → c ⊑ d ⊕ Of (lowered_by c d)
-near_lowered (Of x) (Of y) h = omega arith
-near_lowered (Of x) Forbidden h = tt
-near_lowered Forbidden (Of y) h = absurd (number_not_forbidden y (h refl))
-near_lowered Forbidden Forbidden h = tt
+near_lowered : (c d : Cost) → (c ≡ None → d ≡ None) → c ⊑ d ⊕ Some (lowered_by c d)
+near_lowered (Some x) (Some y) h = omega arith
+near_lowered (Some x) None h = tt
+near_lowered None (Some y) h = absurd (number_not_forbidden y (h refl))
+near_lowered None None h = tt
 
 -- ---- the same assignments
 
@@ -194,7 +192,7 @@ module _ (I J : Instance) (same : SameShape I J) where
       valued : Valued J l
       valued k h = let k' : k < I.n = omega (arith, same.units) in ((a.0 k k').0, omega (arith, (a.0 k k').1, same.sizes k k'))
 
-      permitted : (i j : ℕ) → i < j → j < J.n → J.cost i (get_or l i 0) j (get_or l j 0) ≢ Forbidden
+      permitted : (i j : ℕ) → i < j → j < J.n → J.cost i (get_or l i 0) j (get_or l j 0) ≢ None
       permitted i j h hj e =
           let j' : j < I.n = omega (arith, same.units) in
           let i' : i < I.n = omega arith in
@@ -203,12 +201,12 @@ module _ (I J : Instance) (same : SameShape I J) where
   total_second : (l : List ℕ) → total J l ≡ total_by (cost_at J) I.n l
   total_second l = total_by_lem J l ∙ ap (λ (n : ℕ). total_by (cost_at J) n l) same.units
 
-  pub raised-total : (l : List ℕ) → Valued I l → total J l ⊑ total I l ⊕ Of (raises I J)
+  pub raised-total : (l : List ℕ) → Valued I l → total J l ⊑ total I l ⊕ Some (raises I J)
   raised-total l h =
       rw (total_second l, total_by_lem I l)
       (total_near I (cost_at J) (cost_at I) (λ w. lowered_by (cost_at J w) (cost_at I w)) (λ w q. near_lowered (cost_at J w) (cost_at I w) (same.only_forbidden w q)) l h)
 
-  pub lowered-total : (l : List ℕ) → Valued I l → total I l ⊑ total J l ⊕ Of (lowerings I J)
+  pub lowered-total : (l : List ℕ) → Valued I l → total I l ⊑ total J l ⊕ Some (lowerings I J)
   lowered-total l h =
       rw (total_second l, total_by_lem I l)
       (total_near I (cost_at I) (cost_at J) (λ w. lowered_by (cost_at I w) (cost_at J w)) (λ w q. near_lowered (cost_at I w) (cost_at J w) (same.forbidden w q)) l h)
@@ -216,9 +214,9 @@ module _ (I J : Instance) (same : SameShape I J) where
 -- ---- the least totals
 
 -- the least is at most what any assignment has
-pub reach : (B x : ℕ) (c : Cost) → B ≤ as_number c → c ⊑ Of x → B ≤ x
-reach B x (Of n) h p = omega arith
-reach B x Forbidden h p = absurd p
+pub reach : (B x : ℕ) (c : Cost) → B ≤ as_number c → c ⊑ Some x → B ≤ x
+reach B x (Some n) h p = omega arith
+reach B x None h p = absurd p
 
 -- retests one after the other: what is between one pair of ends, and then between another
 pub one_after_another : (t t' t'' down up down' up' : ℕ) → WithinEnds t down up t' → WithinEnds t' down' up' t'' → WithinEnds t (down + down') (up + up') t''
@@ -245,8 +243,8 @@ same_lowers_none : (c d : Cost) → c ≡ d → lowered_by c d ≡ 0
 same_lowers_none c d e = rw (← e) (go c)
   where
     go : (c : Cost) → lowered_by c c ≡ 0
-    go (Of n) = omega arith
-    go Forbidden = refl
+    go (Some n) = omega arith
+    go None = refl
 
 module _ (I J : Instance) (w : Which) (old new : ℕ) (one : OneCost I J w old new) where
   -- a cost that is forbidden in one of the two is not the one
@@ -273,7 +271,7 @@ module _ (I J : Instance) (w : Which) (old new : ℕ) (one : OneCost I J w old n
       omega (arith, e, one_cost_sum I f w (λ x h ne. same_lowers_none (cost_at J x) (cost_at I x) (one.others x h ne)))
 
 -- a cost of a table, as the call takes it
-pub cost_limit : (I : Instance) → Sound I → (w : Which) (x : ℕ) → cost_at I w ≡ Of x → x ≤ pair_limit
+pub cost_limit : (I : Instance) → Sound I → (w : Which) (x : ℕ) → cost_at I w ≡ Some x → x ≤ pair_limit
 cost_limit I s (Unary k v) x e = omega (arith, s.unary_small k v, number_eq (I.unary k v) x e)
 cost_limit I s (Pair i u j v) x e = most_is pair_limit x (I.cost i u j v) e (s.small i u j v)
 

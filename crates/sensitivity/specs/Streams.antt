@@ -1,6 +1,6 @@
 -- A retest, of streams. In order: where the number of a cost stands; two accepted tables whose bytes differ in one number; a stream with another
 -- number for one cost. proofs/Streams/Laws and Retested say of both that what branch and bound finds lies between the ends. Assumes nothing.
-use Rattle.std.specs.Prelude.{ℕ, ◌+◌, ◌*◌, ◌-◌, ◌≡◌, ◌≢◌, Bool, true, cond, ◌&&◌, List, ltb, eqb, get_or}
+use Rattle.std.specs.Prelude.{ℕ, zero, suc, Option, Some, None, ◌+◌, ◌*◌, ◌-◌, ◌≡◌, ◌≢◌, Bool, true, cond, ◌&&◌, List, ltb, eqb, get_or}
 use Rattle.base.specs.{Bytes.le16, Put.put_at, Shape.is_value, Sums.sum_to}
 use Rattle.table.specs.Stream.{in_form_two, units_of, unaries_in, unaries_at, stream_refusal, Accepted}
 use Rattle.costs.specs.Instance.{dom_of, pair_start, in_pair}
@@ -25,6 +25,11 @@ has_number s (Pair i u j v) = ltb i j && ltb j (units_of s) && is_value (dom_of 
 -- the byte at which it stands in an accepted stream, 0 where there is none
 unfoldable pub place_of : List ℕ → Which → ℕ
 place_of s w = cond (eqb (stream_refusal s) 0 && has_number s w) (number_at s w) 0
+
+-- as the code gives it
+abbrev pub found_at : ℕ → Option ℕ
+found_at zero = None
+found_at (suc at) = Some (suc at)
 
 -- ---- two accepted tables whose bytes are the same but for the number of one cost
 

@@ -4,75 +4,51 @@
 // delivered each time.
 #![tactic(auto)]
 
-ghost use Rattle.std.specs.Prelude.{◌≤◌, length};
-
 use base::FILE_ROOM;
 use costs::ValueOrder;
-use std::env::{Env, FillError};
 
 const STDIN_FILENO: i32 = 0;
 
-const STDERR_FILENO: i32 = 2;
-
 fn main(rt: HostRuntime) {
     if inputs::is_arg(&rt, 3) {
-        usage();
+        usage(&rt);
         return;
     }
-    let mut first = [0u8; 10];
-    let n = word(&rt, 1, &mut first);
-    let mut second = [0u8; 10];
-    let m = word(&rt, 2, &mut second);
-    run(&first[0..n], &second[0..m]);
-}
-
-// Argument i at the start of buf; one that is longer is cut, and so is none of the words that are known.
-fn word(rt: &impl Env, i: usize, buf: &mut [u8]) -> usize
-    ensures { result ≤ length buf.new }
-{
-    match rt.arg(i, buf) {
-        Ok(n) => n,
-        Err(FillError::TooLong) => buf.len(),
-        Err(FillError::NotPresent) => 0,
-    }
+    let mut first = [0; 10];
+    let n = inputs::word(&rt, 1, &mut first);
+    let mut second = [0; 10];
+    let m = inputs::word(&rt, 2, &mut second);
+    run(&rt, &first[..n], &second[..m]);
 }
 
 // What the two words ask for, either empty where it isn't there. A word alone may name the pool.
-fn run(first: &[u8], second: &[u8]) {
-    if check::same(first, b"cheapest") {
-        list(ValueOrder::CheapestFirst, second);
-        return;
+fn run(rt: &(impl Print + Eprint), first: &[u8], second: &[u8]) {
+    match first {
+        b"cheapest" => list(rt, ValueOrder::CheapestFirst, second),
+        b"ascending" => list(rt, ValueOrder::Ascending, second),
+        _ if second.is_empty() => list(rt, ValueOrder::Ascending, first),
+        _ => usage(rt),
     }
-    if check::same(first, b"ascending") {
-        list(ValueOrder::Ascending, second);
-        return;
-    }
-    if second.len() == 0 {
-        list(ValueOrder::Ascending, first);
-        return;
-    }
-    usage();
 }
 
 // The listing of the table on standard input, values tried in this order, over the pool that the word names: 01's if it is empty.
-fn list(order: ValueOrder, pool: &[u8]) {
-    let mut file = [0u8; FILE_ROOM];
-    if pool.len() == 0 {
-        let n = io::read_full(STDIN_FILENO, &mut file);
-        report::print_settled_by(order, &file[..n]);
-        return;
+fn list(rt: &(impl Print + Eprint), order: ValueOrder, pool: &[u8]) {
+    let mut file = [0; FILE_ROOM];
+    match pool {
+        b"" => {
+            let n = io::read_full(STDIN_FILENO, &mut file);
+            report::print_settled_by(rt, order, &file[..n]);
+        }
+        b"slots" => {
+            let n = io::read_full(STDIN_FILENO, &mut file);
+            report::print_slots_by(rt, order, &file[..n]);
+        }
+        _ => usage(rt),
     }
-    if check::same(pool, b"slots") {
-        let n = io::read_full(STDIN_FILENO, &mut file);
-        report::print_slots_by(order, &file[..n]);
-        return;
-    }
-    usage();
 }
 
-fn usage() {
-    io::write_all(
-        STDERR_FILENO,
-        b"shed: say ascending or cheapest, the order of values, or nothing; then slots, for that pool, or nothing\n",
+fn usage(rt: &impl Eprint) {
+    let _ = eprintln!(rt;
+        "shed: say ascending or cheapest, the order of values, or nothing; then slots, for that pool, or nothing"
     );
 }

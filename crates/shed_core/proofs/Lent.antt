@@ -1,6 +1,5 @@
 -- The costs that gathering lends are the same whatever room it has, where it refuses nothing. By its definition. Assumes nothing.
-use Rattle.std.proofs.Common.{◌≡◌, ℕ, pred, ◌-◌, ◌≤◌, Bool, true, false, cond, eqb, List, [], length, take, drop, sym, refl, ap, ◌∙◌, take_at, eq-eqb, eqb-true}
-use native.Mathlib.Nat.{sub-zero}
+use Rattle.std.proofs.Common.{◌≡◌, ℕ, pred, ◌≤◌, Bool, true, false, cond, eqb, List, [], length, take, drop, sym, refl, ap, ◌∙◌, take_at, eq-eqb, eqb-true}
 use Rattle.base.specs.declared.Length.{Length}
 use Rattle.costs.specs.Gather.{sizes_in, gather_refusal, gather_of, gather_into}
 use Rattle.costs.specs.Gather.Checks.{Gatherable, gatherable}
@@ -12,7 +11,7 @@ use Rattle.costs.specs.declared.ValueOrder.TheVariants.{CheapestFirst}
 use Rattle.costs.specs.Instance.{View, lent_view, view_knowing, view_by, instance_of}
 use Rattle.costs.specs.Knowing.{knowing_sees, knows_nothing}
 use Rattle.costs.specs.Order.{place_tried}
-use Rattle.table.specs.Stream.{units_of, Accepted}
+use Rattle.table.specs.Stream.{units_of, stream_refusal, Accepted}
 use Rattle.rules.specs.Laws.Trusted.{seat_at}
 use Rattle.runs.specs.Calls.{lent_of}
 use Rattle.runs.proofs.CodeLaws.{lent_is}
@@ -28,13 +27,18 @@ module _ (s : List ℕ) (own : ℕ) (l out : List ℕ) (g : Length) (told : g �
   pub short_unit : Gatherable s own (length l)
   short_unit = gatherable s own (length l) unrefused
 
-  pub short_front : take (g.length - 0) (drop 0 out) ≡ gathered s own
+  pub short_front : take g.length out ≡ gathered s own
   short_front =
       let e : eqb (gather_refusal s own (length l)) 0 ≡ true = eq-eqb _ 0 unrefused in
-      rw (sub-zero, told, left, e) (take_at (gathered s own) (drop (length (gathered s own)) l) (length (gathered s own)) refl)
+      rw (told, left, e) (take_at (gathered s own) (drop (length (gathered s own)) l) (length (gathered s own)) refl)
 
-  pub lent_short : take (g.length - 0) (drop 0 out) ≡ lent_of s own
+  pub lent_short : take g.length out ≡ lent_of s own
   lent_short = short_front ∙ sym (lent_is s short_unit.accepted own short_unit.unit.0 short_unit.unit.1)
+
+-- a stream that is not refused is accepted
+pub accepts : (s : List ℕ) → stream_refusal s ≡ 0 → Accepted s
+unfolding Accepted
+accepts s e = e
 
 -- the place of a value by rising h, in the costs gathered from a good stream
 pub place-lent : (s : List ℕ) → Accepted s → (own : ℕ) → 1 ≤ own → own ≤ units_of s → (seat : Seat) → seat ≡ seat_at CheapestFirst own (units_of s) (sizes_in s) → (costs : List ℕ) → costs ≡ gathered s own

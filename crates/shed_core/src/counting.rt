@@ -9,12 +9,9 @@ use runs::Count;
 pub fn plus(c: Count, m: u64) -> Count
     ensures { result ≡ plus m c }
 {
-    let low = std::num::wrapping_add_u64(c.low, m);
-    if low < m {
-        return Count {
-            low,
-            high: std::num::wrapping_add_u64(c.high, 1),
-        };
+    let (low, over) = c.low.overflowing_add(m);
+    Count {
+        low,
+        high: c.high.wrapping_add(u64::from(over)),
     }
-    Count { low, high: c.high }
 }

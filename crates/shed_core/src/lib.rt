@@ -8,5 +8,5 @@ mod states; // what is asked of the stream and the states
 
 pub use counting::plus;
 pub use handing::{advance, receiver, step};
-pub use making::{begun, first_step, make_refusal, no_core};
-pub use states::refusal;
+pub use making::{begun, check_making, first_step, no_core};
+pub use states::check;

@@ -2,36 +2,35 @@
 
 ghost use Rattle.std.specs.Prelude.{◌≡◌, suc, pred, ◌<◌, ◌≤◌, nat_le, slice_index};
 ghost use Rattle.base.specs.Every.{every};
-ghost use Rattle.table.specs.Stream.{units_of, Accepted};
+ghost use Rattle.base.specs.Refusal.{told};
+ghost use Rattle.table.specs.Stream.{units_of, stream_refusal, Accepted};
 ghost use Rattle.costs.specs.declared.ValueOrder.TheVariants.{CheapestFirst};
 ghost use Rattle.costs.specs.Instance.{view_of, view_by, instance_of};
 ghost use Rattle.costs.specs.Cost.{as_number};
 ghost use Rattle.costs.specs.Bounds.{cost_with};
 ghost use Rattle.costs.specs.Order.{place_tried};
 ghost use Rattle.costs.specs.Gather.{sizes_in};
+ghost use Rattle.costs.specs.Gathered.{gathered};
 ghost use Rattle.rules.specs.State.{paid_in_range};
 ghost use Rattle.rules.specs.Laws.Trusted.{seat_at};
 ghost use Rattle.runs.specs.Calls.{core_refusal};
 ghost use Rattle.runs.specs.Code.{unit_in_range};
 
 use crate::handing::{SHORT_COSTS, SHORT_STREAM};
+use base::Refusal;
 use costs::{Seat, ValueOrder};
 use runs::Core;
 use unit::Unit;
 
-// The stream's refusal, 5, 6 or 7; then 5 where the state of a unit is out of range; or 0.
-pub fn refusal(order: ValueOrder, core: Core, stream: &[u8]) -> u8
-    ensures { result ≡ core_refusal order core stream.now }
+// Whether the stream is accepted and the state of each unit is in range: refusals 5, 6, 7 of the stream, then 5.
+pub fn check(order: ValueOrder, core: Core, stream: &[u8]) -> Result<(), Refusal>
+    ensures { told result ≡ core_refusal order core stream.now }
 {
-    let refusal = table::stream_refusal(stream);
-    if refusal != 0 {
-        return refusal;
+    table::check_stream(stream)?;
+    if !units_in_range(order, core.units, stream) {
+        return Err(Refusal::OutOfRange);
     }
-    let units = core.units;
-    if !units_in_range(order, units, stream) {
-        return 5;
-    }
-    0
+    Ok(())
 }
 
 // Whether the states of units 1 to n are in range.
@@ -41,13 +40,10 @@ fn units_in_range(order: ValueOrder, units: [Unit; 16], stream: &[u8]) -> bool
 {
     let n = table::units_of(stream);
     let sizes = costs::sizes_of(stream);
-    let mut k: u8 = 0;
-    while k < n {
-        let unit = units[k as usize];
-        if !unit_in_range(order, k, n, sizes, stream, unit) {
+    for k in 0..n {
+        if !unit_in_range(order, k, n, sizes, stream, units[usize::from(k)]) {
             return false;
         }
-        k += 1;
     }
     true
 }
@@ -58,88 +54,80 @@ fn unit_in_range(order: ValueOrder, k: u8, n: u8, sizes: [u8; 16], stream: &[u8]
     ensures { result ≡ paid_in_range n sizes (suc k) (as_number (cost_with (view_of (instance_of stream.now) k) u.values k (slice_index u.values k))) (place_tried (view_by order (instance_of stream.now) k) (slice_index u.values k)) u }
 {
     let own = k + 1;
-    let values = u.values;
-    let value = values[k as usize];
-    let paid = costs::stream_cost_with(stream, values, own, value);
-    let place = place_asked(order, stream, own, value, u.counter);
+    let value = u.values[usize::from(k)];
+    let paid = costs::stream_cost_with(stream, u.values, own, value);
+    let member = Member { stream, own };
+    let place = member.place_asked(order, value, u.counter);
     unit::in_range_paid(own, n, sizes, costs::as_number(paid), place, u)
 }
 
-// A place that the counter is within where it is within that of the unit's value. No value's place is below 1, so only a counter above 1 asks for it.
-fn place_asked(order: ValueOrder, stream: &[u8], own: u8, v: u8, counter: u8) -> usize
-    requires { Accepted stream.now × (1 ≤ own) × (own ≤ units_of stream.now) }
-    ensures { nat_le counter result ≡ nat_le counter (place_tried (view_by order (instance_of stream.now) (pred own)) v) }
-{
-    if v == 0 {
-        return 0;
-    }
-    if counter <= 1 {
-        return 1;
-    }
-    place_tried(order, stream, own, v)
+// A unit of an accepted stream.
+#[derive(Clone, Copy)]
+struct Member<'a> {
+    stream: &'a [u8],
+    own: u8,
+    ghost accepted: { stream_refusal stream.now ≡ 0 },
+    ghost first: { 1 ≤ own },
+    ghost last: { own ≤ units_of stream.now },
 }
 
-// The place of a unit's value in the order tried. Its costs are gathered only where that asks for them.
-fn place_tried(order: ValueOrder, stream: &[u8], own: u8, v: u8) -> usize
-    requires { Accepted stream.now × (1 ≤ own) × (own ≤ units_of stream.now) }
-    ensures { result ≡ place_tried (view_by order (instance_of stream.now) (pred own)) v }
-{
-    match order {
-        ValueOrder::Ascending => base::wide(v),
-        ValueOrder::CheapestFirst => place_by_h(stream, own, v),
+impl<'a> Member<'a> {
+    // A place that the counter is within where it is within that of the unit's value. No value's place is below 1, so only a counter above 1
+    // asks for it.
+    fn place_asked(&self, order: ValueOrder, v: u8, counter: u8) -> usize
+        ensures { nat_le counter result ≡ nat_le counter (place_tried (view_by order (instance_of self.now.stream.now) (pred self.now.own)) v) }
+    {
+        if v == 0 {
+            0
+        } else if counter <= 1 {
+            1
+        } else {
+            self.place_tried(order, v)
+        }
     }
-}
 
-// The same by rising h.
-fn place_by_h(stream: &[u8], own: u8, v: u8) -> usize
-    requires { Accepted stream.now × (1 ≤ own) × (own ≤ units_of stream.now) }
-    ensures { result ≡ place_tried (view_by CheapestFirst (instance_of stream.now) (pred own)) v }
-{
-    if SHORT_STREAM < stream.len() {
-        return place_long(stream, own, v);
+    // The place of the unit's value in the order tried. Its costs are gathered only where that asks for them.
+    fn place_tried(&self, order: ValueOrder, v: u8) -> usize
+        ensures { result ≡ place_tried (view_by order (instance_of self.now.stream.now) (pred self.now.own)) v }
+    {
+        match order {
+            ValueOrder::Ascending => usize::from(v),
+            ValueOrder::CheapestFirst => self.place_by_h(v),
+        }
     }
-    place_short(stream, own, v)
-}
 
-// The same, where the unit's costs mostly fit a short buffer.
-fn place_short(stream: &[u8], own: u8, v: u8) -> usize
-    requires { Accepted stream.now × (1 ≤ own) × (own ≤ units_of stream.now) }
-    ensures { result ≡ place_tried (view_by CheapestFirst (instance_of stream.now) (pred own)) v }
-{
-    let mut costs = [0u8; SHORT_COSTS];
-    let gathered = costs::gather(stream, own, &mut costs);
-    if gathered.refusal != 0 {
-        return place_long(stream, own, v);
+    // The same by rising h. The costs mostly fit a short buffer, as in a step.
+    fn place_by_h(&self, v: u8) -> usize
+        ensures { result ≡ place_tried (view_by CheapestFirst (instance_of self.now.stream.now) (pred self.now.own)) v }
+    {
+        if self.stream.len() <= SHORT_STREAM {
+            let mut costs = [0u8; SHORT_COSTS];
+            if let Ok(count) = costs::gather(self.stream, self.own, &mut costs) {
+                return self.place_with(&costs[..count], v);
+            }
+        }
+        let mut costs = [0u8; base::COSTS_SIZE];
+        let count = costs::gather(self.stream, self.own, &mut costs).unwrap_or(0);
+        self.place_with(&costs[..count], v)
     }
-    let count = gathered.length;
-    let seat = seat_of(stream, own);
-    let unknown = [0u32; 1];
-    costs::place_tried(seat, &costs[0..count], &unknown[0..0], v)
-}
 
-// The same with room for the costs of any unit.
-fn place_long(stream: &[u8], own: u8, v: u8) -> usize
-    requires { Accepted stream.now × (1 ≤ own) × (own ≤ units_of stream.now) }
-    ensures { result ≡ place_tried (view_by CheapestFirst (instance_of stream.now) (pred own)) v }
-{
-    let mut costs = [0u8; base::COSTS_SIZE];
-    let gathered = costs::gather(stream, own, &mut costs);
-    let count = gathered.length;
-    let seat = seat_of(stream, own);
-    let unknown = [0u32; 1];
-    costs::place_tried(seat, &costs[0..count], &unknown[0..0], v)
-}
+    // The same, with the costs at hand.
+    fn place_with(&self, costs: &[u8], v: u8) -> usize
+        requires { costs.now ≡ gathered self.now.stream.now self.now.own }
+        ensures { result ≡ place_tried (view_by CheapestFirst (instance_of self.now.stream.now) (pred self.now.own)) v }
+    {
+        costs::place_tried(self.seat(), costs, &[], v)
+    }
 
-// The seat of a unit of the stream that tries its values by rising h.
-fn seat_of(stream: &[u8], own: u8) -> Seat
-    ensures { result ≡ seat_at CheapestFirst own (units_of stream.now) (sizes_in stream.now) }
-{
-    let n = table::units_of(stream);
-    let sizes = costs::sizes_of(stream);
-    Seat {
-        own,
-        n,
-        sizes,
-        order: ValueOrder::CheapestFirst,
+    // Its seat, where it tries its values by rising h.
+    fn seat(&self) -> Seat
+        ensures { result ≡ seat_at CheapestFirst self.now.own (units_of self.now.stream.now) (sizes_in self.now.stream.now) }
+    {
+        Seat {
+            own: self.own,
+            n: table::units_of(self.stream),
+            sizes: costs::sizes_of(self.stream),
+            order: ValueOrder::CheapestFirst,
+        }
     }
 }

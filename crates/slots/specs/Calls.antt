@@ -1,12 +1,12 @@
 -- The calls on bytes: making a network over 02's pool and a delivery, refusals in 01's order. Units, counts, the step and its refusals are those of runs/specs/Calls.
 -- 01: "Making .. a shed: 5, 6, 7, 13." "Delivery: 13, 5 (n, sizes), 6, 7, 5 (any unit's state, pool count), 12, 15, the step's from 8 on, 14."
 -- 02, job 4: "This pool has no count for check 5", and no 14. Assumes nothing.
-use Rattle.std.specs.Prelude.{ℕ, zero, suc, pred, Bool, false, cond, not, List, ltb, eqb, length}
-use Rattle.base.specs.{Refusal.or_else}
+use Rattle.std.specs.Prelude.{ℕ, zero, suc, pred, Bool, false, cond, not, List, ltb, eqb, length, Result as Reading, Ok, Err}
+use Rattle.base.specs.{declared.Refusal.Refusal, Refusal.or_else}
 use Rattle.table.specs.Stream.{units_of}
 use Rattle.costs.specs.declared.ValueOrder.{ValueOrder}
 use Rattle.costs.specs.{Instance.view_by, Instance.instance_of, Gather.sizes_in}
-use Rattle.message.specs.{declared.Read.TheVariants.Good, declared.Read.TheVariants.Refused, declared.Message.Message, declared.Read.Read, Decode.parse_for}
+use Rattle.message.specs.{declared.Kind.Kind, declared.Message.Message, Decode.parse_for}
 use Rattle.rules.specs.{State.fresh, Send.packets, Calls.unless_refused, Units.unit_at}
 use Rattle.rules.specs.Step.{Decision, refused, accepted, assign}
 use Rattle.runs.specs.{declared.Core.Core, Pool.cell_of, Calls.no_core, Calls.core_begun, Calls.making_refusal, Calls.core_after, Calls.core_refusal, Calls.receiver_of, Calls.step_from8}
@@ -44,12 +44,12 @@ unfoldable pub deliver_refusal : ValueOrder → Core → List ℕ → List ℕ �
 deliver_refusal order core stream pool cell = or_else (lent_refusal order core stream pool) (cell_refusal core stream pool cell)
 
 -- 02: "A message in a cell not its own gets 9": one that reads; else its own 8, 10 or 9 comes first
-abbrev pub stray_read : ℕ → ℕ → Read → Message → Bool
-stray_read n cell (Refused r) m = false
-stray_read n cell (Good k) m = not (eqb (slot_number n k m.sender m.receiver) cell)
+abbrev pub stray_read : ℕ → ℕ → Reading (Kind × Message) Refusal → Bool
+stray_read n cell (Err r) = false
+stray_read n cell (Ok (k, m)) = not (eqb (slot_number n k m.sender m.receiver) cell)
 
 unfoldable pub is_stray : List ℕ → ℕ → List ℕ → ℕ → Bool
-is_stray stream own bytes cell = let p = parse_for (units_of stream) (sizes_in stream) own bytes in stray_read (units_of stream) cell p.answer p.message
+is_stray stream own bytes cell = stray_read (units_of stream) cell (parse_for (units_of stream) (sizes_in stream) own bytes)
 
 -- what the step of unit `own` leaves
 abbrev pub stored : Core → List ℕ → ℕ → ℕ → ℕ → Decision → Result

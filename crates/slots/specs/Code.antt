@@ -4,13 +4,14 @@
 --     stray-..                                   a message that stands in a cell not its own
 --     hand-..                                    the message at a cell goes to its unit
 -- The units and counts, the step and its limits are those of runs/specs/Code. Assumes nothing.
-use Rattle.std.specs.Prelude.{◌≡◌, ℕ, zero, suc, pred, ◌-◌, ◌*◌, ◌<◌, ◌≤◌, true, false, cond, not, List, [], length, take, ◌==◌, ◌≢◌, nat_lt}
+use Rattle.std.specs.Prelude.{◌≡◌, ℕ, zero, suc, pred, ◌-◌, ◌*◌, ◌<◌, ◌≤◌, true, false, cond, not, List, [], length, take, ◌==◌, ◌≢◌, nat_lt, Ok, Err}
 use Rattle.std.specs.Prelude.{refl}
 use Rattle.std.proofs.Common.{sym, ◌∙◌, subst, arith}
 use Rattle.std.proofs.Math.Path.{ap}
 use Rattle.std.proofs.Math.Option.{none}
 use Rattle.std.proofs.lemmas.List.{length-replicate}
 use borrow.Author.Tests.{ltb-false}
+use Rattle.base.specs.declared.Refusal.{Refusal}
 use Rattle.base.specs.Refusal.Laws.{or_left, or_right}
 use Rattle.base.specs.Limits.{sending_size, message_size}
 use Rattle.base.specs.Bytes.Laws.{AllBytes}
@@ -22,8 +23,7 @@ use Rattle.costs.specs.Gather.{sizes_in}
 use Rattle.costs.specs.Gather.Sizes.{length_sizes, accepted-sizes-first}
 use Rattle.costs.specs.Gather.Laws.{gathered-view}
 use Rattle.message.specs.declared.Kind.{Kind}
-use Rattle.message.specs.declared.Parsed.{Parsed}
-use Rattle.message.specs.declared.Read.TheVariants.{Good, Refused}
+use Rattle.message.specs.declared.Message.{Message}
 use Rattle.message.specs.Decode.{parse_for}
 use Rattle.rules.specs.declared.Unit.{Unit as UnitState}
 use Rattle.rules.specs.declared.Outcome.{Outcome}
@@ -45,7 +45,7 @@ use Rattle.runs.specs.Pool.Stored.{encode_all_length}
 use Rattle.runs.specs.Calls.{no_core, making_refusal, core_begun, core_after, receiver_of, lent_of, step_lent, first_lent, step_from8}
 use Rattle.runs.specs.Code.{SoundCore, Stepped}
 use Rattle.runs.proofs.CodeLaws.{if_so, few_sent, step_numbered, sound_core, sound_passes, sound_after, lent_is, first_step, own_is, own_first, own-most, at_place, hand-told, hand_keeps}
-use Rattle.slots.specs.Slot.{slot_pool_size, used_slots, may_carry, slot_or_none}
+use Rattle.slots.specs.Slot.{slot_pool_size, used_slots, slot_or_none}
 use Rattle.slots.specs.Bytes.{slot_bytes, take_out, place_bytes, zero_cells}
 use Rattle.slots.specs.Bytes.Laws.{length_put, length_zeroed}
 use Rattle.slots.specs.Checks.{lent_passes, lent-refused, cell_refused}
@@ -153,16 +153,14 @@ open_passes order core s pool cell o = lent_passes order core s pool o.room (sou
 -- ---- a message in a cell not its own
 
 -- by what was read of it, with n as the code has it
-module _ (s : List ℕ) (own : ℕ) (bytes : List ℕ) (cell n : ℕ) (units : n ≡ units_of s) (p : Parsed) (read : p ≡ parse_for n (sizes_in s) own bytes) where
-  pub stray_unread : (r : ℕ) → p.answer ≡ Refused r → false ≡ is_stray s own bytes cell
+module _ (s : List ℕ) (own : ℕ) (bytes : List ℕ) (cell n : ℕ) (units : n ≡ units_of s) where
+  pub stray_unread : (r : Refusal) → parse_for n (sizes_in s) own bytes ≡ Err r → false ≡ is_stray s own bytes cell
   unfolding is_stray
-  stray_unread r e = rw (← units, ← read, e)
+  stray_unread r e = rw (← units, e)
 
-  pub stray_read_lem : (k : Kind) → p.answer ≡ Good k → (c : ℕ) → c ≡ slot_or_none n k p.message.sender p.message.receiver → not (c == cell) ≡ is_stray s own bytes cell
+  pub stray_read_lem : (k : Kind) (m : Message) → parse_for n (sizes_in s) own bytes ≡ Ok (k, m) → (c : ℕ) → c ≡ slot_or_none n k m.sender m.receiver → not (c == cell) ≡ is_stray s own bytes cell
   unfolding is_stray slot_or_none
-  stray_read_lem k e c is =
-      let a : may_carry n k p.message.sender p.message.receiver ≡ true = rw (← read) at (read_allowed n (sizes_in s) own bytes k (rw (← read) e)) in
-      rw (is, a, ← units, ← read, e)
+  stray_read_lem k m e c is = rw (is, read_allowed n (sizes_in s) own bytes k m e, ← units, e)
 
 -- ---- the message at a cell goes to its unit, once all checks have passed: n, own and the bytes as the code has them
 

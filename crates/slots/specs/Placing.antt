@@ -1,22 +1,20 @@
 -- Cells emptied and filled as the code does it: packets go one after the other, each into the cell that its first three bytes name.
 -- In order: what it does; cells emptied, and looked for; what a step sent, placed so, is `place_bytes`.
 -- Assumes nothing.
-use Rattle.std.specs.Prelude.{◌≡◌, ℕ, zero, suc, ◌+◌, ◌-◌, ◌*◌, ◌<◌, ◌≤◌, Bool, true, false, cond, ◌||◌, List, [], ◌∷◌, ◌++◌, length, take, drop, replicate, nat_le, slice_index}
+use Rattle.std.specs.Prelude.{◌≡◌, ℕ, zero, suc, ◌+◌, ◌-◌, ◌*◌, ◌<◌, ◌≤◌, Bool, true, false, cond, ◌||◌, List, [], ◌∷◌, ◌++◌, length, take, drop, nat_le, slice_index, Result, Ok, Err}
 use Rattle.std.proofs.Math.Path.{refl, sym, ap}
 use Rattle.std.proofs.Common.{◌∙◌, take_at, drop_at, take-take, take-add, drop-drop}
 use native.Mathlib.Omega.{arith}
 use Rattle.std.proofs.Math.Numerals.{add-one}
-use Rattle.std.proofs.lemmas.List.{length-replicate, replicate-append-replicate}
 use borrow.Author.Tests.{leb-false, le-leb, lt-leb}
+use Rattle.base.specs.declared.Refusal.{Refusal}
 use Rattle.base.specs.Limits.{message_size, places}
-use Rattle.base.specs.Put.{put_at, put_within}
-use Rattle.base.specs.Put.Laws.{put-fits, put_after}
+use Rattle.base.specs.Put.{put_within}
+use Rattle.base.specs.Put.Laws.{put-fits}
 use Rattle.base.specs.Members.{here, there, Every}
 use Rattle.table.specs.Block.{all_zero}
 use Rattle.message.specs.declared.Kind.{Kind}
 use Rattle.message.specs.declared.Kind.TheVariants.{Cpa, Request, Estimate, Solution, Stop}
-use Rattle.message.specs.declared.Read.{Read}
-use Rattle.message.specs.declared.Read.TheVariants.{Good, Refused}
 use Rattle.message.specs.Message.{Packet, kind_code, kind_of}
 use Rattle.message.specs.Written.{body, encode}
 use Rattle.message.specs.EncodeLaws.{length_encode}
@@ -25,16 +23,16 @@ use Rattle.rules.specs.Laws.Packets.{Sendable}
 use Rattle.runs.specs.Pool.{cell_of}
 use Rattle.slots.specs.Slot.{slot_cells, slot_pool_size, may_carry, used_slots, slot_or_none, slot_of}
 use Rattle.slots.specs.Slot.Laws.{fields_allowed, slot_used, used_fits}
-use Rattle.slots.specs.Bytes.{put_cell, take_out, place_bytes, is_empty}
+use Rattle.slots.specs.Bytes.{put_cell, place_bytes, is_empty}
 use Rattle.slots.specs.Bytes.Laws.{length_put}
 use Rattle.slots.specs.Settle.{first_from}
 
 -- ---- what the code does
 
 -- the cell of a kind that was read, or 300
-abbrev pub slot_by_kind : ℕ → Read → ℕ → ℕ → ℕ
-slot_by_kind n (Good k) s r = slot_or_none n k s r
-slot_by_kind n (Refused x) s r = slot_cells
+abbrev pub slot_by_kind : ℕ → Result Kind Refusal → ℕ → ℕ → ℕ
+slot_by_kind n (Ok k) s r = slot_or_none n k s r
+slot_by_kind n (Err x) s r = slot_cells
 
 abbrev pub named_slot : ℕ → List ℕ → ℕ
 named_slot n bytes = slot_by_kind n (kind_of (slice_index bytes 0)) (slice_index bytes 1) (slice_index bytes 2)
@@ -67,21 +65,6 @@ module _ {w : List ℕ} (n : ℕ) (pool out : List ℕ) (i sent : ℕ) (inv : w 
   pub place_end : sent ≤ i → pool ≡ w
   unfolding place_sent
   place_end h = let e : sent - i ≡ 0 = omega arith in sym (inv ∙ rw e)
-
--- ---- cells emptied
-
--- the first c cells
-abbrev pub zeroed : ℕ → List ℕ → List ℕ
-zeroed c pool = put_at pool 0 (replicate (message_size * c) 0)
-
-pub zero_more : (pool : List ℕ) (c : ℕ) → take_out (zeroed c pool) c ≡ zeroed (c + 1) pool
-zero_more pool c =
-    let g : List ℕ = replicate (message_size * c) 0 in
-    let w : List ℕ = replicate message_size 0 in
-    let k : message_size * c ≡ 0 + length g = omega (arith, length-replicate {A = ℕ} (message_size * c) 0) in
-    let m : message_size * c + message_size ≡ message_size * (c + 1) = omega arith in
-    ap (λ (at : ℕ). put_at (put_at pool 0 g) at w) k ∙ put_after pool g w 0 (omega arith)
-    ∙ ap (λ (x : List ℕ). put_at pool 0 x) (replicate-append-replicate {A = ℕ} (message_size * c) message_size 0 ∙ ap (λ (y : ℕ). replicate {A = ℕ} y 0) m)
 
 -- ---- looked for
 
@@ -124,11 +107,11 @@ module _ (n : ℕ) (few : n ≤ places) (sizes : List ℕ) (p : Packet) (s : Sen
   carried : may_carry n p.kind p.message.sender p.message.receiver ≡ true
   carried = fields_allowed n sizes p.kind p.message s.address s.form
 
-  kind_named : kind_of (slice_index (packet_bytes p) 0) ≡ Good p.kind
+  kind_named : kind_of (slice_index (packet_bytes p) 0) ≡ Ok p.kind
   unfolding encode body
   kind_named = go p.kind
     where
-      go : (k : Kind) → kind_of (kind_code k) ≡ Good k
+      go : (k : Kind) → kind_of (kind_code k) ≡ Ok k
       go Cpa = refl
       go Request = refl
       go Estimate = refl

@@ -12,19 +12,15 @@ ghost use Rattle.slots.specs.Settle.{lowest};
 use crate::SLOTS;
 use crate::numbering::{slot_of, used_slots};
 use base::MESSAGE_SIZE;
-use message::Read;
+use message::Kind;
 
 // Zeros in the cells that n units use.
 pub(crate) fn zero_cells(pool: &mut [u8], n: u8)
     requires { (n ≤ places) × (slot_pool_size ≤ length pool.old) }
     ensures { pool.new ≡ zero_cells n pool.old }
 {
-    let used = used_slots(n) as usize;
-    let mut c = 0;
-    while c < used {
-        zero_cell(pool, c);
-        c += 1;
-    }
+    let end = MESSAGE_SIZE * used_slots(n) as usize;
+    pool[..end].fill(0);
 }
 
 // Zeros in a cell.
@@ -32,8 +28,9 @@ pub(crate) fn zero_cell(pool: &mut [u8], cell: usize)
     requires { (cell < slot_cells) × (slot_pool_size ≤ length pool.old) }
     ensures { pool.new ≡ take_out pool.old cell }
 {
-    let blank = [0u8; MESSAGE_SIZE];
-    base::put(pool, MESSAGE_SIZE * cell, &blank);
+    let at = MESSAGE_SIZE * cell;
+    let end = at + MESSAGE_SIZE;
+    pool[at..end].fill(0);
 }
 
 // The first `sent` packets in `out`, each put into the cell that it names, one after the other.
@@ -41,12 +38,10 @@ pub(crate) fn place_all(n: u8, pool: &mut [u8], out: &[u8], sent: usize)
     requires { message_size * sent ≤ length out.now }
     ensures { pool.new ≡ place_sent n pool.old out.now 0 sent }
 {
-    let mut i = 0;
-    while i < sent {
+    for i in 0..sent {
         let at = MESSAGE_SIZE * i;
         let end = at + MESSAGE_SIZE;
         place(n, pool, &out[at..end]);
-        i += 1;
     }
 }
 
@@ -55,18 +50,16 @@ fn place(n: u8, pool: &mut [u8], packet: &[u8])
     ensures { pool.new ≡ place_named n pool.old packet.now }
 {
     let cell = named_slot(n, packet);
-    if SLOTS <= cell {
-        return;
+    if cell < SLOTS {
+        base::put(pool, MESSAGE_SIZE * cell as usize, packet);
     }
-    base::put(pool, MESSAGE_SIZE * cell as usize, packet);
 }
 
 // The cell of the kind, sender and receiver that stand first in a packet, or SLOTS.
 fn named_slot(n: u8, packet: &[u8]) -> u64
     ensures { result ≡ named_slot n packet.now }
 {
-    let read = message::kind_of(base::byte_at(packet, 0));
-    let Read::Good(kind) = read else {
+    let Ok(kind) = Kind::try_from(base::byte_at(packet, 0)) else {
         return SLOTS;
     };
     let sender = base::byte_at(packet, 1);
@@ -79,10 +72,7 @@ pub(crate) fn is_empty(n: u8, pool: &[u8], cell: u64) -> bool
     requires { (n ≤ places) × (slot_pool_size ≤ length pool.now) }
     ensures { result ≡ is_empty n pool.now cell }
 {
-    if used_slots(n) <= cell {
-        return true;
-    }
-    cell_zero(pool, cell as usize)
+    used_slots(n) <= cell || cell_zero(pool, cell as usize)
 }
 
 // The lowest cell where a message waits, or how many are used.
@@ -91,14 +81,12 @@ pub(crate) fn lowest(n: u8, pool: &[u8]) -> u64
     ensures { result ≡ lowest n pool.now }
 {
     let used = used_slots(n);
-    let mut c: u64 = 0;
-    while c < used {
+    for c in 0..used {
         if !cell_zero(pool, c as usize) {
             return c;
         }
-        c += 1;
     }
-    c
+    used
 }
 
 fn cell_zero(pool: &[u8], cell: usize) -> bool
@@ -110,15 +98,9 @@ fn cell_zero(pool: &[u8], cell: usize) -> bool
     all_zero(&pool[at..end])
 }
 
+#[tactic(auto, unfolding(table::specs::Block::all_zero))]
 fn all_zero(bytes: &[u8]) -> bool
     ensures { result ≡ all_zero bytes.now }
 {
-    let mut i = 0;
-    while i < bytes.len() {
-        if bytes[i] != 0 {
-            return false;
-        }
-        i += 1;
-    }
-    true
+    bytes.iter().all(|b| *b == 0)
 }

@@ -5,15 +5,15 @@ ghost use Rattle.base.specs.Limits.{places};
 ghost use Rattle.table.specs.Stream.{units_of};
 ghost use Rattle.costs.specs.Order.{default_order};
 ghost use Rattle.slots.specs.Slot.{slot_pool_size};
+ghost use Rattle.base.specs.Refusal.{told};
 ghost use Rattle.slots.specs.Calls.{lent_refusal, cell_refusal, is_stray, deliver_by, deliver_of};
 ghost use Rattle.slots.specs.Code.{Open};
 
 use crate::cells::{is_empty, place_all, zero_cell};
 use crate::numbering::slot_of;
 use crate::{Answer, SLOT_POOL_SIZE};
-use base::MESSAGE_SIZE;
+use base::{MESSAGE_SIZE, Refusal};
 use costs::ValueOrder;
-use message::Read;
 use runs::Core;
 
 // The message at a cell is delivered: units, counts and pool after it, or a refusal with all as lent. Refusals 13, 5, 6, 7, 5, 12, 15, then the
@@ -34,21 +34,25 @@ pub fn deliver_by(
 ) -> Answer
     ensures { (result ≡ (deliver_of order core stream.now pool.old cell).answer) × (pool.new ≡ (deliver_of order core stream.now pool.old cell).pool) }
 {
-    let refusal = lent_refusal(order, core, stream, pool);
-    if refusal != 0 {
-        return Answer { refusal, core };
+    match check_lent(order, core, stream, pool) {
+        Ok(()) => deliver_checked(order, core, stream, pool, cell),
+        Err(refusal) => Answer::refused(refusal, core),
     }
-    deliver_checked(order, core, stream, pool, cell)
 }
 
-// The first refusal of what is lent, whatever cell is named, or 0.
-pub(crate) fn lent_refusal(order: ValueOrder, core: Core, stream: &[u8], pool: &[u8]) -> u8
-    ensures { result ≡ lent_refusal order core stream.now pool.now }
+// Whether what is lent can take a delivery, whatever cell is named.
+pub(crate) fn check_lent(
+    order: ValueOrder,
+    core: Core,
+    stream: &[u8],
+    pool: &[u8],
+) -> Result<(), Refusal>
+    ensures { told result ≡ lent_refusal order core stream.now pool.now }
 {
     if pool.len() < SLOT_POOL_SIZE {
-        return 13;
+        return Err(Refusal::NoRoom);
     }
-    shed_core::refusal(order, core, stream)
+    shed_core::check(order, core, stream)
 }
 
 // A delivery where that is 0. It stays so, as a step leaves its unit in range: a list of deliveries is checked once.
@@ -62,28 +66,25 @@ pub(crate) fn deliver_checked(
     requires { lent_refusal order core stream.now pool.old ≡ 0 }
     ensures { (result ≡ (deliver_of order core stream.now pool.old cell).answer) × (pool.new ≡ (deliver_of order core stream.now pool.old cell).pool) × (lent_refusal order result.core stream.now pool.new ≡ 0) }
 {
-    let refusal = cell_refusal(core, stream, pool, cell);
-    if refusal != 0 {
-        return Answer { refusal, core };
+    match check_cell(core, stream, pool, cell) {
+        Ok(()) => hand_over(order, core, stream, pool, cell as usize),
+        Err(refusal) => Answer::refused(refusal, core),
     }
-    hand_over(order, core, stream, pool, cell as usize)
 }
 
-// The first refusal that the cell gives, or 0.
-fn cell_refusal(core: Core, stream: &[u8], pool: &[u8], cell: u64) -> u8
+// Whether a message waits at the cell, and unit 1 has not stopped.
+fn check_cell(core: Core, stream: &[u8], pool: &[u8], cell: u64) -> Result<(), Refusal>
     requires { (units_of stream.now ≤ places) × (slot_pool_size ≤ length pool.now) }
-    ensures { result ≡ cell_refusal core stream.now pool.now cell }
+    ensures { told result ≡ cell_refusal core stream.now pool.now cell }
 {
-    let units = core.units;
-    let first = units[0];
-    if first.stopped {
-        return 12;
+    if core.units[0].stopped {
+        return Err(Refusal::Stopped);
     }
     let n = table::units_of(stream);
     if is_empty(n, pool, cell) {
-        return 15;
+        return Err(Refusal::NoMessage);
     }
-    0
+    Ok(())
 }
 
 // The message at the cell goes to its receiver, the cell is emptied, and what that unit sends is placed.
@@ -96,18 +97,20 @@ fn hand_over(order: ValueOrder, core: Core, stream: &[u8], pool: &mut [u8], cell
     let n = table::units_of(stream);
     let own = shed_core::receiver(n, &pool[at..end]);
     if is_stray(stream, own, &pool[at..end], cell) {
-        return Answer { refusal: 9, core };
+        return Answer::refused(Refusal::BadField, core);
     }
-    let units = core.units;
-    let u = units[(own - 1) as usize];
+    let u = core.units[usize::from(own - 1)];
     let mut out = [0u8; base::SENDING_SIZE];
     let r = shed_core::step(order, u, stream, own, &pool[at..end], &mut out);
-    let refusal = r.refusal;
-    if refusal != 0 {
-        return Answer { refusal, core };
+    // the number goes on as it is: `Outcome` and `Answer` are what C is handed
+    if r.refusal != 0 {
+        return Answer {
+            refusal: r.refusal,
+            core,
+        };
     }
     zero_cell(pool, cell);
-    place_all(n, pool, &out, r.sent as usize);
+    place_all(n, pool, &out, usize::from(r.sent));
     Answer {
         refusal: 0,
         core: shed_core::advance(core, own, r),
@@ -120,11 +123,8 @@ fn is_stray(stream: &[u8], own: u8, packet: &[u8], cell: usize) -> bool
 {
     let n = table::units_of(stream);
     let sizes = costs::sizes_of(stream);
-    let p = message::parse_for(n, sizes, own, packet);
-    let answer = p.answer;
-    let Read::Good(kind) = answer else {
+    let Ok((kind, m)) = message::parse_for(n, sizes, own, packet) else {
         return false;
     };
-    let m = p.message;
     slot_of(n, kind, m.sender, m.receiver) != cell as u64
 }

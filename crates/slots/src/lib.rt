@@ -2,6 +2,9 @@
 // the newer of two messages for one, making, delivery, a recorded run replayed, and running to the end.
 #![tactic(auto)]
 
+ghost use Rattle.std.specs.Prelude.{◌≡◌};
+ghost use Rattle.base.specs.Refusal.{number_of};
+
 mod cells; // cells emptied, filled and looked for
 mod delivery; // the message at a cell delivered
 mod making; // a network made of a stream
@@ -10,11 +13,14 @@ mod pair; // the newer of two lent messages
 mod replaying; // a recorded run replayed
 mod settling; // a network run to its end
 
+use base::Refusal;
+// Each call that is told no order of values has `by` one that is: README and C name both. Making, delivery and settling are the twins of `network`'s
+// but for the pool and for the struct that C is handed; what they share is `shed_core`.
 pub use costs::ValueOrder;
 pub use delivery::{deliver, deliver_by};
 pub use making::{make, make_by};
 pub use numbering::{slot_of, used_slots};
-pub use pair::{newer, newer_refusal, which_newer};
+pub use pair::{check_newer, newer, which_newer};
 pub use replaying::{replay, replay_by};
 pub use runs::{Core, Count};
 pub use settling::{settle, settle_by};
@@ -24,7 +30,8 @@ pub const SLOTS: u64 = 300;
 
 pub const SLOT_POOL_SIZE: usize = 19200;
 
-// What making, a delivery and a replay give beside the pool's bytes.
+// What making, a delivery and a replay give beside the pool's bytes; C is handed it as it is. No one Answer with `runs`: the other has the cells in
+// use too.
 #[repr(C)]
 #[derive(Clone, Copy)]
 pub struct Answer {
@@ -32,10 +39,14 @@ pub struct Answer {
     pub core: Core,
 }
 
-// Which of two messages is handed back; or neither, and the refusal.
-#[derive(Clone, Copy)]
-enum Choice {
-    First,
-    Second,
-    Neither(u8),
+impl Answer {
+    // What a refused call gives beside the units and counts as they were lent.
+    fn refused(refusal: Refusal, core: Core) -> Answer
+        ensures { result ≡ record { refusal = number_of refusal; core = core } }
+    {
+        Answer {
+            refusal: refusal.number(),
+            core,
+        }
+    }
 }

@@ -1,7 +1,9 @@
 // A network over this pool made of a stream: unit 1 assigns, the others wait.
 
-ghost use Rattle.std.specs.Prelude.{◌≡◌};
+ghost use Rattle.std.specs.Prelude.{◌≡◌, length};
 ghost use Rattle.costs.specs.Order.{default_order};
+ghost use Rattle.runs.specs.Calls.{making_refusal};
+ghost use Rattle.slots.specs.Slot.{slot_pool_size};
 ghost use Rattle.slots.specs.Calls.{make_of};
 
 use crate::cells::{place_all, zero_cells};
@@ -19,18 +21,22 @@ pub fn make(stream: &[u8], pool: &mut [u8]) -> Answer
 pub fn make_by(order: ValueOrder, stream: &[u8], pool: &mut [u8]) -> Answer
     ensures { (result ≡ (make_of order stream.now pool.old).answer) × (pool.new ≡ (make_of order stream.now pool.old).pool) }
 {
-    let refusal = shed_core::make_refusal(stream, pool.len(), SLOT_POOL_SIZE);
-    if refusal != 0 {
-        return Answer {
-            refusal,
-            core: shed_core::no_core(),
-        };
+    match shed_core::check_making(stream, pool.len(), SLOT_POOL_SIZE) {
+        Ok(()) => place_first(order, stream, pool),
+        Err(refusal) => Answer::refused(refusal, shed_core::no_core()),
     }
+}
+
+// Unit 1 is made, and what it sends is placed among empty cells.
+fn place_first(order: ValueOrder, stream: &[u8], pool: &mut [u8]) -> Answer
+    requires { making_refusal slot_pool_size stream.now (length pool.old) ≡ 0 }
+    ensures { (result ≡ (make_of order stream.now pool.old).answer) × (pool.new ≡ (make_of order stream.now pool.old).pool) }
+{
     let n = table::units_of(stream);
     let mut out = [0u8; base::SENDING_SIZE];
     let r = shed_core::first_step(order, stream, &mut out);
     zero_cells(pool, n);
-    place_all(n, pool, &out, r.sent as usize);
+    place_all(n, pool, &out, usize::from(r.sent));
     Answer {
         refusal: 0,
         core: shed_core::begun(r),

@@ -8,20 +8,17 @@ ghost use Rattle.slots.specs.Slot.Laws.{Units, slot_if_allowed};
 use crate::SLOTS;
 use message::Kind;
 
-// The cell of a message of this kind, from a sender to a receiver; SLOTS where the rules allow none, past every cell
-// that up to 16 units use.
+// The cell of a message of this kind, from a sender to a receiver; SLOTS where the rules allow none, past every cell that up to 16 units use,
+// as C is told by that number.
 pub fn slot_of(n: u8, kind: Kind, sender: u8, receiver: u8) -> u64
     ensures { result ≡ slot_or_none n kind sender receiver }
 {
-    if !message::is_unit(n, sender) {
+    if !message::is_unit(n, sender) || !message::is_unit(n, receiver) {
         return SLOTS;
     }
-    if !message::is_unit(n, receiver) {
-        return SLOTS;
-    }
-    let count = n as u64;
-    let from = sender as u64;
-    let to = receiver as u64;
+    let count = u64::from(n);
+    let from = u64::from(sender);
+    let to = u64::from(receiver);
     match kind {
         Kind::Cpa => cpa_slot(count, from, to),
         Kind::Request => request_slot(count, from, to),
@@ -35,11 +32,8 @@ pub fn slot_of(n: u8, kind: Kind, sender: u8, receiver: u8) -> u64
 pub fn used_slots(n: u8) -> u64
     ensures { result ≡ used_slots n }
 {
-    if n < 1 {
-        return 0;
-    }
-    let count = n as u64;
-    (count - 1) * (count + 4)
+    let count = u64::from(n);
+    count.saturating_sub(1) * (count + 4)
 }
 
 // Between neighbours: down, from 0 on, every second cell, and back in between.
@@ -84,10 +78,7 @@ fn solution_slot(n: u64, sender: u64, receiver: u64) -> u64
     requires { Units n sender receiver }
     ensures { result ≡ slot_if_allowed n Solution sender receiver }
 {
-    if sender != n {
-        return SLOTS;
-    }
-    if receiver == sender {
+    if sender != n || receiver == sender {
         return SLOTS;
     }
     2 * (n - 1) + 2 * triangle(n) + (receiver - 1)
@@ -98,10 +89,7 @@ fn stop_slot(n: u64, sender: u64, receiver: u64) -> u64
     requires { Units n sender receiver }
     ensures { result ≡ slot_if_allowed n Stop sender receiver }
 {
-    if sender != 1 {
-        return SLOTS;
-    }
-    if receiver == sender {
+    if sender != 1 || receiver == sender {
         return SLOTS;
     }
     3 * (n - 1) + 2 * triangle(n) + (receiver - 2)
@@ -112,8 +100,5 @@ fn triangle(m: u64) -> u64
     requires { m ≤ 255 }
     ensures { (result ≡ triangle m) × (result ≤ 32385) }
 {
-    if m < 1 {
-        return 0;
-    }
-    m * (m - 1) / 2
+    m * m.saturating_sub(1) / 2
 }

@@ -1,91 +1,77 @@
 // The newer of two lent messages that share sender, receiver and kind.
 
-ghost use Rattle.std.specs.Prelude.{◌≡◌};
-ghost use Rattle.slots.specs.Newer.{same_slot, later_stamp, second_newer, chosen, choice_of, newer_refusal, which_newer, newer_of};
+ghost use Rattle.std.specs.Prelude.{◌≡◌, IfOk, IfErr};
+ghost use Rattle.base.specs.Refusal.{number_of, told};
+ghost use Rattle.slots.specs.Newer.{same_slot, later_stamp, second_newer, choice_of, newer_refusal, which_newer, newer_of};
 
-use crate::Choice;
-use message::{Kind, Message, Read};
-use rules::Ordering;
+use base::Refusal;
+use message::{Kind, Message};
 
-// The newer of the two, all of the buffer that held it; the empty part where `newer_refusal` gives a number.
-pub fn newer<'a>(n: u8, sizes: [u8; 16], first: &'a [u8], second: &'a [u8]) -> &'a [u8]
-    ensures { result.now ≡ newer_of n sizes first.now second.now }
+// Which of two lent messages is handed back.
+#[derive(Clone, Copy, Debug, PartialEq, Eq)]
+enum Which {
+    First,
+    Second,
+}
+
+// The newer of the two, all of the buffer that held it. Refusals 5; 8, 10, 9 of the first, then of the second; 9 where they differ in sender,
+// receiver or kind.
+pub fn newer<'a>(
+    n: u8,
+    sizes: [u8; 16],
+    first: &'a [u8],
+    second: &'a [u8],
+) -> Result<&'a [u8], Refusal>
+    ensures ok { IfOk result (λ part. (newer_refusal n sizes first.now second.now ≡ 0) × (part.now ≡ newer_of n sizes first.now second.now)) }
+    ensures err { IfErr result (λ refusal. number_of refusal ≡ newer_refusal n sizes first.now second.now) }
 {
-    let choice = choose(n, sizes, first, second);
-    match choice {
-        Choice::First => first,
-        Choice::Second => second,
-        Choice::Neither(_) => &first[0..0],
+    match choose(n, sizes, first, second)? {
+        Which::First => Ok(first),
+        Which::Second => Ok(second),
     }
 }
 
-// 0, or the refusal: 5; 8, 10, 9 of the first, then of the second; 9 where they differ in sender, receiver or kind.
-pub fn newer_refusal(n: u8, sizes: [u8; 16], first: &[u8], second: &[u8]) -> u8
-    ensures { result ≡ newer_refusal n sizes first.now second.now }
+// Whether one of the two is handed back, with the same refusals.
+pub fn check_newer(n: u8, sizes: [u8; 16], first: &[u8], second: &[u8]) -> Result<(), Refusal>
+    ensures { told result ≡ newer_refusal n sizes first.now second.now }
 {
-    let choice = choose(n, sizes, first, second);
-    match choice {
-        Choice::First => 0,
-        Choice::Second => 0,
-        Choice::Neither(refusal) => refusal,
-    }
+    choose(n, sizes, first, second)?;
+    Ok(())
 }
 
-// 1 where the first buffer is handed back, 2 where the second is, 0 where `newer_refusal` gives a number.
+// 1 where the first buffer is handed back, 2 where the second is, 0 where neither is: C can't be handed a part of a buffer.
 pub fn which_newer(n: u8, sizes: [u8; 16], first: &[u8], second: &[u8]) -> u8
     ensures { result ≡ which_newer n sizes first.now second.now }
 {
-    let choice = choose(n, sizes, first, second);
-    match choice {
-        Choice::First => 1,
-        Choice::Second => 2,
-        Choice::Neither(_) => 0,
+    match choose(n, sizes, first, second) {
+        Ok(Which::First) => 1,
+        Ok(Which::Second) => 2,
+        Err(_) => 0,
     }
 }
 
 // Both are read, the first checked first.
-fn choose(n: u8, sizes: [u8; 16], first: &[u8], second: &[u8]) -> Choice
+#[tactic(auto, unfolding(crate::specs::Newer::choice_of))]
+fn choose(n: u8, sizes: [u8; 16], first: &[u8], second: &[u8]) -> Result<Which, Refusal>
     ensures { result ≡ choice_of n sizes first.now second.now }
 {
-    let one = message::parse(n, sizes, first);
-    let answer = one.answer;
-    let Read::Good(kind) = answer else {
-        return Choice::Neither(message::refusal_of(answer));
-    };
-    let two = message::parse(n, sizes, second);
-    let other = two.answer;
-    let Read::Good(also) = other else {
-        return Choice::Neither(message::refusal_of(other));
-    };
-    let a = one.message;
-    let b = two.message;
-    chosen(kind, a, also, b)
-}
-
-// Of two messages that were read.
-fn chosen(kind: Kind, a: Message, also: Kind, b: Message) -> Choice
-    ensures { result ≡ chosen kind a also b }
-{
+    let (kind, a) = message::parse(n, sizes, first)?;
+    let (also, b) = message::parse(n, sizes, second)?;
     if !same_slot(kind, a, also, b) {
-        return Choice::Neither(9);
+        return Err(Refusal::BadField);
     }
     if second_newer(kind, a, b) {
-        return Choice::Second;
+        Ok(Which::Second)
+    } else {
+        Ok(Which::First)
     }
-    Choice::First
 }
 
 // The same kind, sender and receiver.
 fn same_slot(kind: Kind, a: Message, also: Kind, b: Message) -> bool
     ensures { result ≡ same_slot kind a also b }
 {
-    if message::kind_code(kind) != message::kind_code(also) {
-        return false;
-    }
-    if a.sender != b.sender {
-        return false;
-    }
-    a.receiver == b.receiver
+    u8::from(kind) == u8::from(also) && a.sender == b.sender && a.receiver == b.receiver
 }
 
 // Whether the second of two of one kind is the newer: by its stamp, or a solution by its bound; two stops are a tie.
@@ -93,9 +79,7 @@ fn second_newer(kind: Kind, a: Message, b: Message) -> bool
     ensures { result ≡ second_newer kind a b }
 {
     match kind {
-        Kind::Cpa => later_stamp(a, b),
-        Kind::Request => later_stamp(a, b),
-        Kind::Estimate => later_stamp(a, b),
+        Kind::Cpa | Kind::Request | Kind::Estimate => later_stamp(a, b),
         Kind::Solution => b.bound < a.bound,
         Kind::Stop => false,
     }
@@ -105,12 +89,5 @@ fn second_newer(kind: Kind, a: Message, b: Message) -> bool
 fn later_stamp(a: Message, b: Message) -> bool
     ensures { result ≡ later_stamp a b }
 {
-    let first = a.stamp;
-    let second = b.stamp;
-    let order = unit::compare_stamps(first, second);
-    match order {
-        Ordering::Less => true,
-        Ordering::Equal => false,
-        Ordering::Greater => false,
-    }
+    unit::compare_stamps(a.stamp, b.stamp).is_lt()
 }

@@ -6,7 +6,8 @@ ghost use Rattle.slots.specs.Calls.{lent_refusal};
 ghost use Rattle.slots.specs.Replay.{cells_in, deliver_until, replay_of};
 
 use crate::Answer;
-use crate::delivery::{deliver_checked, lent_refusal};
+use crate::delivery::{check_lent, deliver_checked};
+use base::Refusal;
 use costs::ValueOrder;
 use runs::Core;
 
@@ -29,16 +30,15 @@ pub fn replay_by(
     ensures { (result ≡ (replay_of order core stream.now pool.old list.now).answer) × (pool.new ≡ (replay_of order core stream.now pool.old list.now).pool) }
 {
     if list.len() % 2 != 0 {
-        return Answer { refusal: 22, core };
+        return Answer::refused(Refusal::OddList, core);
     }
-    if list.len() == 0 {
+    if list.is_empty() {
         return Answer { refusal: 0, core };
     }
-    let refusal = lent_refusal(order, core, stream, pool);
-    if refusal != 0 {
-        return Answer { refusal, core };
+    match check_lent(order, core, stream, pool) {
+        Ok(()) => deliver_all(order, core, stream, pool, list),
+        Err(refusal) => Answer::refused(refusal, core),
     }
-    deliver_all(order, core, stream, pool, list)
 }
 
 // The deliveries, to a network that was checked.
@@ -54,16 +54,13 @@ fn deliver_all(
 {
     let pairs = list.len() / 2;
     let mut core = begun;
-    let mut k = 0;
-    while k < pairs {
+    for k in 0..pairs {
         let cell = base::u16_at(list, 2 * k);
-        let d = deliver_checked(order, core, stream, pool, cell as u64);
+        let d = deliver_checked(order, core, stream, pool, u64::from(cell));
         if d.refusal != 0 {
             return d;
         }
-        let next = d.core;
-        core = next;
-        k += 1;
+        core = d.core;
     }
     Answer { refusal: 0, core }
 }

@@ -26,8 +26,7 @@ pub fn settle_by(order: ValueOrder, stream: &[u8], pool: &mut [u8]) -> Answer
     if made.refusal != 0 {
         return made;
     }
-    let begun = made.core;
-    let core = run(order, stream, begun, pool);
+    let core = run(order, stream, made.core, pool);
     Answer { refusal: 0, core }
 }
 
@@ -38,15 +37,10 @@ fn run(order: ValueOrder, stream: &[u8], begun: Core, pool: &mut [u8]) -> Core
 {
     let n = table::units_of(stream);
     let mut core = begun;
-    let first = core.units[0];
-    let mut over = first.stopped;
-    while !over {
+    // what ends it is a state: no range counts it
+    while !core.units[0].stopped {
         let cell = lowest(n, pool);
-        let d = deliver_checked(order, core, stream, pool, cell);
-        let next = d.core;
-        core = next;
-        let first = core.units[0];
-        over = first.stopped;
+        core = deliver_checked(order, core, stream, pool, cell).core;
     }
     core
 }

@@ -1,11 +1,10 @@
 -- A box that is handed the blocks of its table one after the other: what each gives, with the lent costs. A block that is refused changes nothing,
 -- so it can be handed over again. Nothing of the costs is to be used before the last block is in. Assumes nothing.
-use Rattle.std.specs.Prelude.{ℕ, zero, suc, ◌+◌, ◌%◌, Bool, true, false, cond, List, eqb, ltb, length, take, drop}
+use Rattle.std.specs.Prelude.{ℕ, zero, suc, ◌+◌, ◌%◌, Bool, true, false, cond, List, eqb, ltb, length, take, drop, Result, Ok, Err}
 use Rattle.base.specs.{Limits.block_size, Limits.costs_size, Refusal.or_else, Shape.is_value}
 use Rattle.table.specs.Block.{block_refusal, payload_of}
 use Rattle.start.specs.declared.Reader.{Reader}
 use Rattle.start.specs.declared.Start.{Start}
-use Rattle.start.specs.declared.Started.{Started}
 use Rattle.start.specs.Byte.{unread, after, kept, filled, end_refusal}
 
 -- no block is in
@@ -33,6 +32,21 @@ one_more s r count = record { own = s.own; blocks = s.blocks + 1; count = count 
 
 abbrev pub start_after : Start → List ℕ → Start
 start_after s block = one_more s (after s.reader (payload_of block)) (s.count + length (kept s.own s.reader (payload_of block)))
+
+-- what a block gives: the refusal, or 0; with the last one, how many bytes of costs there are; and how far the box is then
+pub record Started : Type 0 where
+  pub refusal : ℕ
+  pub length : ℕ
+  pub start : Start
+
+-- as the code says it beside the state
+abbrev pub answer_of : Started → Result ℕ ℕ
+answer_of a = cond (eqb a.refusal 0) (Ok a.length) (Err a.refusal)
+
+-- refused by a number, unless it is 0
+abbrev pub unless : ℕ → Result Unit ℕ
+unless zero = Ok tt
+unless (suc x) = Err (suc x)
 
 -- the two answers: with the last block it is told how many bytes of costs there are
 abbrev pub accepted_as : Bool → Start → Started

@@ -30,7 +30,6 @@ use Rattle.costs.specs.Gather.Checks.{refused_10, refused_none, Gatherable, gath
 use Rattle.costs.specs.Gather.Laws.{gathered-most}
 use Rattle.start.specs.declared.Reader.{Reader}
 use Rattle.start.specs.declared.Start.{Start}
-use Rattle.start.specs.declared.Started.{Started}
 use Rattle.start.specs.Byte.{unread, at_end, after, kept}
 use Rattle.start.specs.Fold.{after_append, kept_append, length_put, filled_put}
 use Rattle.start.specs.Steps.{take_zeros}
@@ -38,7 +37,7 @@ use Rattle.start.specs.Answers.{refused_late, by_block}
 use Rattle.start.specs.Runs.{based}
 use Rattle.start.specs.Refused.{end_refusal_lem, accepted_reader}
 use Rattle.start.specs.Theorem.{kept-gathered}
-use Rattle.start.specs.Block.{fresh, last_refusal, start_refusal, start_after, accepted_as, refused_by, start_of, start_into, starts_of, starts_into}
+use Rattle.start.specs.Block.{Started, fresh, last_refusal, start_refusal, start_after, accepted_as, refused_by, start_of, start_into, starts_of, starts_into}
 
 -- how many blocks of a file stand before the last
 abbrev pub before_last : List ℕ → ℕ

@@ -1,16 +1,13 @@
--- What the steps of the code need: a turn of a loop over bytes, and its end; what is written of a byte; a number of values; the first run behind
--- the sizes. Assumes nothing.
-use Rattle.std.specs.Prelude.{ℕ, zero, suc, ◌+◌, ◌*◌, ◌-◌, ◌≤◌, ◌<◌, Bool, true, false, cond, not, ◌&&◌, ◌≡◌, refl, List, [], leb, eqb, length, get_or, set, take, drop, replicate}
-use Rattle.std.proofs.Common.{sym, ap, ◌∙◌, append-nil, arith, add-zero, add-one, length-append, take-append-drop, drop_of_length-le, drop-cons, take_at}
+-- What the steps of the code need: a turn of a loop over bytes, and its end; what is written of a byte; the first run behind the sizes. Assumes nothing.
+use Rattle.std.specs.Prelude.{ℕ, suc, ◌+◌, ◌*◌, ◌-◌, ◌≤◌, ◌<◌, true, ◌&&◌, ◌≡◌, refl, List, eqb, length, get_or, set, take, drop, replicate}
+use Rattle.std.proofs.Common.{sym, ap, ◌∙◌, arith, add-one, length-append, drop_of_length-le, drop-cons, take_at}
 use Rattle.std.proofs.lemmas.List.{length-replicate, replicate-append-replicate}
-use Rattle.std.proofs.lemmas.Bool.{not-true, not-false}
-use Rattle.base.specs.Put.{put_at, put_within}
-use Rattle.base.specs.Limits.{places}
+use Rattle.base.specs.Put.{put_within}
 use Rattle.base.specs.Shape.{is_value}
 use Rattle.base.specs.Shape.Laws.{value_range, and_left}
 use Rattle.start.specs.declared.Reader.{Reader}
 use Rattle.start.specs.declared.Stage.TheVariants.{Sizes}
-use Rattle.start.specs.Byte.{values_of, to_run, one_size, after_byte, zeros_due, kept_of, Keeps, after, kept, filled}
+use Rattle.start.specs.Byte.{to_run, one_size, after_byte, zeros_due, kept_of, Keeps, after, kept, filled}
 
 -- ---- a turn of a loop over the bytes, and its end
 
@@ -41,17 +38,6 @@ module _ (l : List ℕ) (i : ℕ) where
     unfolding filled
     filled_end r at out h = rw (drop_of_length-le l h)
 
--- what touches no unit is not written
-pub put_none : (out : List ℕ) (at : ℕ) → put_within out at [] ≡ out
-put_none out at = go (leb (at + 0) (length out))
-  where
-    go : (t : Bool) → cond t (put_at out at []) out ≡ out
-    go true = rw (append-nil, add-zero) (take-append-drop at out)
-    go false = refl
-
-pub keeps_none : (out : List ℕ) (at : ℕ) → Keeps out at [] at out
-keeps_none out at = (omega arith, omega arith, sym (put_none out at))
-
 -- the front of a list of zeros
 pub take_zeros : (a b : ℕ) → take a (replicate {A = ℕ} (a + b) 0) ≡ replicate a 0
 take_zeros a b = ap (take a) (sym (replicate-append-replicate {A = ℕ} a b 0)) ∙ take_at (replicate a 0) (replicate b 0) a (length-replicate a 0)
@@ -67,19 +53,7 @@ keeps_zeros out left at b w k e f h is =
 pub due_small : (own : ℕ) (r : Reader) (b : ℕ) → zeros_due own r b ≡ true → b ≤ 16
 due_small own r b e = (value_range 16 b (and_left (is_value 16 b) _ (and_left (is_value 16 b && eqb r.row 1) _ e))).1
 
--- ---- tests and numbers
-
-module _ {b w : ℕ} {t : Bool} (same : w ≡ b) (is : t ≡ is_value places w) where
-  -- a byte that is 1 to 16, as the code asks it, and one that is not
-  pub in_sixteen_lem : not t ≡ false → is_value places b ≡ true
-  in_sixteen_lem e = ap (is_value places) (sym same) ∙ sym is ∙ not-false t e
-
-  pub not_sixteen : not t ≡ true → is_value places b ≡ false
-  not_sixteen e = ap (is_value places) (sym same) ∙ sym is ∙ not-true t e
-
-pub values_at_lem : (sizes : List ℕ) (k : ℕ) → (k ≡ 0 → ⊥) → get_or sizes (k - 1) 0 ≡ values_of sizes k
-values_at_lem sizes zero h = absurd (h refl)
-values_at_lem sizes (suc k) h = let e : suc k - 1 ≡ k = omega arith in rw e refl
+-- ---- the first run
 
 -- the size is stored, and no other is to come
 abbrev pub sized : Reader → List ℕ → Reader

@@ -1,11 +1,13 @@
 // What a byte of the stream does: where the stream then is, an arm for each stage, and what of the byte touches a unit.
 
-ghost use Rattle.std.specs.Prelude.{◌≡◌, cond, ◌||◌, [], ◌∷◌, ◌-◌, ◌≤◌, eqb, set};
+ghost use Rattle.std.specs.Prelude.{◌≡◌, cond, ◌||◌, [], ◌∷◌, ◌≤◌, eqb, set};
+ghost use Rattle.base.specs.Limits.{places};
+ghost use Rattle.base.specs.Shape.{is_value};
 ghost use Rattle.table.specs.Stream.{costs_good};
 ghost use Rattle.start.specs.Byte.{with_stage, values_of, at_run, at_end, to_run, with_opening, with_units, with_size, with_low, test_of, one_cost, with_high, after_byte, touching, zeros_due, zeros_for, kept_of, Keeps};
 
 use crate::{Reader, Stage};
-use base::{FORM_TWO, PLACES, is_value, wide};
+use base::{FORM_TWO, PLACES, is_value};
 
 // ---- where the stream is
 
@@ -13,16 +15,14 @@ use base::{FORM_TWO, PLACES, is_value, wide};
 pub(crate) fn after_byte(r: Reader, b: u8) -> Reader
     ensures { result ≡ after_byte r b }
 {
-    let stage = r.stage;
-    match stage {
+    match r.stage {
         Stage::Opening => with_opening(r, b),
         Stage::Units => with_units(r, 0, b),
         Stage::Sizes => with_size(r, b),
         Stage::Low => with_low(r, b),
         Stage::High => with_high(r, b),
         Stage::Whole => with_stage(r, Stage::Long),
-        Stage::Long => r,
-        Stage::Misshapen => r,
+        Stage::Long | Stage::Misshapen => r,
     }
 }
 
@@ -40,20 +40,17 @@ fn with_opening(r: Reader, b: u8) -> Reader
 fn with_units(r: Reader, row: u8, b: u8) -> Reader
     ensures { result ≡ with_units r row b }
 {
-    if !is_value(PLACES, wide(b)) {
+    if !in_sixteen(b) {
         return with_stage(r, Stage::Misshapen);
     }
-    let stage = Stage::Sizes;
-    let sizes = r.sizes;
     Reader {
-        stage,
+        stage: Stage::Sizes,
         n: b,
-        sizes,
         row,
         unit: 0,
         left: 0,
         low: 0,
-        refusal: r.refusal,
+        ..r
     }
 }
 
@@ -61,38 +58,33 @@ fn with_units(r: Reader, row: u8, b: u8) -> Reader
 fn with_size(r: Reader, b: u8) -> Reader
     ensures { result ≡ with_size r b }
 {
-    if !is_value(PLACES, wide(b)) {
+    if !in_sixteen(b) {
         return with_stage(r, Stage::Misshapen);
     }
-    let stage = Stage::Sizes;
-    let sizes = stored(r, b);
-    let mut sized = Reader {
-        stage,
-        n: r.n,
-        sizes,
-        row: r.row,
-        unit: r.unit,
-        left: r.left,
-        low: r.low,
-        refusal: r.refusal,
+    let sized = Reader {
+        stage: Stage::Sizes,
+        sizes: stored(r, b),
+        ..r
     };
-    if wide(r.unit) + 1 < wide(r.n) {
-        sized.unit = r.unit + 1;
-        return sized;
+    if usize::from(r.unit) + 1 < usize::from(r.n) {
+        return Reader {
+            unit: r.unit + 1,
+            ..sized
+        };
     }
-    to_run(sized, wide(r.row), wide(r.row) + 1)
+    let row = usize::from(r.row);
+    to_run(sized, row, row + 1)
 }
 
 // The sizes, with this one at the unit's place.
 fn stored(r: Reader, b: u8) -> [u8; 16]
     ensures { result ≡ set r.sizes r.unit b }
 {
-    let place = wide(r.unit);
+    let place = usize::from(r.unit);
     let mut sizes = r.sizes;
-    if PLACES <= place {
-        return sizes;
+    if place < PLACES {
+        sizes[place] = b;
     }
-    sizes[place] = b;
     sizes
 }
 
@@ -100,17 +92,10 @@ fn stored(r: Reader, b: u8) -> [u8; 16]
 fn with_low(r: Reader, b: u8) -> Reader
     ensures { result ≡ with_low r b }
 {
-    let stage = Stage::High;
-    let sizes = r.sizes;
     Reader {
-        stage,
-        n: r.n,
-        sizes,
-        row: r.row,
-        unit: r.unit,
-        left: r.left,
+        stage: Stage::High,
         low: b,
-        refusal: r.refusal,
+        ..r
     }
 }
 
@@ -122,24 +107,19 @@ fn with_high(r: Reader, b: u8) -> Reader
     if 1 < r.left {
         return done;
     }
-    to_run(done, wide(r.row), wide(r.unit) + 1)
+    to_run(done, usize::from(r.row), usize::from(r.unit) + 1)
 }
 
 // One cost more is in.
 fn one_cost(r: Reader, b: u8) -> Reader
     ensures { result ≡ one_cost r b }
 {
-    let stage = Stage::Low;
-    let sizes = r.sizes;
     Reader {
-        stage,
-        n: r.n,
-        sizes,
-        row: r.row,
-        unit: r.unit,
-        left: one_less(r.left),
+        stage: Stage::Low,
+        left: r.left.saturating_sub(1),
         low: 0,
         refusal: found(r, b),
+        ..r
     }
 }
 
@@ -148,9 +128,10 @@ fn found(r: Reader, b: u8) -> u8
     ensures { result ≡ cond (costs_good (test_of r.row) (r.low ∷ b ∷ []) 0 1) r.refusal 7 }
 {
     if cost_good(r.row, r.low, b) {
-        return r.refusal;
+        r.refusal
+    } else {
+        7
     }
-    7
 }
 
 // Check 7 of a cost: those of row 0 are unary costs.
@@ -159,49 +140,33 @@ fn cost_good(row: u8, low: u8, high: u8) -> bool
 {
     let cost = [low, high];
     if row == 0 {
-        return table::unary_costs_good(&cost, 0, 1);
+        table::unary_costs_good(&cost, 0, 1)
+    } else {
+        table::pair_costs_good(&cost, 0, 1)
     }
-    table::pair_costs_good(&cost, 0, 1)
-}
-
-fn one_less(x: u16) -> u16
-    ensures { result ≡ x - 1 }
-{
-    if x == 0 {
-        return 0;
-    }
-    x - 1
 }
 
 // The same, but for what is to come next.
 fn with_stage(r: Reader, stage: Stage) -> Reader
     ensures { result ≡ with_stage r stage }
 {
-    let sizes = r.sizes;
-    Reader {
-        stage,
-        n: r.n,
-        sizes,
-        row: r.row,
-        unit: r.unit,
-        left: r.left,
-        low: r.low,
-        refusal: r.refusal,
-    }
+    Reader { stage, ..r }
 }
 
 // Before the run of a row with a unit, where there is such a unit; else before the next row's first run, where there is one.
+#[tactic(auto, unfolding(crate::specs::Byte::to_run))]
 fn to_run(r: Reader, row: usize, unit: usize) -> Reader
     requires { (row ≤ 255) × (unit ≤ 256) }
     ensures { result ≡ to_run r row unit }
 {
-    if unit <= wide(r.n) {
-        return at_run(r, row, unit);
+    let n = usize::from(r.n);
+    if unit <= n {
+        at_run(r, row, unit)
+    } else if row + 2 <= n {
+        at_run(r, row + 1, row + 2)
+    } else {
+        at_end(r)
     }
-    if row + 2 <= wide(r.n) {
-        return at_run(r, row + 1, row + 2);
-    }
-    at_end(r)
 }
 
 // Before the first cost of a run.
@@ -210,17 +175,13 @@ fn at_run(r: Reader, row: usize, unit: usize) -> Reader
     ensures { result ≡ at_run r row unit }
 {
     let left = values_of(r, row) * values_of(r, unit);
-    let stage = Stage::Low;
-    let sizes = r.sizes;
     Reader {
-        stage,
-        n: r.n,
-        sizes,
+        stage: Stage::Low,
         row: row as u8,
         unit: unit as u8,
         left: left as u16,
         low: 0,
-        refusal: r.refusal,
+        ..r
     }
 }
 
@@ -228,17 +189,13 @@ fn at_run(r: Reader, row: usize, unit: usize) -> Reader
 fn at_end(r: Reader) -> Reader
     ensures { result ≡ at_end r }
 {
-    let stage = Stage::Whole;
-    let sizes = r.sizes;
     Reader {
-        stage,
-        n: r.n,
-        sizes,
+        stage: Stage::Whole,
         row: 0,
         unit: 0,
         left: 0,
         low: 0,
-        refusal: r.refusal,
+        ..r
     }
 }
 
@@ -249,10 +206,7 @@ fn values_of(r: Reader, k: usize) -> usize
     if k == 0 {
         return 1;
     }
-    if PLACES < k {
-        return 0;
-    }
-    wide(r.sizes[k - 1])
+    usize::from(r.sizes.get(k - 1).copied().unwrap_or(0))
 }
 
 // ---- what of a byte touches unit `own`
@@ -262,16 +216,10 @@ pub(crate) fn keep(own: u8, r: Reader, b: u8, out: &mut [u8], at: usize) -> usiz
     requires { at ≤ 8589934592 }
     ensures { Keeps out.old at (kept_of own r b) result out.new }
 {
-    let stage = r.stage;
-    match stage {
-        Stage::Opening => at,
-        Stage::Units => at,
+    match r.stage {
         Stage::Sizes => keep_zeros(own, r, b, out, at),
-        Stage::Low => keep_cost(own, r, b, out, at),
-        Stage::High => keep_cost(own, r, b, out, at),
-        Stage::Whole => at,
-        Stage::Long => at,
-        Stage::Misshapen => at,
+        Stage::Low | Stage::High => keep_cost(own, r, b, out, at),
+        Stage::Opening | Stage::Units | Stage::Whole | Stage::Long | Stage::Misshapen => at,
     }
 }
 
@@ -283,9 +231,9 @@ fn keep_zeros(own: u8, r: Reader, b: u8, out: &mut [u8], at: usize) -> usize
     if !zeros_due(own, r, b) {
         return at;
     }
-    let count = 2 * wide(b);
+    let count = 2 * usize::from(b);
     let zeros = [0u8; 32];
-    base::put(out, at, &zeros[0..count]);
+    base::put(out, at, &zeros[..count]);
     at + count
 }
 
@@ -293,13 +241,7 @@ fn keep_zeros(own: u8, r: Reader, b: u8, out: &mut [u8], at: usize) -> usize
 fn zeros_due(own: u8, r: Reader, b: u8) -> bool
     ensures { result ≡ zeros_due own r b }
 {
-    if !is_value(PLACES, wide(b)) {
-        return false;
-    }
-    if r.row != 1 {
-        return false;
-    }
-    wide(r.unit) + 1 == wide(own)
+    in_sixteen(b) && r.row == 1 && usize::from(r.unit) + 1 == usize::from(own)
 }
 
 // The byte itself, of a cost of a run that is the unit's.
@@ -310,16 +252,19 @@ fn keep_cost(own: u8, r: Reader, b: u8, out: &mut [u8], at: usize) -> usize
     if !touches(own, r) {
         return at;
     }
-    let one = [b];
-    base::put(out, at, &one);
+    base::put(out, at, &[b]);
     at + 1
 }
 
 fn touches(own: u8, r: Reader) -> bool
     ensures { result ≡ (eqb r.row own || eqb r.unit own) }
 {
-    if r.row == own {
-        return true;
-    }
-    r.unit == own
+    r.row == own || r.unit == own
+}
+
+// Whether the byte is 1 to 16.
+fn in_sixteen(b: u8) -> bool
+    ensures { result ≡ is_value places b }
+{
+    is_value(PLACES, usize::from(b))
 }

@@ -4,18 +4,19 @@
 
 mod byte; // what a byte of the stream does, and what of it touches the unit
 
-ghost use Rattle.std.specs.Prelude.{◌≡◌, cond, ◌+◌, ◌≤◌, ◌<◌, length};
+ghost use Rattle.std.specs.Prelude.{◌≡◌, cond, ◌+◌, ◌≤◌, ◌<◌, length, IfOk, IfErr};
 ghost use Rattle.start.specs.Byte.{after, kept, filled, end_refusal};
-ghost use Rattle.start.specs.Block.{fresh, last_refusal, refused_by, one_more, accepted_as, start_of, start_into};
+ghost use Rattle.table.specs.Block.{block_refusal, payload_of};
+ghost use Rattle.start.specs.Block.{fresh, last_refusal, unless, answer_of, start_of, start_into};
 
-use base::{COSTS_SIZE, is_value, wide};
+use base::{COSTS_SIZE, Refusal, is_value};
 
 // 02, job 7: "at most 123 blocks".
 const MOST_BLOCKS: u16 = 123;
 
 // What the next byte of the stream is: the first of all; n of a table of form two; a size; the low or the high byte of a cost; none, as the
 // stream is whole; none, and yet there were more; or any, as n or a size is refused by 5.
-#[derive(Clone, Copy)]
+#[derive(Clone, Copy, Debug, PartialEq, Eq)]
 pub enum Stage {
     Opening,
     Units,
@@ -30,8 +31,9 @@ pub enum Stage {
 // How far a stream is in: n and the sizes, as far as they are in, and where its costs are.
 // Costs come in runs, those of one unit with another; `row` and `unit` are the numbers of the two, and row 0 stands before all units, for a
 // unit's costs alone. Until then `row` is the first row of the table, 0 in form two and 1 in form one, and `unit` counts the sizes that are in.
-// `left` costs of the run are to come; the low byte of the first of them may be in. `refusal` is 7 once a cost was refused by it.
-#[derive(Clone, Copy)]
+// `left` costs of the run are to come; the low byte of the first of them may be in. `refusal` is 7 once a cost was refused by it. It is a number, and
+// so is what a block is refused by, as C lends the state and may lend any number there: it is what the last block is then refused by.
+#[derive(Clone, Copy, Debug, PartialEq, Eq)]
 pub struct Reader {
     pub stage: Stage,
     pub n: u8,
@@ -44,20 +46,12 @@ pub struct Reader {
 }
 
 // How far a box has come with its table: its own number, how many blocks are in, how many bytes of costs were gathered, and how far the stream is.
-#[derive(Clone, Copy)]
+#[derive(Clone, Copy, Debug, PartialEq, Eq)]
 pub struct Start {
     pub own: u8,
     pub blocks: u16,
     pub count: u32,
     pub reader: Reader,
-}
-
-// What a block gives: the refusal, or 0 and, with the last one, how many bytes of costs there are; and how far the box is then.
-#[derive(Clone, Copy)]
-pub struct Started {
-    pub refusal: u8,
-    pub length: usize,
-    pub start: Start,
 }
 
 // ---- public calls
@@ -66,12 +60,10 @@ pub struct Started {
 pub fn begin(own: u8) -> Start
     ensures { result ≡ fresh own }
 {
-    let stage = Stage::Opening;
-    let sizes = [0u8; 16];
     let reader = Reader {
-        stage,
+        stage: Stage::Opening,
         n: 0,
-        sizes,
+        sizes: [0; 16],
         row: 0,
         unit: 0,
         left: 0,
@@ -86,105 +78,73 @@ pub fn begin(own: u8) -> Start
     }
 }
 
-// One block more: what of it touches the unit is written behind what was gathered before. A refused block changes nothing.
-pub fn take_block(state: Start, block: &[u8], last: bool, costs: &mut [u8]) -> Started
-    ensures { (result ≡ start_of state block.now last (length costs.old)) × (costs.new ≡ start_into state block.now last costs.old) }
+// One block more: what of it touches the unit is written behind what was gathered before. Gives, with the last block, how many bytes of costs
+// there are, and 0 before; or the refusal, by number, and then state and costs are as they were.
+pub fn take_block(
+    state: &mut Start,
+    block: &[u8],
+    last: bool,
+    costs: &mut [u8],
+) -> Result<usize, u8>
+    ensures { (result ≡ answer_of (start_of state.old block.now last (length costs.old))) × (state.new ≡ (start_of state.old block.now last (length costs.old)).start) × (costs.new ≡ start_into state.old block.now last costs.old) }
 {
     if costs.len() < COSTS_SIZE {
-        return refused(13, state);
+        return Err(Refusal::NoRoom.number());
     }
     if MOST_BLOCKS <= state.blocks {
-        return refused(1, state);
-    }
-    let refusal = table::block_refusal(block, state.blocks, last);
-    if refusal != 0 {
-        return refused(refusal, state);
+        return Err(Refusal::BadFile.number());
     }
     // the stream is read on before anything is written, as a refusal leaves the costs alone
-    let payload = table::read_block(block, state.blocks, last);
+    let payload = read_payload(block, state.blocks, last)?;
     let before = state.reader;
     let reader = read_bytes(before, payload);
-    let refusal = last_refusal(last, state.own, reader);
-    if refusal != 0 {
-        return refused(refusal, state);
-    }
+    check_last(last, state.own, reader)?;
     let count = keep_bytes(state.own, before, state.count as usize, payload, costs);
-    accepted(last, one_more(state, reader, count))
+    state.blocks += 1;
+    state.count = (count % 4294967296) as u32;
+    state.reader = reader;
+    Ok(if last { state.count as usize } else { 0 })
 }
 
 // ---- what a block gives
 
-fn refused(refusal: u8, state: Start) -> Started
-    ensures { result ≡ refused_by refusal state }
+// The payload of a block that is accepted.
+fn read_payload(block: &[u8], number: u16, last: bool) -> Result<&[u8], u8>
+    ensures ok { IfOk result (λ part. (block_refusal number last block.now ≡ 0) × (part.now ≡ payload_of block.now)) }
+    ensures err { IfErr result (λ refusal. (refusal ≡ block_refusal number last block.now) × (1 ≤ refusal)) }
 {
-    Started {
-        refusal,
-        length: 0,
-        start: state,
+    match table::read_block(block, number, last) {
+        Ok(payload) => Ok(payload),
+        Err(refusal) => Err(refusal.number()),
     }
 }
 
-fn accepted(last: bool, state: Start) -> Started
-    ensures { result ≡ accepted_as last state }
-{
-    if last {
-        return Started {
-            refusal: 0,
-            length: state.count as usize,
-            start: state,
-        };
-    }
-    Started {
-        refusal: 0,
-        length: 0,
-        start: state,
-    }
-}
-
-// One block more is in.
-fn one_more(state: Start, reader: Reader, count: usize) -> Start
-    requires { state.blocks < 123 }
-    ensures { result ≡ one_more state reader count }
-{
-    Start {
-        own: state.own,
-        blocks: state.blocks + 1,
-        count: (count % 4294967296) as u32,
-        reader,
-    }
-}
-
-// What only the last block tells: the refusal, or 0.
-fn last_refusal(last: bool, own: u8, reader: Reader) -> u8
-    ensures { result ≡ cond last (last_refusal own reader) 0 }
+// What only the last block tells.
+fn check_last(last: bool, own: u8, reader: Reader) -> Result<(), u8>
+    ensures { result ≡ unless (cond last (last_refusal own reader) 0) }
 {
     if !last {
-        return 0;
+        return Ok(());
     }
-    let refusal = end_refusal(reader);
-    if refusal != 0 {
-        return refusal;
+    check_end(reader)?;
+    if is_value(usize::from(reader.n), usize::from(own)) {
+        Ok(())
+    } else {
+        Err(Refusal::BadUnit.number())
     }
-    if is_value(wide(reader.n), wide(own)) {
-        return 0;
-    }
-    10
 }
 
-// What is wrong with the stream where no byte is to come, or 0.
-fn end_refusal(reader: Reader) -> u8
-    ensures { result ≡ end_refusal reader }
+// Whether the stream may end there.
+fn check_end(reader: Reader) -> Result<(), u8>
+    ensures { result ≡ unless (end_refusal reader) }
 {
-    let stage = reader.stage;
-    match stage {
-        Stage::Opening => 6,
-        Stage::Units => 6,
-        Stage::Sizes => 6,
-        Stage::Low => 6,
-        Stage::High => 6,
-        Stage::Whole => reader.refusal,
-        Stage::Long => 6,
-        Stage::Misshapen => 5,
+    match reader.stage {
+        Stage::Whole if reader.refusal == 0 => Ok(()),
+        Stage::Whole => Err(reader.refusal),
+        Stage::Misshapen => Err(Refusal::OutOfRange.number()),
+        Stage::Opening | Stage::Units | Stage::Sizes | Stage::Low | Stage::High | Stage::Long => {
+            Err(Refusal::BadLength.number())
+        }
     }
 }
 
@@ -195,10 +155,8 @@ fn read_bytes(from: Reader, bytes: &[u8]) -> Reader
     ensures { result ≡ after from bytes.now }
 {
     let mut reader = from;
-    let mut i = 0;
-    while i < bytes.len() {
-        reader = byte::after_byte(reader, bytes[i]);
-        i += 1;
+    for b in bytes {
+        reader = byte::after_byte(reader, *b);
     }
     reader
 }
@@ -210,12 +168,9 @@ fn keep_bytes(own: u8, from: Reader, at: usize, bytes: &[u8], costs: &mut [u8]) 
 {
     let mut reader = from;
     let mut place = at;
-    let mut i = 0;
-    while i < bytes.len() {
-        let b = bytes[i];
-        place = byte::keep(own, reader, b, costs, place);
-        reader = byte::after_byte(reader, b);
-        i += 1;
+    for b in bytes {
+        place = byte::keep(own, reader, *b, costs, place);
+        reader = byte::after_byte(reader, *b);
     }
     place
 }

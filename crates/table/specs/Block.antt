@@ -1,6 +1,7 @@
 -- A block of the stored table, read alone; and how many there are. The facts about these are in BlockLaws.
 -- Document 01: "Blocks of 512 bytes. 0-1 block number from 0; 2-3 payload count; 4-509 payload; 510-511 check." Assumes nothing.
-use Rattle.std.specs.Prelude.{ℕ, ◌+◌, ◌-◌, ◌/◌, Bool, true, cond, ◌&&◌, List, [], ◌∷◌, eqb, length, take, drop}
+use Rattle.std.specs.Prelude.{ℕ, ◌+◌, ◌-◌, ◌/◌, Bool, cond, ◌&&◌, List, [], eqb, length, take, drop}
+use Rattle.std.specs.List.{list_all}
 use Rattle.base.specs.{Limits.block_size, Limits.payload_size, Limits.checked_size, Bytes.u16_at, Shape.is_value}
 use Rattle.checksum.specs.Sum.{sum_of}
 
@@ -24,8 +25,7 @@ count_good last c = cond last (is_value payload_size c) (eqb c payload_size)
 
 -- 01: "unused payload is zero"
 unfoldable pub all_zero : List ℕ → Bool
-all_zero [] = true
-all_zero (x ∷ l) = eqb x 0 && all_zero l
+all_zero l = list_all (λ x. eqb x 0) l
 
 -- 01: "if it isn't 512 bytes it is 1"; "then each block 4, 2, 3"
 unfoldable pub block_refusal : ℕ → Bool → List ℕ → ℕ

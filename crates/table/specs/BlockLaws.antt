@@ -74,21 +74,11 @@ module _ (k : ℕ) (last : Bool) (b : List ℕ) where
         unfolding block_refusal
         by_payload x h = simp (eq-eqb (length b) block_size l, eq-eqb (check_of b) (sum_of (take checked_size b)) s, eq-eqb (block_number b) k n, h)
 
-        pub refused-count : count_good last c ≡ false → 3 ≡ block_refusal k last b
-        refused-count h = let g : count_good last (payload_count b) ≡ false = rw e at h in by_payload false (rw g)
+        pub refused_payload : (count_good last c && all_zero (drop (4 + c) (take checked_size b))) ≡ false → 3 ≡ block_refusal k last b
+        refused_payload h = by_payload false (rw e at h)
 
-        module _ (h : count_good last c ≡ true) where
-          pub refused_unused : all_zero (drop (4 + c) (take checked_size b)) ≡ false → 3 ≡ block_refusal k last b
-          refused_unused u =
-              let g : count_good last (payload_count b) ≡ true = rw e at h in
-              let z : all_zero (unused_of b) ≡ false = rw e at u in
-              by_payload false (rw (g, z))
-
-          pub accepted_of : all_zero (drop (4 + c) (take checked_size b)) ≡ true → 0 ≡ block_refusal k last b
-          accepted_of u =
-              let g : count_good last (payload_count b) ≡ true = rw e at h in
-              let z : all_zero (unused_of b) ≡ true = rw e at u in
-              by_payload true (rw (g, z))
+        pub accepted_of : (count_good last c && all_zero (drop (4 + c) (take checked_size b))) ≡ true → 0 ≡ block_refusal k last b
+        accepted_of h = by_payload true (rw e at h)
 
 -- ---- an accepted block
 
@@ -189,8 +179,8 @@ module _ (k : ℕ) (p : List ℕ) (h : length p ≤ payload_size) where
   -- is accepted where the count fits its place
   pub written_good : k < 65536 → (last : Bool) → count_good last (length p) ≡ true → block_refusal k last (block_of k p) ≡ 0
   written_good l last c =
-      sym (accepted_of k last (block_of k p) written_size (written_check ∙ ap sum_of (sym written-body)) (written_number l) (length p) (sym written_count) c
-      (ap (λ (n : ℕ). all_zero (drop (4 + n) (take checked_size (block_of k p)))) (sym written_count) ∙ ap all_zero written_unused ∙ zeros (payload_size - length p)))
+      sym (accepted_of k last (block_of k p) written_size (written_check ∙ ap sum_of (sym written-body)) (written_number l) (length p) (sym written_count)
+      (rw c (ap (λ (n : ℕ). all_zero (drop (4 + n) (take checked_size (block_of k p)))) (sym written_count) ∙ ap all_zero written_unused ∙ zeros (payload_size - length p))))
 
 pub sum_fits : (x : ℕ) (s : List ℕ) → x ≡ sum_of s → x < 65536
 sum_fits x s e = omega (arith, sum_small s)

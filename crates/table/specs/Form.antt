@@ -8,6 +8,7 @@ use Rattle.table.specs.Stream.{in_form_two, units_of, sizes_of, sum_list, unarie
 use Rattle.table.specs.Block.{all_zero, blocks_for}
 use Rattle.table.specs.{Written.file_of, File.answer, File.leaves, File.stream_of, File.read_refusal}
 pub mod Laws
+pub mod Made
 pub mod Parts
 pub mod Pieces
 

@@ -12,6 +12,8 @@ use Rattle.base.specs.Bytes.{u16_at}
 use Rattle.base.specs.Bytes.Laws.{AllBytes, u16_past}
 use Rattle.base.specs.Shape.{all_in_sixteen, shape_good}
 use Rattle.base.specs.Shape.Laws.{in_sixteen, and_left, and_right, in_range_lem, shape_n, shape_size, all_step, all_none}
+use Rattle.table.specs.declared.Costs.{Costs}
+use Rattle.table.specs.declared.Costs.TheVariants.{Unary, Pair}
 use Rattle.table.specs.Stream.{in_form_two, opening, units_of, after_units, sizes_of, sum_list, unaries_in, pairs_in, unaries_at, pairs_at, needed, pair_good, unary_good, costs_good, stream_refusal, Accepted}
 
 -- ---- a cost that passes check 7
@@ -50,10 +52,18 @@ unary_within : (x : ℕ) → x < 65536 → unary_good x ≡ within 0 x
 unfolding unary_good
 unary_within x h = let e : (x + 0) % 65536 ≡ x = omega arith in rw e
 
--- the check that a lift is for
-abbrev pub test_of : ℕ → ℕ → Bool
-test_of zero = unary_good
-test_of (suc lift) = pair_good
+-- the lift and the check of each kind of costs
+abbrev pub lift_of : Costs → ℕ
+lift_of Unary = 0
+lift_of Pair = 1
+
+pub lift_most : (kind : Costs) → lift_of kind ≤ 1
+lift_most Unary = omega arith
+lift_most Pair = omega arith
+
+abbrev pub test_of : Costs → ℕ → Bool
+test_of Unary = unary_good
+test_of Pair = pair_good
 
 -- ---- what the first byte says
 
@@ -216,10 +226,9 @@ pairs-within s k m b = costs_alike pair_good (within 1) pair_within s k m b
 pub unaries_within : (s : List ℕ) (k m : ℕ) → AllBytes s → costs_good unary_good s k m ≡ costs_good (within 0) s k m
 unaries_within s k m b = costs_alike unary_good (within 0) unary_within s k m b
 
-pub costs_lifted : (lift : ℕ) → lift ≤ 1 → (s : List ℕ) (k m : ℕ) → AllBytes s → costs_good (test_of lift) s k m ≡ costs_good (within lift) s k m
-costs_lifted zero h s k m b = unaries_within s k m b
-costs_lifted (suc zero) h s k m b = pairs-within s k m b
-costs_lifted (suc (suc lift)) h s k m b = absurd (omega arith)
+pub costs_lifted : (kind : Costs) (s : List ℕ) (k m : ℕ) → AllBytes s → costs_good (test_of kind) s k m ≡ costs_good (within (lift_of kind)) s k m
+costs_lifted Unary s k m b = unaries_within s k m b
+costs_lifted Pair s k m b = pairs-within s k m b
 
 -- costs in two parts
 pub costs_split : (good : ℕ → Bool) (s : List ℕ) (k a b : ℕ) → costs_good good s k (a + b) ≡ (costs_good good s k a && costs_good good s (k + 2 * a) b)

@@ -2,7 +2,7 @@
 // converted into form one and form two, and back.
 #![tactic(auto)]
 
-use base::{BLOCK_SIZE, FILE_ROOM, FILE_SIZE, Length, STREAM_SIZE};
+use base::{BLOCK_SIZE, FILE_ROOM, FILE_SIZE, Refusal, STREAM_SIZE};
 use std::fs::File;
 use std::os::fd::AsRawFd;
 use std::rt::Files;
@@ -95,11 +95,11 @@ fn show_cramped(rt: &(impl Files<File = File> + Eprint), name: &str) {
     let mut cramped = [0u8; STREAM_SIZE - 1];
     show_read(name.as_bytes(), front(&file, n), &mut cramped);
     let mut stream = [0u8; STREAM_SIZE];
-    let r = table::read(front(&file, n), &mut stream);
+    let read = table::read(front(&file, n), &mut stream);
     let mut again = [0u8; BLOCK_SIZE - 1];
-    let w = table::write(front(&stream, r.length), &mut again);
+    let written = table::write(front(&stream, length(read)), &mut again);
     io::write_all(STDOUT_FILENO, name.as_bytes());
-    say(b" written refusal ", w.refusal as u64);
+    say(b" written refusal ", number(written));
     io::write_all(STDOUT_FILENO, b"\n");
 }
 
@@ -130,8 +130,8 @@ fn show_form(name: &[u8], words: &[u8], file: &[u8], form: Form, back: Form) {
     io::write_all(STDOUT_FILENO, name);
     io::write_all(STDOUT_FILENO, words);
     show_length(done, &out);
-    if done.refusal == 0 {
-        show_back(file, front(&out, done.length), back);
+    if let Ok(length) = done {
+        show_back(file, front(&out, length), back);
     }
     io::write_all(STDOUT_FILENO, b"\n");
 }
@@ -142,9 +142,9 @@ fn show_back(file: &[u8], converted: &[u8], back: Form) {
         io::write_all(STDOUT_FILENO, b" the same");
     }
     let mut again = [0u8; FILE_SIZE];
-    let r = table::convert(converted, back, &mut again);
-    say(b" back refusal ", r.refusal as u64);
-    if check::same(front(&again, r.length), file) {
+    let done = table::convert(converted, back, &mut again);
+    say(b" back refusal ", number(done));
+    if check::same(front(&again, length(done)), file) {
         io::write_all(STDOUT_FILENO, b" the first file");
     }
 }
@@ -165,10 +165,22 @@ fn cramped_forms(rt: &(impl Files<File = File> + Eprint)) {
 }
 
 // A refusal, how many bytes were written, and the sum of the buffer, which a refusal leaves zero.
-fn show_length(done: Length, out: &[u8]) {
-    say(b" refusal ", done.refusal as u64);
-    say(b" written ", done.length as u64);
-    say(b" sum ", checksum::sum(out) as u64);
+fn show_length(done: Result<usize, Refusal>, out: &[u8]) {
+    say(b" refusal ", number(done));
+    say(b" written ", length(done) as u64);
+    say(b" sum ", u64::from(checksum::sum(out)));
+}
+
+// The refusal of a call that fills a buffer, 0 for none, and how many bytes it wrote there.
+fn number(done: Result<usize, Refusal>) -> u64 {
+    match done {
+        Ok(_) => 0,
+        Err(refusal) => u64::from(refusal.number()),
+    }
+}
+
+fn length(done: Result<usize, Refusal>) -> usize {
+    done.unwrap_or(0)
 }
 
 // The named file's bytes, and how many they are.
@@ -180,24 +192,21 @@ fn load(rt: &(impl Files<File = File> + Eprint), name: &str, file: &mut [u8]) ->
 }
 
 // The first n bytes, or all that there are.
-fn front<'a>(bytes: &'a [u8], n: usize) -> &'a [u8] {
-    if bytes.len() < n {
-        return bytes;
-    }
-    &bytes[0..n]
+fn front(bytes: &[u8], n: usize) -> &[u8] {
+    &bytes[..bytes.len().min(n)]
 }
 
 // One line of output: the reading, and the payload of the first block read alone. A refused reading leaves the buffer zero, and so its sum.
 fn show_read(name: &[u8], file: &[u8], stream: &mut [u8]) {
-    let r = table::read(file, stream);
+    let done = table::read(file, stream);
     io::write_all(STDOUT_FILENO, name);
-    say(b" refusal ", r.refusal as u64);
-    say(b" stream ", r.length as u64);
-    say(b" sum ", checksum::sum(stream) as u64);
+    say(b" refusal ", number(done));
+    say(b" stream ", length(done) as u64);
+    say(b" sum ", u64::from(checksum::sum(stream)));
     let first = table::read_block(front(file, BLOCK_SIZE), 0, file.len() <= BLOCK_SIZE);
-    say(b" first block ", first.len() as u64);
-    if r.refusal == 0 {
-        show_written(file, front(stream, r.length));
+    say(b" first block ", first.map_or(0, |part| part.len()) as u64);
+    if let Ok(length) = done {
+        show_written(file, front(stream, length));
     }
     io::write_all(STDOUT_FILENO, b"\n");
 }
@@ -205,9 +214,9 @@ fn show_read(name: &[u8], file: &[u8], stream: &mut [u8]) {
 // The stream written again, and whether that gave the file.
 fn show_written(file: &[u8], stream: &[u8]) {
     let mut again = [0u8; FILE_SIZE];
-    let w = table::write(stream, &mut again);
-    say(b" written ", w.length as u64);
-    if check::same(front(&again, w.length), file) {
+    let done = table::write(stream, &mut again);
+    say(b" written ", length(done) as u64);
+    if check::same(front(&again, length(done)), file) {
         io::write_all(STDOUT_FILENO, b" the same");
     }
 }

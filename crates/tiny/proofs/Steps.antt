@@ -1,8 +1,7 @@
 -- What a call that is not refused gives and leaves. Assumes nothing.
-use Rattle.std.specs.Prelude.{ℕ, ◌+◌, ◌*◌, ◌-◌}
+use Rattle.std.specs.Prelude.{ℕ, ◌+◌, ◌*◌}
 use Rattle.std.proofs.Math.Path.{◌≡◌}
 use mathlib.Core.List.{List, [], ◌∷◌}
-use Rattle.std.proofs.Math.Nat.{sub-zero}
 use Rattle.std.proofs.Math.ListN.{length, take}
 use Rattle.base.specs.declared.Length.{Length}
 use Rattle.base.specs.Put.{put_at, put_within}
@@ -16,11 +15,11 @@ module _ (n x : ℕ) (l : List ℕ) (e : tiny_refusal n x (length l) ≡ 0) wher
   tiny_made count c = rw (e, c, given_length n (tiny_count n x (not_refused n x (length l) e).0) x)
 
   -- n and the sizes were put, then the costs behind them
-  pub tiny_left : (m : List ℕ) (start costs : ℕ) → start ≡ 1 + n → costs ≡ costs_for n → m ≡ put_within l 0 (take (start - 0) (n ∷ 2 ∷ 2 ∷ 2 ∷ []))
+  pub tiny_left : (m : List ℕ) (start costs : ℕ) → start ≡ 1 + n → costs ≡ costs_for n → m ≡ put_within l 0 (take start (n ∷ 2 ∷ 2 ∷ 2 ∷ []))
       → put_at m start (cost_bytes costs x) ≡ tiny_into n x l
   unfolding tiny_into
   tiny_left m start costs s c put =
       let g = not_refused n x (length l) e in
       let tiny = tiny_count n x g.0 in
-      let first : take (start - 0) (n ∷ 2 ∷ 2 ∷ 2 ∷ []) ≡ n ∷ sizes_for n = rw (sub-zero start, s) (shape_first n tiny) in
+      let first : take start (n ∷ 2 ∷ 2 ∷ 2 ∷ []) ≡ n ∷ sizes_for n = rw s (shape_first n tiny) in
       rw (e, put, first, s, c) (stream-put n tiny l x g.1)

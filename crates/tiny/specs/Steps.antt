@@ -1,6 +1,6 @@
 -- How the code comes by the answer: the refusals in their order, the pieces of a stream, and what a call gives and leaves. Each by its tests. Assumes
 -- nothing.
-use Rattle.std.specs.Prelude.{ℕ, ◌+◌, ◌*◌, ◌-◌, ◌%◌, ◌/◌, ◌≤◌, ◌<◌, Bool, cond, drop}
+use Rattle.std.specs.Prelude.{ℕ, ◌+◌, ◌*◌, ◌-◌, ◌≤◌, ◌<◌, Bool, cond, drop}
 use Rattle.std.proofs.Math.Path.{◌≡◌, refl, ap}
 use Rattle.std.proofs.Common.{◌∙◌, zero-add, mul_comm}
 use Rattle.std.proofs.Math.Bool.{true, false}
@@ -27,14 +27,6 @@ use Rattle.tiny.specs.Once.{two_or_three, given_length, none_of_another}
 -- ---- refusals
 
 module _ (n x room : ℕ) where
-  pub refused_21 : tables_of n ≤ x → 21 ≡ tiny_refusal n x room
-  unfolding tiny_refusal
-  refused_21 h = simp (le-ltb x (tables_of n) h)
-
-  pub refused_13 : x < tables_of n → room < stream_size → 13 ≡ tiny_refusal n x room
-  unfolding tiny_refusal
-  refused_13 h r = simp (lt-ltb x (tables_of n) h, lt-ltb room stream_size r)
-
   pub refused_none : x < tables_of n → stream_size ≤ room → 0 ≡ tiny_refusal n x room
   unfolding tiny_refusal
   refused_none h r = simp (lt-ltb x (tables_of n) h, le-ltb room stream_size r)
@@ -58,13 +50,6 @@ tiny_count n x h = go (is_tiny n) refl
     go false e = absurd (omega (arith, none_of_another n e))
 
 -- ---- pieces
-
--- two bytes are a cost of 0 or 1
-pub cost-put : (l : List ℕ) (at cost : ℕ) → cost ≤ 1 → at + 2 ≤ length l → put_within l at (cost ∷ 0 ∷ []) ≡ put_at l at (le16 cost)
-cost-put l at cost small room =
-    let low : cost % 256 ≡ cost = omega arith in
-    let high : cost / 256 % 256 ≡ 0 = omega arith in
-    put-fits l (cost ∷ 0 ∷ []) at room ∙ rw (low, high)
 
 -- the first k costs
 pub costs_length : (m x k : ℕ) → length (join_to (λ i. le16 (digit m x i)) k) ≡ 2 * k

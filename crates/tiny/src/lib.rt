@@ -4,11 +4,13 @@
 ghost use Rattle.std.specs.Prelude.{◌≡◌, true, ◌+◌, ◌*◌, ◌^◌, ◌≤◌, length};
 ghost use Rattle.base.specs.Bytes.{le16};
 ghost use Rattle.base.specs.Put.{put_at};
+ghost use Rattle.base.specs.Refusal.{told, answered};
 ghost use Rattle.tiny.specs.Tiny.{is_tiny, costs_for, tables_of, cost_bytes, tiny_refusal, tiny_of, tiny_into};
 
-use base::{Length, STREAM_SIZE, wide};
+use base::{Refusal, STREAM_SIZE};
 
 // How many there are of n units: 16 of two, 4,096 of three, none of any other count.
+#[tactic(auto, using(crate::specs::Once::sixteen, crate::specs::Once::four_thousand_ninety_six, crate::specs::Once::none_of_another))]
 pub fn tables_of(n: u8) -> u32
     ensures { result ≡ tables_of n }
 {
@@ -20,49 +22,42 @@ pub fn tables_of(n: u8) -> u32
 }
 
 // The stream of the table of n units with this number, in form one, into the lent buffer; a refusal leaves the buffer as it was.
-pub fn write_stream(n: u8, number: u32, stream: &mut [u8]) -> Length
-    ensures { (result ≡ tiny_of n number (length stream.old)) × (stream.new ≡ tiny_into n number stream.old) }
+pub fn write_stream(n: u8, number: u32, stream: &mut [u8]) -> Result<usize, Refusal>
+    ensures { (answered result ≡ tiny_of n number (length stream.old)) × (stream.new ≡ tiny_into n number stream.old) }
 {
-    let refusal = refusal_of(n, number, stream.len());
-    if refusal != 0 {
-        return Length { refusal, length: 0 };
-    }
+    check_number(n, number, stream.len())?;
     let shape = [n, 2, 2, 2];
-    let start = 1 + wide(n);
-    base::put(stream, 0, &shape[0..start]);
+    let start = 1 + usize::from(n);
+    base::put(stream, 0, &shape[..start]);
     let tables = tables_of(n);
     let costs = costs_of(n);
     put_costs(number, tables, costs, stream, start);
-    Length {
-        refusal: 0,
-        length: start + 2 * costs,
-    }
+    Ok(start + 2 * costs)
 }
 
-// The first of 21, 13 that applies, or 0.
-fn refusal_of(n: u8, number: u32, room: usize) -> u8
-    ensures { result ≡ tiny_refusal n number room }
+// Whether there is a table of that number, and room for its stream.
+#[tactic(auto, unfolding(crate::specs::Tiny::tiny_refusal))]
+fn check_number(n: u8, number: u32, room: usize) -> Result<(), Refusal>
+    ensures { told result ≡ tiny_refusal n number room }
 {
     if number >= tables_of(n) {
-        return 21;
+        return Err(Refusal::NoSuchTable);
     }
     if room < STREAM_SIZE {
-        return 13;
+        return Err(Refusal::NoRoom);
     }
-    0
+    Ok(())
 }
 
 // ---- the stream, piece by piece
 
 // How many pair costs a table of n units has.
+#[tactic(auto, using(crate::specs::Steps::four_costs, crate::specs::Steps::twelve_costs))]
 fn costs_of(n: u8) -> usize
     requires { is_tiny n ≡ true }
     ensures { result ≡ costs_for n }
 {
-    if n == 2 {
-        return 4;
-    }
-    12
+    if n == 2 { 4 } else { 12 }
 }
 
 // The digits of the number as costs, the top one first. `tables` numbers have that many digits.
@@ -71,11 +66,9 @@ fn put_costs(number: u32, tables: u32, costs: usize, stream: &mut [u8], at: usiz
     ensures { stream.new ≡ put_at stream.old at (cost_bytes costs number) }
 {
     let mut weight = tables;
-    let mut k = 0;
-    while k < costs {
+    for k in 0..costs {
         weight /= 2;
         put_cost(number / weight % 2, stream, at + 2 * k);
-        k += 1;
     }
 }
 
@@ -84,6 +77,5 @@ fn put_cost(cost: u32, stream: &mut [u8], at: usize)
     requires { (cost ≤ 1) × (at + 2 ≤ length stream.old) }
     ensures { stream.new ≡ put_at stream.old at (le16 cost) }
 {
-    let bytes = [cost as u8, 0];
-    base::put(stream, at, &bytes);
+    base::put(stream, at, &[cost as u8, 0]);
 }

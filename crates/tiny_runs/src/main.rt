@@ -4,24 +4,26 @@
 use agreement::Pool;
 use costs::ValueOrder;
 
-const STDOUT_FILENO: i32 = 1;
-
-fn main() {
-    io::write_all(STDOUT_FILENO, b"cheapest first\n");
-    show(Pool::Messages, ValueOrder::CheapestFirst);
-    io::write_all(STDOUT_FILENO, b"over slots\n");
-    show(Pool::Slots, ValueOrder::Ascending);
-    io::write_all(STDOUT_FILENO, b"over slots, cheapest first\n");
-    show(Pool::Slots, ValueOrder::CheapestFirst);
+fn main(rt: HostRuntime) {
+    show(
+        &rt,
+        "cheapest first",
+        Pool::Messages,
+        ValueOrder::CheapestFirst,
+    );
+    show(&rt, "over slots", Pool::Slots, ValueOrder::Ascending);
+    show(
+        &rt,
+        "over slots, cheapest first",
+        Pool::Slots,
+        ValueOrder::CheapestFirst,
+    );
 }
 
-fn show(pool: Pool, order: ValueOrder) {
-    say(pool, order, 2);
-    say(pool, order, 3);
-}
-
-fn say(pool: Pool, order: ValueOrder, n: u8) {
-    let count = agreement::agreeing(pool, order, n);
-    io::print_decimal(STDOUT_FILENO, base::wide_u64(count));
-    io::write_all(STDOUT_FILENO, b"\n");
+fn show(rt: &impl Print, title: &str, pool: Pool, order: ValueOrder) {
+    let _ = println!(rt; "{title}");
+    for n in 2..=3 {
+        let count = agreement::agreeing(pool, order, n);
+        let _ = println!(rt; "{count}");
+    }
 }

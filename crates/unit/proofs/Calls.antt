@@ -1,27 +1,28 @@
 -- What making and a step go by: which refusal comes first, what the checks passed say, and what was decided as the caller gets it.
 -- By the definitions of the calls; what is sent is at most 16 packets, by the laws of a unit. Assumes nothing.
-use Prim.Native.Nat.{ℕ, zero, suc, pred, ◌-◌, ◌≤◌, ◌<◌}
+use Prim.Native.Nat.{ℕ, zero, suc, pred, ◌-◌, ◌≤◌}
 use native.Mathlib.Omega.{arith}
 use mathlib.Core.Path.{◌≡◌, refl, sym, ap, ◌∙◌}
 use mathlib.Core.Bool.{true, false}
 use mathlib.Core.List.{[], List}
 use lib.ListN.{length}
-use borrow.Author.Tests.{lt-ltb, le-ltb}
+use Rattle.std.specs.Prelude.{Result, Ok, Err}
+use Rattle.base.specs.declared.Refusal.{Refusal}
+use Rattle.base.specs.Refusal.{number_of}
 use Rattle.base.specs.Refusal.Laws.{or_first}
+use Rattle.base.specs.Bytes.Laws.{AllBytes}
 use Rattle.base.specs.Shape.{shape_good}
 use Rattle.base.specs.Shape.Laws.{shape_n}
 use Rattle.costs.specs.declared.Seat.{Seat}
 use Rattle.costs.specs.declared.ValueOrder.{ValueOrder}
 use Rattle.costs.specs.Instance.{View, lent_view, view_from}
 use Rattle.costs.specs.Knowing.{knows_nothing}
-use Rattle.costs.specs.Lent.{lent_refusal}
-use Rattle.message.specs.declared.Parsed.{Parsed}
 use Rattle.message.specs.declared.Kind.{Kind}
-use Rattle.message.specs.declared.Read.TheVariants.{Good, Refused}
-use Rattle.message.specs.Message.{is_unit, refusal_of}
-use Rattle.message.specs.Sized.{Sized}
+use Rattle.message.specs.declared.Message.{Message}
+use Rattle.message.specs.Message.{is_unit}
 use Rattle.message.specs.Decode.{message_in, parse_for}
-use Rattle.message.specs.RoundTrip.{ParsedGood, parsed_good}
+use Rattle.message.specs.DecodeLaws.{check_length}
+use Rattle.message.specs.RoundTrip.{ParsedGood, parsed_good, parsed_message, sized_in}
 use Rattle.rules.specs.declared.Unit.{Unit}
 use Rattle.rules.specs.declared.Decided.{Decided}
 use Rattle.rules.specs.declared.Outcome.{Outcome}
@@ -76,31 +77,7 @@ room_of seat out s i f = let u = unit_range seat.n seat.own i in record { first 
 -- ---- refusals before anything is done
 
 module _ (seat : Seat) (costs : List ℕ) where
-  pub seat_5 : shape_good seat.n seat.sizes ≡ false → 5 ≡ seat_refusal seat.own seat.n seat.sizes costs
-  unfolding seat_refusal
-  seat_5 a = rw a
-
-  pub seat_10 : shape_good seat.n seat.sizes ≡ true → is_unit seat.n seat.own ≡ false → 10 ≡ seat_refusal seat.own seat.n seat.sizes costs
-  unfolding seat_refusal
-  seat_10 a b = rw (a, b)
-
-  pub seat-lent : shape_good seat.n seat.sizes ≡ true → is_unit seat.n seat.own ≡ true → lent_refusal seat.own seat.n seat.sizes costs ≡ seat_refusal seat.own seat.n seat.sizes costs
-  unfolding seat_refusal
-  seat-lent a b = rw (a, b)
-
   module _ (r : ℕ) (e : r ≡ seat_refusal seat.own seat.n seat.sizes costs) where
-    pub make-seat : (room : ℕ) → (r ≡ 0 → ⊥) → r ≡ make_refusal seat.own seat.n seat.sizes costs room
-    unfolding make_refusal
-    make-seat room h = rw (← e, or_first r _ h)
-
-    pub make_13 : (room : ℕ) → r ≡ 0 → room < 1024 → 13 ≡ make_refusal seat.own seat.n seat.sizes costs room
-    unfolding make_refusal
-    make_13 room z l = rw (← e, z, lt-ltb room 1024 l)
-
-    pub make_0 : (room : ℕ) → r ≡ 0 → 1024 ≤ room → 0 ≡ make_refusal seat.own seat.n seat.sizes costs room
-    unfolding make_refusal
-    make_0 room z l = rw (← e, z, le-ltb room 1024 l)
-
     pub range_seat : (u : Unit) → (r ≡ 0 → ⊥) → r ≡ range_refusal seat.order u seat.own seat.n seat.sizes costs
     unfolding range_refusal
     range_seat u h = rw (← e, or_first r _ h)
@@ -112,14 +89,6 @@ module _ (seat : Seat) (costs : List ℕ) where
     pub range_0 : (u : Unit) → r ≡ 0 → in_range seat.sizes (view_from seat costs) u ≡ true → 0 ≡ range_refusal seat.order u seat.own seat.n seat.sizes costs
     unfolding range_refusal
     range_0 u z f = rw (← e, z, f)
-
-  pub step_13 : (u : Unit) (room : ℕ) → room < 1024 → 13 ≡ step_refusal seat.order u seat.own seat.n seat.sizes costs room
-  unfolding step_refusal
-  step_13 u room l = rw (lt-ltb room 1024 l)
-
-  pub step_range : (u : Unit) (room : ℕ) → 1024 ≤ room → range_refusal seat.order u seat.own seat.n seat.sizes costs ≡ step_refusal seat.order u seat.own seat.n seat.sizes costs room
-  unfolding step_refusal
-  step_range u room l = rw (le-ltb room 1024 l)
 
 -- ---- making
 
@@ -169,38 +138,38 @@ module _ (order : ValueOrder) (u : Unit) (own n : ℕ) (sizes costs : List ℕ) 
     step_stops h = rw (← e) (unless r _ h)
 
     -- 01: "unless reading gave a message, the step ends there"
-    pub step-unread : r ≡ 0 → (p : Parsed) → p ≡ parse_for n sizes own bytes → (x : ℕ) → p.answer ≡ Refused x → (y : ℕ) → y ≡ refusal_of p.answer → step_out order u own n sizes costs bytes room ≡ refused y
+    pub step-unread : r ≡ 0 → (p : Result (Kind × Message) Refusal) → p ≡ parse_for n sizes own bytes → (x : Refusal) → p ≡ Err x → step_out order u own n sizes costs bytes room ≡ refused (number_of x)
     unfolding step_out
-    step-unread z p f x a y g = rw (g, ← e, z, ← f, a)
+    step-unread z p f x a = rw (← e, z, ← f, a)
 
-    pub step_reads : r ≡ 0 → (p : Parsed) → p ≡ parse_for n sizes own bytes → (k : Kind) → p.answer ≡ Good k → step_out order u own n sizes costs bytes room ≡ respond (lent_view order own n sizes costs) k u p.message
+    pub step_reads : r ≡ 0 → (p : Result (Kind × Message) Refusal) → p ≡ parse_for n sizes own bytes → (k : Kind) (m : Message) → p ≡ Ok (k, m) → step_out order u own n sizes costs bytes room ≡ respond (lent_view order own n sizes costs) k u m
     unfolding step_out
-    step_reads z p f k a = rw (← e, z, ← f, a)
+    step_reads z p f k m a = rw (← e, z, ← f, a)
 
 module _ (order : ValueOrder) (u : Unit) (own n : ℕ) (sizes costs out : List ℕ) (q : Passed order u own n sizes costs (length out)) where
   pub step_room : Room (seat_at order own n sizes) out
   step_room = room_of (seat_at order own n sizes) out q.shape q.unit q.fits
 
-  module _ (long : n ≤ length sizes) (bytes : List ℕ) (p : Parsed) (read : p ≡ parse_for n sizes own bytes) (k : Kind) (good : p.answer ≡ Good k) where
-    answered : (parse_for n sizes own bytes).answer ≡ Good k
-    answered = ap (λ (x : Parsed). x.answer) (sym read) ∙ good
+  module _ (long : n ≤ length sizes) (bytes : List ℕ) (p : Result (Kind × Message) Refusal) (read : p ≡ parse_for n sizes own bytes) (k : Kind) (m : Message) (good : p ≡ Ok (k, m)) where
+    answered : parse_for n sizes own bytes ≡ Ok (k, m)
+    answered = sym read ∙ good
 
     known : ParsedGood n sizes own bytes k
-    known = parsed_good n sizes own bytes k answered
+    known = parsed_good n sizes own bytes k m answered
 
-    fields : p.message ≡ message_in bytes
-    fields = ap (λ (x : Parsed). x.message) (read ∙ known.whole)
+    fields : m ≡ message_in bytes
+    fields = parsed_message n sizes own bytes k m answered
 
-    to_own : p.message.receiver ≡ own
+    to_own : m.receiver ≡ own
     to_own = rw fields known.receiver
 
-    pub step_decides : (d : Decided) → d ≡ decided_of u (respond_to (seat_at order own n sizes) costs [] k u p.message) → d ≡ decided_of u (respond (lent_view order own n sizes costs) k u p.message)
-    step_decides d e = e ∙ rw fields (ap (λ (o : Decision). decided_of u o) (responds (seat_at order own n sizes) u costs [] (length out) q long (knows_nothing (lent_view order own n sizes costs)) bytes k answered))
+    pub step_decides : (d : Decided) → d ≡ decided_of u (respond_to (seat_at order own n sizes) costs [] k u m) → d ≡ decided_of u (respond (lent_view order own n sizes costs) k u m)
+    step_decides d e = e ∙ rw fields (ap (λ (o : Decision). decided_of u o) (responds (seat_at order own n sizes) u costs [] (length out) q long (knows_nothing (lent_view order own n sizes costs)) bytes k m answered))
 
-    pub step_few : SizedUnit u → Sized p.message → (was : Unit) (d : Decided) → d ≡ decided_of was (respond (lent_view order own n sizes costs) k u p.message) → length (packets n (own - 1) d.sending) ≤ 16
+    pub step_few : SizedUnit u → AllBytes bytes → (was : Unit) (d : Decided) → d ≡ decided_of was (respond (lent_view order own n sizes costs) k u m) → length (packets n (own - 1) d.sending) ≤ 16
     unfolding lent_view
-    step_few arrays z was d e =
+    step_few arrays all was d e =
         let w : View = lent_view order own n sizes costs in
-        let to : p.message.receiver ≡ suc (pred own) = omega (arith, to_own, (unit_range n own q.unit).0) in
-        rw (← pred_sub own) (few_decided n sizes w was (respond w k u p.message) d e
-        (respond-kept n sizes w (lent_good_lem order own n sizes costs q.shape long q.unit q.lent) k u p.message q.state arrays record { address = rw fields known.address; form = rw fields known.formed; arrays = z } to))
+        let to : m.receiver ≡ suc (pred own) = omega (arith, to_own, (unit_range n own q.unit).0) in
+        rw (← pred_sub own) (few_decided n sizes w was (respond w k u m) d e
+        (respond-kept n sizes w (lent_good_lem order own n sizes costs q.shape long q.unit q.lent) k u m q.state arrays record { address = rw fields known.address; form = rw fields known.formed; arrays = rw fields (sized_in bytes (check_length bytes known.check) all) } to))

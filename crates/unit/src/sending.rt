@@ -17,23 +17,20 @@ use rules::{Plan, Sending};
 pub fn send(seat: Seat, s: Sending, out: &mut [u8]) -> u8
     ensures { (result ≡ length (send_to seat s (length out.old))) × (out.new ≡ laid (send_to seat s (length out.old)) out.old) }
 {
-    if !can_send(seat, s, out.len()) {
-        return 0;
+    if can_send(seat, s, out.len()) {
+        lay(seat, s, out)
+    } else {
+        0
     }
-    lay(seat, s, out)
 }
 
 // Whether a unit sends this into so many bytes.
 fn can_send(seat: Seat, s: Sending, room: usize) -> bool
     ensures { result ≡ can_send seat s room }
 {
-    if !message::is_unit(seat.n, seat.own) {
-        return false;
-    }
-    if 16 < seat.n {
-        return false;
-    }
-    base::MESSAGE_SIZE * count(seat, s) <= room
+    message::is_unit(seat.n, seat.own)
+        && seat.n <= 16
+        && base::MESSAGE_SIZE * count(seat, s) <= room
 }
 
 // How many messages a plan has.
@@ -41,10 +38,9 @@ fn count(seat: Seat, s: Sending) -> usize
     requires { Placed seat }
     ensures { (result ≡ length (packets seat.n (seat.own - 1) s)) × (result ≤ 32) }
 {
-    let plan = s.plan;
-    match plan {
+    match s.plan {
         Plan::Nothing => 0,
-        Plan::Forward => base::wide(seat.n - seat.own) + 1,
+        Plan::Forward => usize::from(seat.n - seat.own) + 1,
         Plan::Back => count_back(seat, s.improved),
         Plan::Reply => 1,
     }
@@ -56,10 +52,11 @@ fn count_back(seat: Seat, improved: bool) -> usize
     ensures { ((m : Message) → Sized m → result ≡ length (by_plan seat.n (seat.own - 1) Back improved m)) × (result ≤ 32) }
 {
     let handed = count_handed(seat);
-    if !improved {
-        return handed;
+    if improved {
+        handed + usize::from(seat.n - 1)
+    } else {
+        handed
     }
-    handed + base::wide(seat.n - 1)
 }
 
 // The cpa alone; from unit 1 a stop to each of the others.
@@ -68,9 +65,10 @@ fn count_handed(seat: Seat) -> usize
     ensures { ((m : Message) → Sized m → result ≡ length (hand_back seat.n (seat.own - 1) m)) × (result ≤ 16) }
 {
     if seat.own == 1 {
-        return base::wide(seat.n - 1);
+        usize::from(seat.n - 1)
+    } else {
+        1
     }
-    1
 }
 
 // The messages of a plan are laid at the front; how many.
@@ -79,13 +77,12 @@ pub(crate) fn lay(seat: Seat, s: Sending, out: &mut [u8]) -> u8
     ensures { (result ≡ length (packets seat.n (seat.own - 1) s)) × (out.new ≡ laid (packets seat.n (seat.own - 1) s) out.old) }
 {
     let m = s.message;
-    let plan = s.plan;
-    match plan {
+    match s.plan {
         Plan::Nothing => 0,
         Plan::Forward => forward(seat, m, out),
         Plan::Back => back(seat, s.improved, m, out),
         Plan::Reply => {
-            message::put(Kind::Estimate, m, out, 0);
+            let _ = message::put(Kind::Estimate, m, out, 0);
             1
         }
     }
@@ -97,8 +94,8 @@ fn forward(seat: Seat, m: Message, out: &mut [u8]) -> u8
     ensures { (b : Bool) → (result ≡ length (by_plan seat.n (seat.own - 1) Forward b m)) × (out.new ≡ laid (by_plan seat.n (seat.own - 1) Forward b m) out.old) }
 {
     let sent = spread(Kind::Cpa, m, seat.own, 1, out, 0);
-    let bare = no_bound(m);
-    spread(Kind::Request, bare, seat.own, seat.n - seat.own, out, sent)
+    let requests = seat.n - seat.own;
+    spread(Kind::Request, no_bound(m), seat.own, requests, out, sent)
 }
 
 // The cpa or the stops, and solutions behind it if unit n improved.
@@ -128,10 +125,10 @@ fn hand_back(seat: Seat, m: Message, out: &mut [u8]) -> u8
     ensures { (result ≡ length (hand_back seat.n (seat.own - 1) m)) × (out.new ≡ laid (hand_back seat.n (seat.own - 1) m) out.old) }
 {
     if seat.own == 1 {
-        let stop = bound_only(m);
-        return spread(Kind::Stop, stop, 1, seat.n - 1, out, 0);
+        spread(Kind::Stop, bound_only(m), 1, seat.n - 1, out, 0)
+    } else {
+        spread(Kind::Cpa, m, seat.own - 2, 1, out, 0)
     }
-    spread(Kind::Cpa, m, seat.own - 2, 1, out, 0)
 }
 
 // One message to `count` units, those after unit `lo`, laid behind the first `sent` messages; how many there are then.
@@ -139,12 +136,10 @@ fn spread(kind: Kind, m: Message, lo: u8, count: u8, out: &mut [u8], sent: u8) -
     requires { (lo + count ≤ 32) × (sent + count ≤ 32) × (message_size * (sent + count) ≤ length out.old) }
     ensures { (result ≡ sent + count) × (out.new ≡ put_at out.old (message_size * sent) (encode_all (each (sent_to kind m) lo count))) }
 {
-    let mut i: u8 = 0;
-    while i < count {
+    for i in 0..count {
         let to = address(m, lo + i + 1);
-        let at = (sent + i) as usize;
-        message::put(kind, to, out, base::MESSAGE_SIZE * at);
-        i += 1;
+        let at = base::MESSAGE_SIZE * usize::from(sent + i);
+        let _ = message::put(kind, to, out, at);
     }
     sent + count
 }
@@ -153,28 +148,28 @@ fn spread(kind: Kind, m: Message, lo: u8, count: u8, out: &mut [u8], sent: u8) -
 fn address(m: Message, receiver: u8) -> Message
     ensures { result ≡ with_receiver receiver m }
 {
-    let mut t = m;
-    t.receiver = receiver;
-    t
+    Message { receiver, ..m }
 }
 
 // A cpa's fields as a request has them.
 fn no_bound(m: Message) -> Message
     ensures { result ≡ without_bound m }
 {
-    let mut t = m;
-    t.bound = 0;
-    t.best = [0u8; 16];
-    t
+    Message {
+        bound: 0,
+        best: [0; 16],
+        ..m
+    }
 }
 
 // A cpa's fields as a solution or a stop has them.
 fn bound_only(m: Message) -> Message
     ensures { result ≡ bound_only m }
 {
-    let mut t = m;
-    t.stamp = [0u8; 16];
-    t.values = [0u8; 16];
-    t.cost = 0;
-    t
+    Message {
+        stamp: [0; 16],
+        values: [0; 16],
+        cost: 0,
+        ..m
+    }
 }

@@ -9,168 +9,143 @@
 ghost use Rattle.std.specs.Prelude.{◌+◌, ◌<◌};
 
 use base::{MESSAGE_SIZE, SENDING_SIZE};
-use message::{Message, Read};
-use std::fs::File;
-use std::os::fd::AsRawFd;
-use std::rt::Files;
+use message::Message;
 use unit::{Outcome, Unit, ValueOrder};
 
-const STDOUT_FILENO: i32 = 1;
+const RECORD: usize = 160;
 
 fn main(rt: HostRuntime) {
-    let mut file = [0u8; 20480];
-    let Some(input) = inputs::open(&rt, "steps") else {
-        return;
-    };
-    let n = io::read_full(input.as_raw_fd(), &mut file);
-    run(&file[..n]);
+    let mut file = [0; 20480];
+    if let Some(n) = inputs::read(&rt, "steps", &mut file) {
+        run(&rt, &file[..n]);
+    }
 }
 
 // Each record, from the state that the one before left.
-fn run(file: &[u8]) {
+fn run(rt: &impl Print, file: &[u8]) {
+    let (records, _) = file.as_chunks::<RECORD>();
     let mut u = unit::no_unit();
-    let mut left = file.len() / 160;
-    let mut at = 0;
-    while 0 < left {
-        let e = at + 160;
-        u = record(u, &file[at..e]);
-        at += 160;
-        left -= 1;
+    for record in records {
+        u = step(rt, u, record);
     }
 }
 
 // One record: its name, what comes of it, and the state then.
-fn record(u: Unit, r: &[u8]) -> Unit {
-    if r.len() < 160 {
-        return u;
-    }
-    io::write_all(STDOUT_FILENO, &r[0..31]);
-    if r[150] == 0 {
-        let mut out = [0u8; SENDING_SIZE];
-        let o = call(u, r, &mut out);
-        return told(r, o, &out);
-    }
-    let mut short = [0u8; SENDING_SIZE - 1];
-    let o = call(u, r, &mut short);
-    told(r, o, &short)
+fn step(rt: &impl Print, u: Unit, r: &[u8; RECORD]) -> Unit {
+    let _ = rt.write_all(&r[..31]);
+    let mut out = [0; SENDING_SIZE];
+    let room = if r[150] == 0 {
+        SENDING_SIZE
+    } else {
+        SENDING_SIZE - 1
+    };
+    let o = call(u, r, &mut out[..room]);
+    told(rt, r, o, &out[..room])
 }
 
 // Making, or a step with the record's packet.
-fn call(u: Unit, r: &[u8], out: &mut [u8]) -> Outcome {
-    let own = base::byte_at(r, 32);
-    let n = base::byte_at(r, 33);
+fn call(u: Unit, r: &[u8; RECORD], out: &mut [u8]) -> Outcome {
+    let (own, n) = (r[32], r[33]);
     let sizes = sizes_in(r);
     let costs = part(r, 50, 32);
-    let call = base::byte_at(r, 31);
-    if call == 0 {
-        return unit::make_by(ValueOrder::Ascending, own, n, sizes, costs, out);
-    }
-    if call == 2 {
-        return unit::make(own, n, sizes, costs, out);
-    }
     let packet = part(r, 83, 65);
+    match r[31] {
+        0 => unit::make_by(ValueOrder::Ascending, own, n, sizes, costs, out),
+        2 => unit::make(own, n, sizes, costs, out),
+        3 => unit::step(begun(u, r), own, n, sizes, costs, packet, out),
+        _ => unit::step_by(
+            ValueOrder::Ascending,
+            begun(u, r),
+            own,
+            n,
+            sizes,
+            costs,
+            packet,
+            out,
+        ),
+    }
+}
+
+// The state before a step.
+fn begun(u: Unit, r: &[u8; RECORD]) -> Unit {
     let mut v = u;
-    let first = base::byte_at(r, 151);
-    if first != 0 {
-        v.threshold[0] = first;
+    if r[151] != 0 {
+        v.threshold[0] = r[151];
     }
-    if call == 3 {
-        return unit::step(v, own, n, sizes, costs, packet, out);
-    }
-    unit::step_by(ValueOrder::Ascending, v, own, n, sizes, costs, packet, out)
+    v
 }
 
 // The bytes behind their number at `at`, at most `most` of them.
-fn part(r: &[u8], at: usize, most: usize) -> &[u8]
+fn part(r: &[u8; RECORD], at: usize, most: usize) -> &[u8]
     requires { at + most < 160 }
 {
-    let n = base::byte_at(r, at) as usize;
+    let n = usize::from(r[at]);
     if most < n {
-        return &r[0..0];
+        return &[];
     }
-    if r.len() < 160 {
-        return &r[0..0];
-    }
-    let from = at + 1;
-    let to = from + n;
-    &r[from..to]
+    &r[at + 1..at + 1 + n]
 }
 
-fn sizes_in(r: &[u8]) -> [u8; 16] {
-    let mut l = [0u8; 16];
-    let mut i = 0;
-    while i < 16 {
-        l[i] = base::byte_at(r, 34 + i);
-        i += 1;
-    }
-    l
+fn sizes_in(r: &[u8; RECORD]) -> [u8; 16] {
+    let mut sizes = [0; 16];
+    sizes.copy_from_slice(&r[34..50]);
+    sizes
 }
 
 // What a call gave: the refusal's number, or the records, the state and the messages sent.
-fn told(r: &[u8], o: Outcome, out: &[u8]) -> Unit {
-    let u = o.unit;
+fn told(rt: &impl Print, r: &[u8; RECORD], o: Outcome, out: &[u8]) -> Unit {
     if o.refusal != 0 {
         print::print_refusal(o.refusal);
-        return u;
+    } else {
+        print::print_number(b" records ", u32::from(o.records));
+        state(rt, o.unit);
+        sent(rt, r[33], sizes_in(r), o.sent, out);
     }
-    print::print_number(b" records ", base::wide_u32(o.records));
-    state(u);
-    let sizes = sizes_in(r);
-    sent(base::byte_at(r, 33), sizes, o.sent, out);
-    u
+    o.unit
 }
 
-fn state(u: Unit) {
-    let threshold = u.threshold;
-    print::print_bytes(b" threshold", threshold);
-    let estimates = u.estimates;
-    print::print_words(b" estimates", estimates);
-    print::print_number(b" counter ", base::wide_u32(u.counter));
+fn state(rt: &impl Print, u: Unit) {
+    print::print_places(b" threshold", u.threshold);
+    print::print_places(b" estimates", u.estimates);
+    print::print_number(b" counter ", u32::from(u.counter));
     if u.stopped {
-        io::write_all(STDOUT_FILENO, b" stopped");
+        let _ = rt.write_all(b" stopped");
     }
-    let stamp = u.stamp;
-    let values = u.values;
-    let best = u.best;
-    let m = Message {
+    let Unit {
+        stamp,
+        values,
+        cost,
+        bound,
+        best,
+        ..
+    } = u;
+    print::print_fields(Message {
         sender: 0,
         receiver: 0,
         stamp,
         values,
-        cost: u.cost,
-        bound: u.bound,
+        cost,
+        bound,
         best,
-    };
-    print::print_fields(m);
+    });
 }
 
 // The messages at the front of the output.
-fn sent(n: u8, sizes: [u8; 16], count: u8, out: &[u8]) {
-    let mut left = count;
-    let mut at = 0;
-    while 0 < left {
-        if out.len() < MESSAGE_SIZE {
-            return;
-        }
-        if out.len() - MESSAGE_SIZE < at {
-            return;
-        }
-        let e = at + MESSAGE_SIZE;
-        packet(n, sizes, &out[at..e]);
-        at += MESSAGE_SIZE;
-        left -= 1;
+fn sent(rt: &impl Print, n: u8, sizes: [u8; 16], count: u8, out: &[u8]) {
+    for bytes in out.chunks_exact(MESSAGE_SIZE).take(usize::from(count)) {
+        packet(rt, n, sizes, bytes);
     }
 }
 
 // A packet as it reads.
-fn packet(n: u8, sizes: [u8; 16], bytes: &[u8]) {
-    let p = message::parse(n, sizes, bytes);
-    let answer = p.answer;
-    let Read::Good(kind) = answer else {
-        io::write_all(STDOUT_FILENO, b"  not a message\n");
-        return;
-    };
-    io::write_all(STDOUT_FILENO, b"  sends ");
-    let m = p.message;
-    print::print_message(kind, m);
+fn packet(rt: &impl Print, n: u8, sizes: [u8; 16], bytes: &[u8]) {
+    match message::parse(n, sizes, bytes) {
+        Ok((kind, m)) => {
+            let _ = rt.write_all(b"  sends ");
+            print::print_message(kind, m);
+        }
+        Err(_) => {
+            let _ = println!(rt; "  not a message");
+        }
+    }
 }

@@ -2,7 +2,8 @@
 -- Assumes nothing.
 use Rattle.std.specs.Prelude.{ℕ, zero, suc, ◌≡◌, refl}
 use Rattle.std.proofs.Common.{arith}
-use Rattle.base.specs.Refusal.{or_else}
+use Rattle.base.specs.declared.Refusal.{Refusal}
+use Rattle.base.specs.Refusal.{number_of, or_else}
 
 pub or_left : (a b : ℕ) → or_else a b ≡ 0 → a ≡ 0
 or_left zero b e = refl
@@ -15,3 +16,7 @@ or_right (suc a) b e = absurd (omega arith)
 pub or_first : (a b : ℕ) → (a ≡ 0 → ⊥) → or_else a b ≡ a
 or_first zero b h = absurd (h refl)
 or_first (suc a) b h = refl
+
+-- no refusal has number 0
+pub number_some : (r : Refusal) → number_of r ≡ 0 → ⊥
+number_some r e = grind arith

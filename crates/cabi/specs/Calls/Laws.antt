@@ -1,12 +1,9 @@
--- What the steps of the calls for C come to: reading, a kind by its number, a step on a lent state, a delivery or an echo to what is lent. Assumes nothing.
-use Rattle.std.specs.Prelude.{ℕ, pred, ◌≡◌, List, length}
+-- What the steps of the calls for C come to: reading, a step on a lent state, a delivery or an echo to what is lent. Assumes nothing.
+use Rattle.std.specs.Prelude.{ℕ, pred, ◌≡◌, List, length, Err}
 use Rattle.std.proofs.Common.{ap, ◌∙◌}
-use Rattle.message.specs.declared.Kind.{Kind}
-use Rattle.message.specs.declared.Message.{Message}
-use Rattle.message.specs.declared.Parsed.{Parsed as Reading}
-use Rattle.message.specs.declared.Read.TheVariants.{Good, Refused}
-use Rattle.message.specs.Message.{kind_of, refusal_of}
-use Rattle.message.specs.Decode.{write_refusal, packet_into}
+use Rattle.base.specs.declared.Refusal.{Refusal}
+use Rattle.message.specs.Message.{no_message}
+use Rattle.message.specs.Decode.{parse_for}
 use Rattle.costs.specs.declared.ValueOrder.{ValueOrder}
 use Rattle.rules.specs.declared.Outcome.{Outcome}
 use Rattle.rules.specs.declared.Unit.{Unit}
@@ -16,7 +13,6 @@ use Rattle.runs.specs.declared.Network.{Network}
 use Rattle.runs.specs.declared.Answer.{Answer}
 use Rattle.runs.specs.Calls.{deliver_of, echo_of}
 use Rattle.slots.specs.declared.Answer.{Answer as SlotsAnswer}
-use Rattle.slots.specs.Slot.{slot_cells, slot_or_none}
 use Rattle.slots.specs.Calls.{deliver_of as slotsDeliverOf}
 use Rattle.slots.specs.Replay.{replay_of}
 use Rattle.cabi.specs.declared.LentAnswer.{LentAnswer}
@@ -26,39 +22,12 @@ use Rattle.cabi.specs.declared.LentOutcome.{LentOutcome}
 use Rattle.cabi.specs.declared.LentSlotsAnswer.{LentSlotsAnswer}
 use Rattle.cabi.specs.declared.LentUnit.{LentUnit}
 use Rattle.cabi.specs.Lent.{unit_from, outcome_back, core_from, network_from, answer_back, slots_back}
-use Rattle.cabi.specs.Calls.{code_of, parsed_of, unknown_kind, slot_as, write_as, written_as, step_of, stepped_bytes, delivered_to, delivered_pool, echoed_to, echoed_pool, slots_delivered_to, slots_delivered_pool, replayed_to, replayed_pool}
+use Rattle.cabi.specs.Calls.{parsed_of, step_of, stepped_bytes, delivered_to, delivered_pool, echoed_to, echoed_pool, slots_delivered_to, slots_delivered_pool, replayed_to, replayed_pool}
 
--- what reading comes to
-pub parsed_is : (p q : Reading) (r k : ℕ) → r ≡ refusal_of p.answer → k ≡ code_of p.answer → p ≡ q → record { refusal = r; kind = k; message = p.message } ≡ parsed_of q
-parsed_is p q r k e f g = rw (e, f) (ap parsed_of g)
-
--- what writing by number comes to, where the number is a kind's and where it is none
-module _ (n : ℕ) (sizes : List ℕ) (code : ℕ) (m : Message) where
-  pub write_known : (k : Kind) (room : ℕ) → kind_of code ≡ Good k → write_as (kind_of code) n sizes m room ≡ write_refusal n sizes k m room
-  unfolding write_as
-  write_known k room e = rw e
-
-  pub written_known : (k : Kind) (out : List ℕ) → kind_of code ≡ Good k → written_as (kind_of code) n sizes m out ≡ packet_into n sizes k m out
-  unfolding written_as
-  written_known k out e = rw e
-
-  pub write_unknown : (r room : ℕ) → kind_of code ≡ Refused r → write_as (kind_of code) n sizes m room ≡ unknown_kind n sizes m
-  unfolding write_as
-  write_unknown r room e = rw e
-
-  pub written_unknown : (r : ℕ) (out : List ℕ) → kind_of code ≡ Refused r → written_as (kind_of code) n sizes m out ≡ out
-  unfolding written_as
-  written_unknown r out e = rw e
-
--- and of a cell
-module _ (n code sender receiver : ℕ) where
-  pub slot_known : (k : Kind) → kind_of code ≡ Good k → slot_as (kind_of code) n sender receiver ≡ slot_or_none n k sender receiver
-  unfolding slot_as
-  slot_known k e = rw e
-
-  pub slot_unknown : (r : ℕ) → kind_of code ≡ Refused r → slot_as (kind_of code) n sender receiver ≡ slot_cells
-  unfolding slot_as
-  slot_unknown r e = rw e
+-- where reading refuses, every field beside the number is zero
+pub refused-blank : (n : ℕ) (sizes : List ℕ) (own : ℕ) (s : List ℕ) (r : Refusal) → parse_for n sizes own s ≡ Err r
+    → ((parsed_of (parse_for n sizes own s)).message ≡ no_message) × ((parsed_of (parse_for n sizes own s)).kind ≡ 0)
+refused-blank n sizes own s r e = (ap (λ p. (parsed_of p).message) e, ap (λ p. (parsed_of p).kind) e)
 
 -- a step: what the call does, one thing after the other
 module _ (order : ValueOrder) (s : LentUnit) (own n : ℕ) (sizes costs packet : List ℕ) (v : Unit) (read : v ≡ unit_from s) where

@@ -2,7 +2,7 @@
 -- was comes back as lent, that byte too (of all units in proofs/ComesBack.antt).
 -- Assumes nothing.
 use Rattle.std.specs.Prelude.{ℕ, zero, suc, ◌+◌, ◌<◌, ◌≤◌, ◌≡◌, refl, Bool, true, false, cond, List, [], ◌∷◌, ◌++◌, leb, eqb, length, get_or, set, drop}
-use Rattle.std.proofs.Common.{sym, ◌∙◌, append_assoc, append-nil, arith, add-one, leb-true, eqb-true, length-append, drop_of_length-le, drop-cons}
+use Rattle.std.proofs.Common.{sym, ◌∙◌, append_assoc, append-nil, arith, add-one, leb-true, eqb-true, length-append, drop_of_length-le, drop-cons, ext_get_or}
 use Rattle.std.proofs.lemmas.Bool.{eqb-false}
 use Rattle.std.proofs.Math.ListN.{get_or-append}
 use Rattle.std.proofs.lemmas.List.{set_at, get_or_at}
@@ -67,6 +67,12 @@ up_to_at (suc n) f k d h = go (eqb k n) refl (λ q. up_to_at n f k d q)
         let q : k ≡ n → ⊥ = eqb-false k n e in
         let l : k < length (up_to n f) = rw (length_up_to n f) (omega arith) in
         get_or-append (up_to n f) (f n ∷ []) d k l ∙ below (omega arith)
+
+-- a list with f k at each place k below n
+pub up_to_of : {A : Type 0} (n : ℕ) (f : ℕ → A) (l : List A) (d : A) → length l ≡ n → ((k : ℕ) → k < n → get_or l k d ≡ f k) → l ≡ up_to n f
+up_to_of n f l d e h =
+    let long : length (up_to n f) ≡ n = length_up_to n f in
+    ext_get_or d l (up_to n f) (e ∙ sym long) (λ k p. let q : k < n = omega (arith, e, p) in h k q ∙ sym (up_to_at n f k d q))
 
 -- units and counts with such a byte in one of the n units are refused by 5, whatever pool is lent beside them
 pub no_flag_network : (order : ValueOrder) (stream : List ℕ) (s : LentCore) (k : ℕ) → Accepted stream → k < units_of stream → flag_good (get_or s.units k empty_lent) ≡ false → core_refusal order (core_from s) stream ≡ 5

@@ -30,7 +30,7 @@ fits s i total b h l e =
 pub overflow_add-total : goal.overflow_add-total
 overflow_add-total c =
     let l = c.loop-i in
-    omega (arith, fits c.args.bytes.now l.i l.total (λ k. (c.type_inv.bytes k).fits) (omega arith) l.invariant.1 l.invariant.2)
+    record { fits = rw c.from.ensures (omega (arith, fits c.args.bytes.now l.i l.total (λ k. (c.type_inv.bytes k).fits) (omega arith) l.invariant.1 l.invariant.2)) }
 
 pub overflow_mul-total : goal.overflow_mul-total
 overflow_mul-total c = omega (arith, (overflow_add-total c).fits)
@@ -38,7 +38,7 @@ overflow_mul-total c = omega (arith, (overflow_add-total c).fits)
 pub loop-i-preserved : goal.loop-i-preserved
 loop-i-preserved c =
     let l = c.loop-i in
-    (omega arith, l.invariant.1, rw (weight l.i (omega arith)) (omega (arith, weigh_more c.args.bytes.now l.i (omega arith))))
+    (omega arith, l.invariant.1, rw (weight l.i (omega arith), c.from.ensures) (omega (arith, weigh_more c.args.bytes.now l.i (omega arith))))
 
 pub returns : goal.returns
 returns c =

@@ -6,7 +6,7 @@ use Rattle.table.specs.Form.Laws.{convert_fits}
 use Rattle.convert.proofs.write_converted.Goals as goal
 
 pub slice_bounds-out-end : goal.slice_bounds-out-end
-slice_bounds-out-end c = omega (arith, convert_fits _ _ _ _ c.convert-done.ensures.0, c.convert-done.auto.out)
+slice_bounds-out-end g c = omega (arith, convert_fits _ _ _ _ c.in-Ok.ensures.0)
 
-pub slice_bounds-write_all-end-2 : goal.slice_bounds-write_all-end-2
-slice_bounds-write_all-end-2 c = sym (length-take-le _ _ (omega (arith, convert_fits _ _ _ _ c.convert-done.ensures.0, c.convert-done.auto.out)))
+pub slice_bounds-write_all-end : goal.slice_bounds-write_all-end
+slice_bounds-write_all-end g c = sym (length-take-le _ _ (omega (arith, convert_fits _ _ _ _ c.in-Ok.ensures.0)))

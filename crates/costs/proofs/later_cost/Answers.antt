@@ -1,26 +1,19 @@
 -- `later_cost` meets its contract: h of a value is in its runs, and of what is no value in runs of no bytes.
 -- Assumes nothing.
-use Rattle.std.proofs.Common.{sym, ◌∙◌, arith}
-use Rattle.base.specs.Shape.Laws.{value_range}
+use Rattle.std.proofs.Common.{sym, ◌∙◌}
 use Rattle.costs.specs.Lent.Steps.{later_value, later_no_value}
 use Rattle.costs.proofs.later_cost.Goals as goal
-
-pub least_runs-requires : goal.least_runs-requires
-least_runs-requires c =
-    let d = c.size_of in
-    let r = value_range d.result c.args.v (sym c.is_value.ensures ∙ c.if-is_value.true) in
-    (r.0, omega (arith, r.1, d.ensures.1))
 
 pub returns-then-is_value : goal.returns-then-is_value
 returns-then-is_value c =
     let a = c.args in
     let q = sym c.is_value.ensures ∙ c.if-is_value.true in
-    let value = later_value a.seat a.costs.now a.v (rw (c.size_of.ensures.0, c.place_of.ensures.0) at q) in
+    let value = later_value a.seat a.costs.now a.v (rw (c.size_of.ensures.0, c.place.ensures.0) at q) in
     (c.least_runs.ensures.0 ∙ sym value, c.least_runs.ensures.1)
 
-pub returns : goal.returns
-returns c =
+pub returns-else-is_value : goal.returns-else-is_value
+returns-else-is_value c =
     let a = c.args in
     let q = sym c.is_value.ensures ∙ c.if-is_value.false in
-    let none = later_no_value a.seat a.costs.now a.v 1 (rw (c.size_of.ensures.0, c.place_of.ensures.0) at q) in
-    (c.least_runs-2.ensures.0 ∙ sym none, c.least_runs-2.ensures.1)
+    let none = later_no_value a.seat a.costs.now a.v 1 (rw (c.size_of.ensures.0, c.place.ensures.0) at q) in
+    (c.least_runs-else-is_value.ensures.0 ∙ sym none, c.least_runs-else-is_value.ensures.1)

@@ -3,7 +3,7 @@
 -- In order: which of two units comes first; a unit's unary costs; a pair's bytes; where they stand among those gathered; `gathered-view`;
 -- `gathered_good`; how many they are.
 -- Assumes nothing.
-use Rattle.std.specs.Prelude.{◌≡◌, ℕ, zero, suc, pred, ◌+◌, ◌-◌, ◌*◌, ◌<◌, ◌≤◌, Bool, true, false, cond, ◌&&◌, List, [], ◌++◌, length, take, drop, replicate, ◌==◌, ◌≢◌, nat_lt, slice_index, refl}
+use Rattle.std.specs.Prelude.{◌≡◌, ℕ, zero, suc, pred, ◌+◌, ◌-◌, ◌*◌, ◌<◌, ◌≤◌, Bool, true, false, cond, ◌&&◌, List, [], ◌++◌, length, take, drop, replicate, ◌==◌, ◌≢◌, nat_lt, slice_index, refl, Some}
 use Rattle.std.proofs.Math.Path.{sym, fun_ext}
 use Rattle.std.proofs.Common.{ap, ◌∙◌, subst, mul-add, mul_comm, mul-le-mul, add_assoc, zero-add, length-append, length-drop, get_or-drop, get_or-take, get_or-append-add, length-take-le}
 use native.Mathlib.Omega.{arith}
@@ -19,7 +19,7 @@ use Rattle.table.specs.Stream.{in_form_two, units_of, sizes_of, unaries_in, unar
 use Rattle.table.specs.StreamLaws.{unaries_two, stream_unary, stream_cost, costs_each, accepted_units, accepted_unary, accepted-cost, unary_small as unary_good_lem, pair_small as pair_good_lem}
 use Rattle.base.specs.Shape.{is_value}
 use Rattle.base.specs.Shape.Laws.{range_value, value_range}
-use Rattle.costs.specs.Cost.{Cost, Of, pair_cost}
+use Rattle.costs.specs.Cost.{Cost, pair_cost}
 use Rattle.costs.specs.Instance.{View, view_of, view_by, pair_start, in_pair, cost_number, instance_of, other_start, lent_unary, lent_cost, lent_view, lookahead, dom_of, unary_of}
 use Rattle.costs.specs.declared.ValueOrder.{ValueOrder}
 use Rattle.costs.specs.Laws.Stream.{unaries_from, costs_of, in_pair_lt, unary_number_at, cost_number_at, unary_costs, pair_costs_lem, accepted_fit, dom-most}
@@ -60,12 +60,12 @@ same_number : (l m : List ℕ) (x y : ℕ) → slice_index l (2 * x) ≡ slice_i
 same_number l m x y a b = rw (a, b)
 
 -- costs that agree where both values are values
-both_values : (a b : Bool) (x y : ℕ) → (a ≡ true → b ≡ true → x ≡ y) → cond (true && true && a && b) (pair_cost x) (Of 0) ≡ cond (true && true && a && b) (pair_cost y) (Of 0)
+both_values : (a b : Bool) (x y : ℕ) → (a ≡ true → b ≡ true → x ≡ y) → cond (true && true && a && b) (pair_cost x) (Some 0) ≡ cond (true && true && a && b) (pair_cost y) (Some 0)
 both_values true true x y e = ap pair_cost (e refl refl)
 both_values true false x y e = refl
 both_values false b x y e = refl
 
-both_swapped : (t a b : Bool) (x y : ℕ) → (t ≡ true → a ≡ true → b ≡ true → x ≡ y) → cond (true && t && a && b) (pair_cost x) (Of 0) ≡ cond (true && t && b && a) (pair_cost y) (Of 0)
+both_swapped : (t a b : Bool) (x y : ℕ) → (t ≡ true → a ≡ true → b ≡ true → x ≡ y) → cond (true && t && a && b) (pair_cost x) (Some 0) ≡ cond (true && t && b && a) (pair_cost y) (Some 0)
 both_swapped true true true x y e = ap pair_cost (e refl refl refl)
 both_swapped true true false x y e = refl
 both_swapped true false true x y e = refl

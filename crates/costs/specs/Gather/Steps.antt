@@ -154,6 +154,9 @@ module _ {s : List ℕ} {seat : Seat} (within : SeatIn s seat) where
     own_size : d ≡ dom_of s (pred seat.own)
     own_size = size ∙ ap (λ f. f (pred seat.own)) same_sizes
 
+    pub unary_zeros : in_form_two s ≡ false → unary_bytes s (pred seat.own) ≡ replicate (2 * d) 0
+    unary_zeros one = rw (one, own_size)
+
     pub zeros-part : in_form_two s ≡ false → Part (replicate 32 0) (unary_bytes s (pred seat.own)) 0 (2 * d)
     zeros-part one =
         let few : 2 * d ≤ 32 = omega (arith, own_size, within.small (pred seat.own)) in

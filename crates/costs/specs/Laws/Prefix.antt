@@ -1,11 +1,11 @@
 -- The functions of a prefix (a list, last unit first) are specs/Bounds' functions of an array of values (first unit first):
 -- `pre k l` is the prefix that the first k places of l are. By induction on k; the view's test on the units falls to one side.
 -- Assumes nothing.
-use Rattle.std.specs.Prelude.{◌≡◌, ℕ, zero, suc, ◌-◌, ◌<◌, ◌≤◌, Bool, true, false, ◌≢◌, List, [], ◌∷◌, length, ◌==◌, slice_index, slice_index_or, slice_set, refl}
+use Rattle.std.specs.Prelude.{◌≡◌, ℕ, zero, suc, ◌-◌, ◌<◌, ◌≤◌, Bool, true, false, ◌≢◌, List, [], ◌∷◌, length, ◌==◌, slice_index, slice_index_or, slice_set, refl, Some, None}
 use Rattle.std.proofs.Common.{sym, ◌∙◌, subst, inl, inr, arith, get_or-set_same, get_or-set_other, lt-ltb, le-ltb, eqb-true}
 use Rattle.std.proofs.Math.Path.{ap}
 use Rattle.std.proofs.lemmas.Bool.{eqb-false}
-use Rattle.costs.specs.Cost.{Cost, Of, Forbidden, ◌⊕◌, sum_to, least, as_number}
+use Rattle.costs.specs.Cost.{Cost, ◌⊕◌, sum_to, least, as_number}
 use Rattle.costs.specs.Instance.{Instance, view_by}
 use Rattle.costs.specs.declared.ValueOrder.{ValueOrder}
 use Rattle.costs.specs.Bounds.{cost_with, h, estimate, Permitted, total, Reported}
@@ -50,11 +50,11 @@ pre_cong (suc k) l m e =
 
 module _ (I : Instance) (k : ℕ) where
   -- against an array, unit by unit
-  against_sum : (v m : ℕ) (l : List ℕ) → Of (I.unary k v) ⊕ sum_to (λ j. I.cost j (slice_index l j) k v) m ≡ against I k v (pre m l)
-  against_sum v zero l = add_zero (Of (I.unary k v))
+  against_sum : (v m : ℕ) (l : List ℕ) → Some (I.unary k v) ⊕ sum_to (λ j. I.cost j (slice_index l j) k v) m ≡ against I k v (pre m l)
+  against_sum v zero l = add_zero (Some (I.unary k v))
   against_sum v (suc m) l =
       rw (length_pre m l)
-      (sym (add_assoc (Of (I.unary k v)) (sum_to (λ j. I.cost j (slice_index l j) k v) m) (I.cost m (slice_index l m) k v))
+      (sym (add_assoc (Some (I.unary k v)) (sum_to (λ j. I.cost j (slice_index l j) k v) m) (I.cost m (slice_index l m) k v))
       ∙ ap (λ (x : Cost). x ⊕ I.cost m (slice_index l m) k v) (against_sum v m l) ∙ add_comm (against I k v (pre m l)) (I.cost m (slice_index l m) k v))
 
 module _ (o : ValueOrder) (I : Instance) (k : ℕ) where
@@ -68,7 +68,7 @@ module _ (o : ValueOrder) (I : Instance) (k : ℕ) where
   pub cost_with_prefix : (values : List ℕ) (m v : ℕ) → m ≤ k → cost_with (view_by o I k) values m v ≡ against I k v (pre m values)
   unfolding cost_with
   cost_with_prefix values m v le =
-      ap (λ (x : Cost). Of (I.unary k v) ⊕ x)
+      ap (λ (x : Cost). Some (I.unary k v) ⊕ x)
       (sum_to_cong (λ j. (view_by o I k).pair j (slice_index values j) v) (λ j. I.cost j (slice_index values j) k v) m (λ j l. pair_before j (slice_index values j) v (omega arith)))
       ∙ against_sum I k v m values
 
@@ -94,7 +94,7 @@ module _ (o : ValueOrder) (I : Instance) (k : ℕ) where
 -- ---- assignments
 
 module _ (I : Instance) where
-  sum_of_prefix : (k : ℕ) (l : List ℕ) → sum_to (λ j. Of (I.unary j (slice_index l j)) ⊕ sum_to (λ i. I.cost i (slice_index l i) j (slice_index l j)) j) k ≡ cost_of I (pre k l)
+  sum_of_prefix : (k : ℕ) (l : List ℕ) → sum_to (λ j. Some (I.unary j (slice_index l j)) ⊕ sum_to (λ i. I.cost i (slice_index l i) j (slice_index l j)) j) k ≡ cost_of I (pre k l)
   sum_of_prefix zero l = refl
   sum_of_prefix (suc k) l = rw (length_pre k l, sum_of_prefix k l, against_sum I k (slice_index l k) k l)
 
@@ -103,19 +103,19 @@ module _ (I : Instance) where
   total_prefix l = sum_of_prefix I.n l
 
   -- a total is a number just where no pair is forbidden
-  pub permitted_total : (l : List ℕ) → Permitted I l → total I l ≢ Forbidden
+  pub permitted_total : (l : List ℕ) → Permitted I l → total I l ≢ None
   unfolding total
   permitted_total l p =
-      sums_number (λ k. Of (I.unary k (slice_index l k)) ⊕ sum_to (λ i. I.cost i (slice_index l i) k (slice_index l k)) k) I.n
-      (λ k b. sum_number (Of (I.unary k (slice_index l k))) (sum_to (λ i. I.cost i (slice_index l i) k (slice_index l k)) k) (number_not_forbidden (I.unary k (slice_index l k)))
+      sums_number (λ k. Some (I.unary k (slice_index l k)) ⊕ sum_to (λ i. I.cost i (slice_index l i) k (slice_index l k)) k) I.n
+      (λ k b. sum_number (Some (I.unary k (slice_index l k))) (sum_to (λ i. I.cost i (slice_index l i) k (slice_index l k)) k) (number_not_forbidden (I.unary k (slice_index l k)))
       (sums_number (λ i. I.cost i (slice_index l i) k (slice_index l k)) k (λ i a. p i k a b)))
 
-  pub total_permitted : (l : List ℕ) → total I l ≢ Forbidden → Permitted I l
+  pub total_permitted : (l : List ℕ) → total I l ≢ None → Permitted I l
   unfolding total
   total_permitted l t i j a b =
       sums_part (λ i. I.cost i (slice_index l i) j (slice_index l j)) j
-      (sum_right (Of (I.unary j (slice_index l j))) (sum_to (λ i. I.cost i (slice_index l i) j (slice_index l j)) j)
-      (sums_part (λ k. Of (I.unary k (slice_index l k)) ⊕ sum_to (λ i. I.cost i (slice_index l i) k (slice_index l k)) k) I.n t j b)) i a
+      (sum_right (Some (I.unary j (slice_index l j))) (sum_to (λ i. I.cost i (slice_index l i) j (slice_index l j)) j)
+      (sums_part (λ k. Some (I.unary k (slice_index l k)) ⊕ sum_to (λ i. I.cost i (slice_index l i) k (slice_index l k)) k) I.n t j b)) i a
 
   pub prefix_in_dom : (k : ℕ) (l : List ℕ) → ((i : ℕ) → i < k → (1 ≤ slice_index l i) × (slice_index l i ≤ I.dom i)) → InDomains (problem_of I) (pre k l)
   prefix_in_dom zero l a = tt

@@ -1,7 +1,7 @@
 -- The instance of an accepted stream is sound. How many costs stand before a unit's, or a pair's, is counted unit by unit, as the stream's
 -- length is, so each cost of a value, or of a pair of values, is one of the stream's, and those that are numbers are within the limit.
 -- Assumes nothing.
-use Rattle.std.specs.Prelude.{◌≡◌, ℕ, suc, ◌+◌, ◌-◌, ◌*◌, ◌<◌, ◌≤◌, Bool, true, false, cond, ◌&&◌, List, [], ◌∷◌, length, drop, nat_lt, slice_index, slice_index_or}
+use Rattle.std.specs.Prelude.{◌≡◌, ℕ, suc, ◌+◌, ◌-◌, ◌*◌, ◌<◌, ◌≤◌, Bool, true, false, cond, ◌&&◌, List, [], ◌∷◌, length, drop, nat_lt, slice_index, slice_index_or, Some}
 use Rattle.std.proofs.Math.Path.{refl, ap}
 use Rattle.std.proofs.Common.{◌∙◌, subst, mul-le-mul, mul-add, le_refl, zero-add, length-drop, get_or-drop, get_or-take, length-take-le, ltb-true, ltb-false}
 use Rattle.std.proofs.lemmas.Bool.{false≢true}
@@ -13,7 +13,7 @@ use Rattle.table.specs.Stream.{in_form_two, units_of, after_units, sizes_of, sum
 use Rattle.table.specs.StreamLaws.{unaries_two, stream_unary, stream_cost, accepted_units, accepted_size, accepted_length, accepted_unary, accepted-cost}
 use Rattle.base.specs.Shape.{is_value}
 use Rattle.base.specs.Shape.Laws.{value_range}
-use Rattle.costs.specs.Cost.{Of, pair_cost}
+use Rattle.costs.specs.Cost.{pair_cost}
 use Rattle.costs.specs.Cost.Laws.{AtMost, good_cost}
 use Rattle.costs.specs.Instance.{pair_start, in_pair, cost_number, table_cost, table_unary, unary_of, instance_of, dom_of}
 use Rattle.base.specs.Sums.Laws.{sum_to_mono, sum_to_sum_from, sum_from-last, sum_from_split}
@@ -185,7 +185,7 @@ module _ (s : List ℕ) (ok : Accepted s) where
   table-cost_small i u j v = go (nat_lt i j && nat_lt j (units_of s) && is_value (dom_of s i) u && is_value (dom_of s j) v) refl
     where
       go : (t : Bool) → (nat_lt i j && nat_lt j (units_of s) && is_value (dom_of s i) u && is_value (dom_of s j) v) ≡ t
-          → AtMost pair_limit (cond t (pair_cost (cost_number (costs_of s) (pair_start (dom_of s) (units_of s) i j + in_pair (dom_of s j) u v))) (Of 0))
+          → AtMost pair_limit (cond t (pair_cost (cost_number (costs_of s) (pair_start (dom_of s) (units_of s) i j + in_pair (dom_of s j) u v))) (Some 0))
       go true e =
           let q = all_four (nat_lt i j) (nat_lt j (units_of s)) (is_value (dom_of s i) u) (is_value (dom_of s j) v) e in
           let hu = value_range (dom_of s i) u q.2 in

@@ -1,11 +1,11 @@
 -- There is only one first least assignment, or none: in the order in which the units try their values, of two assignments one comes before the other or they
 -- agree. By induction on the number of units compared; two values of one place are one (Order/Laws).
 -- Assumes nothing.
-use Rattle.std.specs.Prelude.{◌≡◌, ℕ, zero, suc, ◌<◌, ◌≤◌, Bool, true, false, List, ◌==◌, ◌≢◌, nat_lt, slice_index, refl}
+use Rattle.std.specs.Prelude.{◌≡◌, ℕ, zero, suc, ◌<◌, ◌≤◌, Bool, true, false, List, ◌==◌, ◌≢◌, nat_lt, slice_index, refl, Some}
 use Rattle.std.proofs.Common.{sym, ap, ◌∙◌, inl, inr, arith, ext_get_or, ltb-true, ltb-false, eqb-true}
 use Rattle.std.proofs.lemmas.Bool.{eqb-false}
 use Rattle.costs.specs.declared.ValueOrder.{ValueOrder}
-use Rattle.costs.specs.Cost.{Of, as_number}
+use Rattle.costs.specs.Cost.{as_number}
 use Rattle.costs.specs.Instance.{Instance, View, view_by}
 use Rattle.costs.specs.Bounds.{Valued, Assignment, total, Reported}
 use Rattle.costs.specs.Order.{place_tried, value_at}
@@ -82,7 +82,7 @@ least_unique order order' I t u l m a b = reported_same I t u l m a.reported b.r
 
 module _ (order : ValueOrder) (I : Instance) (t u : ℕ) (l m : List ℕ) (a : LeastFirst order I t l) (b : LeastFirst order I u m) where
   -- two that are assignments
-  module _ (full : Assignment I l) (totals : total I l ≡ Of t) (full' : Assignment I m) (totals' : total I m ≡ Of u) where
+  module _ (full : Assignment I l) (totals : total I l ≡ Some t) (full' : Assignment I m) (totals' : total I m ≡ Some u) where
     first_agree : Compared order I I.n l m → Agree I.n l m
     first_agree (alike e) = e
     first_agree (earlier e) = absurd (omega (arith, least_unique order order I t u l m a b, b.first l full e, ap as_number totals))

@@ -1,7 +1,7 @@
 -- What check 7 gives of the sums over a view: first for any view whose costs keep it, then for costs that were not refused.
 -- Each sum has at most so many terms, and each that is a number is within the limit; a cost number past the end is 0.
 -- Assumes nothing.
-use Rattle.std.specs.Prelude.{◌≡◌, ℕ, pred, ◌+◌, ◌-◌, ◌*◌, ◌≤◌, Bool, true, false, cond, not, ◌&&◌, List, length, ◌==◌, nat_lt, slice_index}
+use Rattle.std.specs.Prelude.{◌≡◌, ℕ, pred, ◌+◌, ◌-◌, ◌*◌, ◌≤◌, Bool, true, false, cond, not, ◌&&◌, List, length, ◌==◌, nat_lt, slice_index, Some}
 use Rattle.std.proofs.Math.Path.{refl}
 use Rattle.std.proofs.Common.{ltb-true, ltb-false, eqb-true}
 use Rattle.std.proofs.Math.Nat.{zero-add}
@@ -12,7 +12,7 @@ use Rattle.base.specs.Shape.{is_value}
 use Rattle.base.specs.Shape.Laws.{value_range, and_left, and_right}
 use Rattle.table.specs.Stream.{unary_good, pair_good, costs_good}
 use Rattle.table.specs.StreamLaws.{costs_at, pair_small, unary_most}
-use Rattle.costs.specs.Cost.{Cost, Of, sum_to}
+use Rattle.costs.specs.Cost.{Cost, sum_to}
 use Rattle.costs.specs.Cost.Laws.{AtMost, good_cost, most_add, most_sum_to}
 use Rattle.costs.specs.Instance.{View, lookahead, dom_in, cost_number, lent_view}
 use Rattle.costs.specs.declared.ValueOrder.{ValueOrder}
@@ -25,7 +25,7 @@ module _ (w : View) (unary-small : (v : ℕ) → w.unary v ≤ unary_limit) (sma
   pub cost-most : (values : List ℕ) (k v : ℕ) → AtMost (unary_limit + pair_limit * k) (cost_with w values k v)
   unfolding cost_with
   cost-most values k v =
-      most_add unary_limit (pair_limit * k) (Of (w.unary v)) (sum_to (λ j. w.pair j (slice_index values j) v) k) (unary-small v)
+      most_add unary_limit (pair_limit * k) (Some (w.unary v)) (sum_to (λ j. w.pair j (slice_index values j) v) k) (unary-small v)
       (most_sum_to pair_limit (λ j. w.pair j (slice_index values j) v) k (λ j. small j (slice_index values j) v))
 
 -- ---- costs that were not refused
@@ -36,7 +36,7 @@ passed false b e = absurd (omega arith)
 passed true false e = absurd (omega arith)
 passed true true e = (refl, refl)
 
-cond_most : (t : Bool) (M : ℕ) (c : Cost) → AtMost M c → AtMost M (cond t c (Of 0))
+cond_most : (t : Bool) (M : ℕ) (c : Cost) → AtMost M c → AtMost M (cond t c (Some 0))
 cond_most true M c l = l
 cond_most false M c l = omega arith
 

@@ -1,9 +1,9 @@
 -- The parts that the sums, least values and counts over lent costs are worked out in. No public contract cites them.
 -- Assumes nothing.
-use Rattle.std.specs.Prelude.{ℕ, pred, ◌+◌, ◌-◌, ◌*◌, cond, not, ◌&&◌, List, ◌==◌, nat_lt}
+use Rattle.std.specs.Prelude.{ℕ, pred, ◌+◌, ◌-◌, ◌*◌, cond, not, ◌&&◌, List, ◌==◌, nat_lt, Some}
 use Rattle.base.specs.Sums as Number
 use Rattle.base.specs.Shape.{is_value}
-use Rattle.costs.specs.Cost.{Cost, Of, ◌⊕◌, sum_from, least, pair_cost}
+use Rattle.costs.specs.Cost.{Cost, ◌⊕◌, sum_from, least, pair_cost}
 use Rattle.costs.specs.Instance.{View, dom_in, in_pair, cost_number}
 use Rattle.costs.specs.declared.Seat.{Seat}
 use Rattle.costs.specs.Bounds.{cost_with, h}
@@ -21,7 +21,7 @@ others_before seat j = Number.sum_to (λ b. cond (b == pred seat.own) 0 (dom_fro
 -- and the others before unit j have `before` values together; d unary costs stand in front
 abbrev pub pair_from : List ℕ → ℕ → ℕ → ℕ → ℕ → ℕ → ℕ → ℕ → Cost
 pair_from costs k j d e before u v =
-    cond (not (j == k) && is_value e u && is_value d v) (pair_cost (cost_number costs (d + d * before + cond (nat_lt j k) (in_pair d u v) (in_pair e v u)))) (Of 0)
+    cond (not (j == k) && is_value e u && is_value d v) (pair_cost (cost_number costs (d + d * before + cond (nat_lt j k) (in_pair d u v) (in_pair e v u)))) (Some 0)
 
 -- the least of the e costs from number `start` on
 abbrev pub least_run : List ℕ → ℕ → ℕ → Cost

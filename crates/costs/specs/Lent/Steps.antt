@@ -1,7 +1,7 @@
 -- How the sums, least values and counts over lent costs grow by one turn of a loop. Each by taking a definition's tests apart.
 -- In order: domain sizes; sums and least values in general; a pair's cost; the cost with a prefix; h; the estimate; the order tried.
 -- Assumes nothing.
-use Rattle.std.specs.Prelude.{◌≡◌, ℕ, zero, suc, pred, ◌+◌, ◌-◌, ◌*◌, ◌<◌, ◌≤◌, Bool, true, false, cond, List, [], length, take, ◌==◌, ◌≢◌, nat_lt, slice_index, refl}
+use Rattle.std.specs.Prelude.{◌≡◌, ℕ, zero, suc, pred, ◌+◌, ◌-◌, ◌*◌, ◌<◌, ◌≤◌, Bool, true, false, cond, List, [], length, take, ◌==◌, ◌≢◌, nat_lt, slice_index, refl, Some, None}
 use Rattle.std.proofs.Common.{sym, ap, ◌∙◌, add_assoc, add-sub_cancel, length-take, get_or-take, lt-ltb, le-ltb, ltb-true, ltb-false, eq-eqb, ne_eqb}
 use Rattle.std.proofs.Math.Bool.{and-true, and-false}
 use Rattle.std.proofs.Math.Numerals.{add-one}
@@ -12,7 +12,7 @@ use Rattle.base.specs.Sums as Number
 use Rattle.base.specs.Sums.Laws.{sum_to_cong, sum_to_sum_from}
 use Rattle.base.specs.Shape.{is_value}
 use Rattle.base.specs.Shape.Laws.{range_value}
-use Rattle.costs.specs.Cost.{Cost, Of, Forbidden, ◌⊕◌, sum_to, lesser, least, pair_cost}
+use Rattle.costs.specs.Cost.{Cost, ◌⊕◌, sum_to, lesser, least, pair_cost}
 use Rattle.costs.specs.Cost.Laws.{add_assoc as sum-assoc, add_zero, sum_from_cong, sum_forbidden}
 use Rattle.costs.specs.Instance.{View, dom_in, in_pair, cost_number, lent_unary, lent_cost, lent_view, view_from, knowing, view_knowing}
 use Rattle.costs.specs.declared.Seat.{Seat}
@@ -57,13 +57,13 @@ run_more costs start u = least_more (λ i. pair_cost (cost_number costs (start +
 -- ---- a pair's cost
 
 module _ (costs : List ℕ) (k j d e before u v : ℕ) where
-  pub pair_self : j ≡ k → pair_from costs k j d e before u v ≡ Of 0
+  pub pair_self : j ≡ k → pair_from costs k j d e before u v ≡ Some 0
   pair_self h = simp (eq-eqb j k h)
 
-  pub pair_no_other : (j ≢ k) → is_value e u ≡ false → pair_from costs k j d e before u v ≡ Of 0
+  pub pair_no_other : (j ≢ k) → is_value e u ≡ false → pair_from costs k j d e before u v ≡ Some 0
   pair_no_other h a = rw (ne_eqb j k h, a)
 
-  pub pair_no_own : (j ≢ k) → is_value e u ≡ true → is_value d v ≡ false → pair_from costs k j d e before u v ≡ Of 0
+  pub pair_no_own : (j ≢ k) → is_value e u ≡ true → is_value d v ≡ false → pair_from costs k j d e before u v ≡ Some 0
   pair_no_own h a b = rw (ne_eqb j k h, a, b)
 
   pub pair_lower : j < k → is_value e u ≡ true → is_value d v ≡ true → pair_from costs k j d e before u v ≡ pair_cost (cost_number costs (d + d * before + in_pair d u v))
@@ -92,16 +92,16 @@ unfolding lent_view
 unary_from seat costs v = refl
 
 -- a prefix of no units leaves the unary cost
-pub cost_none : (w : View) (values : List ℕ) (v : ℕ) → cost_with w values 0 v ≡ Of (w.unary v)
+pub cost_none : (w : View) (values : List ℕ) (v : ℕ) → cost_with w values 0 v ≡ Some (w.unary v)
 unfolding cost_with
-cost_none w values v = add_zero (Of (w.unary v))
+cost_none w values v = add_zero (Some (w.unary v))
 
 pub cost_more : (w : View) (values : List ℕ) (j v : ℕ) → cost_with w values (j + 1) v ≡ cost_with w values j v ⊕ w.pair j (slice_index values j) v
 unfolding cost_with
-cost_more w values j v = rw add-one (sym (sum-assoc (Of (w.unary v)) (sum_to (λ i. w.pair i (slice_index values i) v) j) (w.pair j (slice_index values j) v)))
+cost_more w values j v = rw add-one (sym (sum-assoc (Some (w.unary v)) (sum_to (λ i. w.pair i (slice_index values i) v) j) (w.pair j (slice_index values j) v)))
 
 -- forbidden as soon as one pair is
-pub cost_forbidden : (w : View) (values : List ℕ) (j k v : ℕ) → j < k → w.pair j (slice_index values j) v ≡ Forbidden → cost_with w values k v ≡ Forbidden
+pub cost_forbidden : (w : View) (values : List ℕ) (j k v : ℕ) → j < k → w.pair j (slice_index values j) v ≡ None → cost_with w values k v ≡ None
 unfolding cost_with
 cost_forbidden w values j k v l e = rw (sum_forbidden (λ i. w.pair i (slice_index values i) v) j k l e)
 
@@ -168,7 +168,7 @@ module _ (seat : Seat) where
         (λ u lo hi. simp (c, and-false))))
 
     -- the runs, unit by unit
-    pub runs_done : (j : ℕ) → seat.n ≤ j → runs_from seat costs v j ≡ Of 0
+    pub runs_done : (j : ℕ) → seat.n ≤ j → runs_from seat costs v j ≡ Some 0
     unfolding runs_from
     runs_done j l = let e : seat.n - j ≡ 0 = omega arith in rw e
 
@@ -183,7 +183,7 @@ pub estimate-least : (seat : Seat) (costs ahead values : List ℕ) (m : ℕ) →
 unfolding estimate knowing lent_view least_cost
 estimate-least seat costs ahead values m = refl
 
-pub least_cost_none : (w : View) (values : List ℕ) (m : ℕ) → least_cost w values m 0 ≡ Forbidden
+pub least_cost_none : (w : View) (values : List ℕ) (m : ℕ) → least_cost w values m 0 ≡ None
 unfolding least_cost
 least_cost_none w values m = refl
 

@@ -2,7 +2,7 @@
 -- By rising h: `earlier` is a strict order in which any two values differ, so a value that is earlier has fewer before it, and two values of one place
 -- are one; that every place has its value is the pigeonhole principle (Counted).
 -- In order: `earlier`; places and values; the value after one; what each order is; the comparison on numbers. Assumes nothing.
-use Rattle.std.specs.Prelude.{◌≡◌, ℕ, zero, suc, ◌<◌, ◌≤◌, Bool, true, false, cond, ◌≢◌, ◌⊎◌, ◌==◌, nat_eq, nat_lt}
+use Rattle.std.specs.Prelude.{◌≡◌, ℕ, zero, suc, ◌<◌, ◌≤◌, Bool, true, false, cond, ◌≢◌, ◌⊎◌, ◌==◌, nat_eq, nat_lt, Some, None}
 use Rattle.std.proofs.Math.Path.{refl, ap, subst}
 use Rattle.std.proofs.Common.{sym, ◌∙◌, inl, inr}
 use Rattle.std.proofs.lemmas.Bool.{false≢true}
@@ -11,7 +11,7 @@ use borrow.Author.Tests.{ltb-true, ltb-false, lt-ltb, le-ltb, eqb-true, eqb-fals
 use Rattle.base.specs.Limits.{NONE}
 use Rattle.costs.specs.declared.ValueOrder.{ValueOrder}
 use Rattle.costs.specs.declared.ValueOrder.TheVariants.{Ascending, CheapestFirst}
-use Rattle.costs.specs.Cost.{Cost, Of, Forbidden, as_number}
+use Rattle.costs.specs.Cost.{Cost, as_number}
 use Rattle.costs.specs.Cost.Laws.{AtMost}
 use Rattle.costs.specs.Instance.{View}
 use Rattle.costs.specs.Bounds.{h}
@@ -41,17 +41,17 @@ numbers_then a u b v c x (inr p) (inl q) = inl (omega (arith, p.0))
 numbers_then a u b v c x (inr p) (inr q) = inr (p.0 ∙ q.0, omega (arith, p.1, q.1))
 
 cheaper_not_itself : (c : Cost) (v : ℕ) → cheaper c v c v ≡ false
-cheaper_not_itself (Of n) v = rw (eq-eqb n n refl, le-ltb v v (omega arith))
-cheaper_not_itself Forbidden v = le-ltb v v (omega arith)
+cheaper_not_itself (Some n) v = rw (eq-eqb n n refl, le-ltb v v (omega arith))
+cheaper_not_itself None v = le-ltb v v (omega arith)
 
 cheaper_then : (a : Cost) (u : ℕ) (b : Cost) (v : ℕ) (c : Cost) (x : ℕ) → cheaper a u b v ≡ true → cheaper b v c x ≡ true → cheaper a u c x ≡ true
-cheaper_then (Of a) u (Of b) v (Of c) x p q = numbers-put a u c x (numbers_then a u b v c x (numbers_read a u b v p) (numbers_read b v c x q))
-cheaper_then (Of a) u (Of b) v Forbidden x p q = refl
-cheaper_then (Of a) u Forbidden v (Of c) x p q = absurd (false≢true q)
-cheaper_then (Of a) u Forbidden v Forbidden x p q = refl
-cheaper_then Forbidden u (Of b) v c x p q = absurd (false≢true p)
-cheaper_then Forbidden u Forbidden v (Of c) x p q = q
-cheaper_then Forbidden u Forbidden v Forbidden x p q = lt-ltb u x (omega (arith, ltb-true u v p, ltb-true v x q))
+cheaper_then (Some a) u (Some b) v (Some c) x p q = numbers-put a u c x (numbers_then a u b v c x (numbers_read a u b v p) (numbers_read b v c x q))
+cheaper_then (Some a) u (Some b) v None x p q = refl
+cheaper_then (Some a) u None v (Some c) x p q = absurd (false≢true q)
+cheaper_then (Some a) u None v None x p q = refl
+cheaper_then None u (Some b) v c x p q = absurd (false≢true p)
+cheaper_then None u None v (Some c) x p q = q
+cheaper_then None u None v None x p q = lt-ltb u x (omega (arith, ltb-true u v p, ltb-true v x q))
 
 numbers_either : (u v : ℕ) → u ≢ v → (nat_lt u v ≡ true) ⊎ (nat_lt v u ≡ true)
 numbers_either u v ne = go (nat_lt u v) refl
@@ -61,22 +61,22 @@ numbers_either u v ne = go (nat_lt u v) refl
     go false e = inr (lt-ltb v u (omega (arith, ltb-false u v e)))
 
 cheaper_either : (c : Cost) (u : ℕ) (d : Cost) (v : ℕ) → u ≢ v → (cheaper c u d v ≡ true) ⊎ (cheaper d v c u ≡ true)
-cheaper_either (Of c) u (Of d) v ne = go (c == d) refl
+cheaper_either (Some c) u (Some d) v ne = go (c == d) refl
   where
-    first : c ≡ d → (nat_lt u v ≡ true) ⊎ (nat_lt v u ≡ true) → (cheaper (Of c) u (Of d) v ≡ true) ⊎ (cheaper (Of d) v (Of c) u ≡ true)
+    first : c ≡ d → (nat_lt u v ≡ true) ⊎ (nat_lt v u ≡ true) → (cheaper (Some c) u (Some d) v ≡ true) ⊎ (cheaper (Some d) v (Some c) u ≡ true)
     first e (inl l) = inl (numbers-put c u d v (inr (e, ltb-true u v l)))
     first e (inr l) = inr (numbers-put d v c u (inr (sym e, ltb-true v u l)))
 
-    apart : (nat_lt c d ≡ true) ⊎ (nat_lt d c ≡ true) → (cheaper (Of c) u (Of d) v ≡ true) ⊎ (cheaper (Of d) v (Of c) u ≡ true)
+    apart : (nat_lt c d ≡ true) ⊎ (nat_lt d c ≡ true) → (cheaper (Some c) u (Some d) v ≡ true) ⊎ (cheaper (Some d) v (Some c) u ≡ true)
     apart (inl l) = inl (numbers-put c u d v (inl (ltb-true c d l)))
     apart (inr l) = inr (numbers-put d v c u (inl (ltb-true d c l)))
 
-    go : (t : Bool) → (c == d) ≡ t → (cheaper (Of c) u (Of d) v ≡ true) ⊎ (cheaper (Of d) v (Of c) u ≡ true)
+    go : (t : Bool) → (c == d) ≡ t → (cheaper (Some c) u (Some d) v ≡ true) ⊎ (cheaper (Some d) v (Some c) u ≡ true)
     go true e = first (eqb-true c d e) (numbers_either u v ne)
     go false e = apart (numbers_either c d (eqb-false c d e))
-cheaper_either (Of c) u Forbidden v ne = inl refl
-cheaper_either Forbidden u (Of d) v ne = inr refl
-cheaper_either Forbidden u Forbidden v ne = numbers_either u v ne
+cheaper_either (Some c) u None v ne = inl refl
+cheaper_either None u (Some d) v ne = inr refl
+cheaper_either None u None v ne = numbers_either u v ne
 
 module _ (w : View) where
   earlier_not_itself : (v : ℕ) → earlier w v v ≡ false
@@ -244,18 +244,18 @@ module _ (w : View) (cheapest : w.order ≡ CheapestFirst) (u v : ℕ) (u1 : 1 �
   unfolding earlier
   by_cheaper e = earlier-lower e
 
-  pub rising : (c d : ℕ) → h w u ≡ Of c → h w v ≡ Of d → c < d → place_tried w u < place_tried w v
-  rising c d p q l = by_cheaper (ap (λ (x : Cost). cheaper x u (h w v) v) p ∙ ap (λ (y : Cost). cheaper (Of c) u y v) q ∙ numbers-put c u d v (inl l))
+  pub rising : (c d : ℕ) → h w u ≡ Some c → h w v ≡ Some d → c < d → place_tried w u < place_tried w v
+  rising c d p q l = by_cheaper (ap (λ (x : Cost). cheaper x u (h w v) v) p ∙ ap (λ (y : Cost). cheaper (Some c) u y v) q ∙ numbers-put c u d v (inl l))
 
   pub lower_on_a_tie : h w u ≡ h w v → u < v → place_tried w u < place_tried w v
   lower_on_a_tie e l = by_cheaper (ap (λ (x : Cost). cheaper x u (h w v) v) e ∙ tie (h w v))
     where
       tie : (c : Cost) → cheaper c u c v ≡ true
-      tie (Of n) = numbers-put n u n v (inr (refl, l))
-      tie Forbidden = lt-ltb u v l
+      tie (Some n) = numbers-put n u n v (inr (refl, l))
+      tie None = lt-ltb u v l
 
-  pub without-h-last : (c : ℕ) → h w u ≡ Of c → h w v ≡ Forbidden → place_tried w u < place_tried w v
-  without-h-last c p q = by_cheaper (ap (λ (x : Cost). cheaper x u (h w v) v) p ∙ ap (λ (y : Cost). cheaper (Of c) u y v) q)
+  pub without-h-last : (c : ℕ) → h w u ≡ Some c → h w v ≡ None → place_tried w u < place_tried w v
+  without-h-last c p q = by_cheaper (ap (λ (x : Cost). cheaper x u (h w v) v) p ∙ ap (λ (y : Cost). cheaper (Some c) u y v) q)
 
 -- so of two values the earlier is the one with the lower place
 pub earlier_is : (w : View) → w.order ≡ CheapestFirst → (u v : ℕ) → 1 ≤ u → u ≤ w.dom w.place → 1 ≤ v → v ≤ w.dom w.place → earlier w u v ≡ nat_lt (place_tried w u) (place_tried w v)
@@ -280,10 +280,10 @@ earlier_is w cheapest u v u1 u-hi v1 v-hi = go (earlier w u v) refl
 -- ---- the comparison on numbers, where every h that is a number is below NONE
 
 pub cheaper-numbers : (c : Cost) (u : ℕ) (d : Cost) (v M : ℕ) → M < NONE → AtMost M c → AtMost M d → cheaper c u d v ≡ cond (as_number c == as_number d) (nat_lt u v) (nat_lt (as_number c) (as_number d))
-cheaper-numbers (Of c) u (Of d) v M few p q = refl
-cheaper-numbers (Of c) u Forbidden v M few p q = sym (numbers-put c u NONE v (inl (omega (arith, few, p))))
-cheaper-numbers Forbidden u (Of d) v M few p q =
+cheaper-numbers (Some c) u (Some d) v M few p q = refl
+cheaper-numbers (Some c) u None v M few p q = sym (numbers-put c u NONE v (inl (omega (arith, few, p))))
+cheaper-numbers None u (Some d) v M few p q =
     let ne : NONE ≢ d = λ e. absurd (omega (arith, few, q)) in
     let le : d ≤ NONE = omega (arith, few, q) in
     rw (ne_eqb NONE d ne, le-ltb NONE d le)
-cheaper-numbers Forbidden u Forbidden v M few p q = refl
+cheaper-numbers None u None v M few p q = refl

@@ -2,7 +2,7 @@
 -- limit goes list by list.
 -- In order: a cost as a number; lengths; the place of a cost; tests of joined lists; `stream-accepted`; `stream-dom`, `stream-cost`.
 -- Assumes nothing.
-use Rattle.std.specs.Prelude.{◌≡◌, ℕ, zero, suc, ◌+◌, ◌-◌, ◌*◌, ◌<◌, ◌≤◌, Bool, true, false, List, [], ◌∷◌, ◌++◌, length, take, drop, nat_lt, slice_index, slice_index_or}
+use Rattle.std.specs.Prelude.{◌≡◌, ℕ, zero, suc, ◌+◌, ◌-◌, ◌*◌, ◌<◌, ◌≤◌, Bool, true, false, List, [], ◌∷◌, ◌++◌, length, take, drop, nat_lt, slice_index, slice_index_or, Some, None}
 use Rattle.std.proofs.Math.Path.{refl, sym, ap, fun_ext}
 use Rattle.std.proofs.Common.{◌∙◌, mul_comm, mul_assoc, suc-mul, zero-add, add-zero, le_refl, mul-le-mul, get_or-drop, get_or-append-add}
 use native.Mathlib.Omega.{arith}
@@ -20,7 +20,7 @@ use Rattle.base.specs.Sums.{sum_from, sum_to}
 use Rattle.base.specs.Sums.Laws.{sum_to_same, sum_to_scaled, sum_to_shifted}
 use Rattle.table.specs.Stream.{in_form_two, opening, units_of, after_units, sizes_of, unaries_in, pairs_in, unaries_at, pairs_at, pair_good, unary_good, costs_good, Accepted}
 use Rattle.table.specs.StreamLaws.{opening_one, unaries_one, costs_same, costs_split, pair_small, pair_forbidden as forbidden-good, accepted_by_tests}
-use Rattle.costs.specs.Cost.{Cost, Of, Forbidden, pair_cost}
+use Rattle.costs.specs.Cost.{Cost, pair_cost}
 use Rattle.costs.specs.Cost.Laws.{AtMost, pair_forbidden, pair_number_lem}
 use Rattle.costs.specs.Instance.{Instance, pair_start, cost_number, table_cost, instance_of, dom_of}
 use Rattle.costs.specs.Streamed.{pair_number, row_costs, pair_costs, later_costs, sizes_for, stream_for}
@@ -30,18 +30,18 @@ use Rattle.costs.specs.Laws.Stream.{row_start, pair_end, costs_count}
 -- ---- a cost as a number of a table
 
 number_small : (c : Cost) → AtMost pair_limit c → pair_number c < 65536
-number_small (Of x) h = omega arith
-number_small Forbidden h = omega arith
+number_small (Some x) h = omega arith
+number_small None h = omega arith
 
 -- it passes check 7
 number_good : (c : Cost) → AtMost pair_limit c → pair_good (pair_number c) ≡ true
-number_good (Of x) h = pair_small x h
-number_good Forbidden h = forbidden-good
+number_good (Some x) h = pair_small x h
+number_good None h = forbidden-good
 
 -- and stands for that cost
 number_cost : (c : Cost) → AtMost pair_limit c → pair_cost (pair_number c) ≡ c
-number_cost (Of x) h = pair_number_lem x (omega arith)
-number_cost Forbidden h = pair_forbidden
+number_cost (Some x) h = pair_number_lem x (omega arith)
+number_cost None h = pair_forbidden
 
 -- ---- lengths
 

@@ -11,7 +11,7 @@ use Rattle.decide.proofs.by_kind.Goals as goal
 pub returns-then-u : goal.returns-then-u
 returns-then-u c =
     let a = c.args in
-    c.refuse.ensures ∙ ap (λ (x : Decision). decided_of a.u x) (respond-stopped (view_knowing a.seat a.costs.now a.ahead.now) a.kind a.u a.m c.if-u.true)
+    c.refused.ensures ∙ ap (λ (x : Decision). decided_of a.u x) (respond-stopped (view_knowing a.seat a.costs.now a.ahead.now) a.kind a.u a.m c.if-u.true)
 
 pub returns-in-Cpa : goal.returns-in-Cpa
 returns-in-Cpa c =

@@ -1,6 +1,6 @@
 -- `start` meets its contract: 5 where the unit can't step; unit 1 assigns, another is quiet.
 -- Assumes nothing.
-use mathlib.Core.Path.{◌≡◌, refl, sym, ap, ◌∙◌}
+use mathlib.Core.Path.{◌≡◌, sym, ap, ◌∙◌}
 use mathlib.Core.Bool.{true, false}
 use Rattle.costs.specs.Instance.{view_knowing}
 use Rattle.rules.specs.declared.Unit.{Unit}
@@ -15,13 +15,13 @@ use Rattle.decide.proofs.start.Goals as goal
 use Rattle.decide.proofs.start.Goals.{Else-not-can_step, After-hold}
 
 steps : (c : Else-not-can_step) → let a = c.args in can_step a.seat.own a.seat.n a.seat.sizes fresh ≡ true
-steps c = rw c.fresh-u.ensures at (sym (c.can_step.ensures c.fresh-u.result refl refl refl) ∙ c.if-not-can_step.false)
+steps c = rw c.fresh-u.ensures at (sym c.can_step.ensures ∙ c.if-not-can_step.false)
 
 pub returns-then-not-can_step : goal.returns-then-not-can_step
 returns-then-not-can_step c =
     let a = c.args in
-    let e : can_step a.seat.own a.seat.n a.seat.sizes fresh ≡ false = rw c.fresh-u.ensures at (sym (c.can_step.ensures c.fresh-u.result refl refl refl) ∙ c.if-not-can_step.true) in
-    c.refuse.ensures ∙ rw (c.fresh-u.ensures, start_5 a.seat a.costs.now a.ahead.now e)
+    let e : can_step a.seat.own a.seat.n a.seat.sizes fresh ≡ false = rw c.fresh-u.ensures at (sym c.can_step.ensures ∙ c.if-not-can_step.true) in
+    c.refused.ensures ∙ rw (c.fresh-u.ensures, start_5 a.seat a.costs.now a.ahead.now e)
 
 -- what is held of a new unit
 held : (c : After-hold) → holding c.hold.result zeros ≡ fresh
@@ -42,9 +42,9 @@ returns-then-seat-eq1 c =
     c.assign.ensures fresh zeros ∙ ap (λ (u : Unit). decided_of fresh (assign w u)) (held past.After-hold)
     ∙ rw (start_on a.seat a.costs.now a.ahead.now (steps past.Else-not-can_step)) (start_first a.seat.own fresh w c.if-seat-eq1.true)
 
-pub returns : goal.returns
-returns c =
-    let past = goal.at.returns c in
+pub returns-else-seat-eq1 : goal.returns-else-seat-eq1
+returns-else-seat-eq1 c =
+    let past = goal.at.returns-else-seat-eq1 c in
     let a = c.args in
     let s = known_shaped a.seat fresh (steps past.Else-not-can_step) in
     c.quiet.ensures fresh ∙ rw (c.fresh-u.ensures, start_on a.seat a.costs.now a.ahead.now (steps past.Else-not-can_step)) (start_later a.seat.own fresh (view_knowing a.seat a.costs.now a.ahead.now) s.number.first c.if-seat-eq1.false)

@@ -1,42 +1,14 @@
--- What the code that projects everything goes by: one move more, where none was refused; and the folds, one step at a time. Assumes nothing.
+-- What the code that projects everything goes by: the folds, one step at a time. Assumes nothing.
 use Rattle.std.specs.Prelude.{ℕ, suc, ◌+◌, ◌≡◌, true, List}
 use Rattle.std.proofs.Math.Path.{refl}
 use Rattle.std.proofs.Common.{ap, ◌∙◌}
-use borrow.Author.Tests.{eq-eqb, ne_eqb}
 use Rattle.costs.specs.Instance.{dom_in}
 use Rattle.projections.specs.declared.Moved.{Moved}
-use Rattle.projections.specs.Moves.{Outcome, in_order, refusal_by, held_by, answer_of, project_of, unary_project_of}
+use Rattle.projections.specs.Moves.{Outcome, in_order, refusal_by, held_by, answer_of}
 use Rattle.projections.specs.Steps.{outcome_in, outcome_is, answer_is, in_order-next}
 use Rattle.projections.specs.All.{project_with, project_value, project_unit, project_units, project_own, project_floor, before_all, project_all_of}
 
 module _ (n : ℕ) (sizes : List ℕ) where
-  -- ---- one move more
-
-  module _ (unit value other : ℕ) (x : Outcome) where
-    pub with_self : unit ≡ other → x ≡ project_with n sizes unit value other x
-    unfolding project_with
-    with_self e = rw (eq-eqb unit other e)
-
-    module _ (ne : unit ≡ other → ⊥) where
-      pub with_refused : (x.refusal ≡ 0 → ⊥) → x ≡ project_with n sizes unit value other x
-      unfolding project_with
-      with_refused r = rw (ne_eqb unit other ne, ne_eqb x.refusal 0 r)
-
-      pub with_moved : x.refusal ≡ 0 → project_of n sizes unit value other x.held ≡ project_with n sizes unit value other x
-      unfolding project_with
-      with_moved r = rw (ne_eqb unit other ne, eq-eqb x.refusal 0 r)
-
-  module _ (unit : ℕ) (x : Outcome) where
-    pub own-refused : (x.refusal ≡ 0 → ⊥) → x ≡ project_own n sizes unit x
-    unfolding project_own
-    own-refused r = rw (ne_eqb x.refusal 0 r)
-
-    pub own-moved : x.refusal ≡ 0 → unary_project_of n sizes unit x.held ≡ project_own n sizes unit x
-    unfolding project_own
-    own-moved r = rw (eq-eqb x.refusal 0 r)
-
-  -- ---- the folds
-
   abbrev pub with_each : ℕ → ℕ → ℕ → Outcome → Outcome
   with_each unit value k y = project_with n sizes unit value (suc k) y
 

@@ -2,7 +2,7 @@
 -- projection adds at most 60,000 to one own cost, and there are at most 4,096; each of at most 16 unary ones adds at most such an own cost to the floor.
 -- In order: places after a change; small costs; the calls; all moves, counted; a table. Assumes nothing.
 use Prim.Native.Nat.{ℕ, zero, suc, pred, ◌+◌, ◌*◌, ◌-◌, ◌≤◌, ◌<◌}
-use Rattle.std.specs.Prelude.{◌≡◌, Bool, cond, ltb, length}
+use Rattle.std.specs.Prelude.{◌≡◌, Bool, cond, ltb, length, Some, None}
 use Rattle.std.proofs.Math.Path.{refl, subst}
 use Rattle.std.proofs.Common.{sym, ap, ◌∙◌, le_refl, get_or-set_same, get_or-set_other}
 use Rattle.std.proofs.Math.Bool.{true, false}
@@ -19,9 +19,7 @@ use Rattle.base.specs.Shape.Laws.{range_value, shape_n}
 use Rattle.base.specs.Sums.{sum_to}
 use Rattle.table.specs.Stream.{in_form_two, units_of, stream_refusal, Accepted}
 use Rattle.table.specs.StreamLaws.{unaries_two, accepted_unary, accepted-cost}
-use Rattle.costs.specs.declared.Cost.{Cost}
-use Rattle.costs.specs.declared.Cost.TheVariants.{Of, Forbidden}
-use Rattle.costs.specs.Cost.{as_number, pair_cost}
+use Rattle.costs.specs.Cost.{Cost, as_number, pair_cost}
 use Rattle.costs.specs.Cost.Laws.{AtMost, good_cost}
 use Rattle.costs.proofs.LeastOf.{most-least}
 use Rattle.costs.specs.Instance.{cost_number, dom_in, dom_of}
@@ -85,7 +83,7 @@ lowered_may own M a p x m = go (ltb x barred) refl
 held-most : (L x : ℕ) → (x < barred → x ≤ L) → AtMost L (held_cost x)
 held-most L x h = go (ltb x barred) refl
   where
-    go : (t : Bool) → ltb x barred ≡ t → AtMost L (cond t (Of x) Forbidden)
+    go : (t : Bool) → ltb x barred ≡ t → AtMost L (cond t (Some x) None)
     go true e = h (ltb-true x barred e)
     go false e = tt
 
@@ -94,8 +92,8 @@ taken_small : (L : ℕ) (place : ℕ → ℕ) (d : ℕ) (l : List ℕ) → ((v :
 taken_small L place d l h = go (least_at place d l) (most-least L (λ v. held_cost (get_or l (place v) 0)) d (λ v. held-most L (get_or l (place v) 0) (h v)))
   where
     go : (c : Cost) → AtMost L c → taken c ≤ L
-    go (Of a) m = m
-    go Forbidden m = omega arith
+    go (Some a) m = m
+    go None m = omega arith
 
 module _ {dom : ℕ → ℕ} {n M F : ℕ} {h : Held} (s : Small dom n M F h) where
   small_more : (N G : ℕ) → M ≤ N → F ≤ G → Small dom n N G h
@@ -266,8 +264,8 @@ module _ (s : List ℕ) (ok : Accepted s) where
       go (pair_cost (cost_number (costs_of s) k)) (good_cost (cost_number (costs_of s) k) (rw (cost_number_at s k) (accepted-cost s ok k (omega (arith, costs_in_stream s (accepted-there s ok))))))
     where
       go : (c : Cost) → AtMost pair_limit c → as_number c < barred → as_number c ≤ pair_limit
-      go (Of a) m q = m
-      go Forbidden m q = absurd (omega arith)
+      go (Some a) m q = m
+      go None m q = absurd (omega arith)
 
   held_small : Small (dom_of s) (units_of s) pair_limit 0 (held_by 0 (held_of s))
   held_small =

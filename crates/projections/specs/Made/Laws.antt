@@ -2,7 +2,7 @@
 -- leaves is a lower bound of the least total. Assumes nothing.
 use Prim.Native.Nat.{ℕ, ◌+◌, ◌≤◌, ◌<◌}
 use Rattle.std.proofs.Common.{inl, inr, sym, ◌∙◌, arith}
-use Rattle.std.specs.Prelude.{◌≡◌, Bool, List, [], ◌∷◌, ◌++◌, length}
+use Rattle.std.specs.Prelude.{◌≡◌, Bool, List, [], ◌∷◌, ◌++◌, length, Some, None}
 use Rattle.std.proofs.Math.Path.{refl, ap, subst}
 use Rattle.std.proofs.Math.Bool.{true, false, cond}
 use Rattle.std.proofs.Math.ListN.{get_or, length-append, get_or-append}
@@ -16,9 +16,7 @@ use Rattle.base.specs.Sums.Laws.{sum_to_same}
 use Rattle.table.specs.Stream.{in_form_two, units_of, sizes_of, pairs_in, Accepted}
 use Rattle.table.specs.StreamLaws.{accepted_units, accepted-cost}
 use Rattle.costs.specs.declared.ValueOrder.{ValueOrder}
-use Rattle.costs.specs.declared.Cost.{Cost}
-use Rattle.costs.specs.declared.Cost.TheVariants.{Of, Forbidden}
-use Rattle.costs.specs.Cost.{◌⊕◌, sum_to as sumCosts, as_number, pair_cost}
+use Rattle.costs.specs.Cost.{Cost, ◌⊕◌, sum_to as sumCosts, as_number, pair_cost}
 use Rattle.costs.specs.Cost.Laws.{AtMost, sum_to_cong, good_cost, zero_add, number_not_forbidden}
 use Rattle.costs.specs.Instance.{Instance, instance_of, cost_number, dom_of, dom_in, pair_start, in_pair, table_unary}
 use Rattle.costs.specs.Bounds.{Valued, total, Reported}
@@ -79,8 +77,8 @@ held_pair : (x : ℕ) → AtMost pair_limit (pair_cost x) → held_cost (as_numb
 held_pair x h = go (pair_cost x) h
   where
     go : (c : Cost) → AtMost pair_limit c → held_cost (as_number c) ≡ c
-    go (Of a) m = rw (lt-ltb a barred (omega arith))
-    go Forbidden m = refl
+    go (Some a) m = rw (lt-ltb a barred (omega arith))
+    go None m = refl
 
 module _ (s : List ℕ) (ok : Accepted s) where
   unary_held : (k v : ℕ) → k < units_of s → InDom (dom_of s k) v → get_or (held_of s) (own_at (dom_of s) k v) 0 ≡ (instance_of s).unary k v
@@ -109,7 +107,7 @@ totals_same : (I J : Instance) (l : List ℕ) → I.n ≡ J.n → ((k : ℕ) →
 unfolding total
 totals_same I J l e own pair =
     rw (← e)
-    (sum_to_cong (λ k. Of (I.unary k (get_or l k 0)) ⊕ sumCosts (λ i. I.cost i (get_or l i 0) k (get_or l k 0)) k) (λ k. Of (J.unary k (get_or l k 0)) ⊕ sumCosts (λ i. J.cost i (get_or l i 0) k (get_or l k 0)) k) I.n
+    (sum_to_cong (λ k. Some (I.unary k (get_or l k 0)) ⊕ sumCosts (λ i. I.cost i (get_or l i 0) k (get_or l k 0)) k) (λ k. Some (J.unary k (get_or l k 0)) ⊕ sumCosts (λ i. J.cost i (get_or l i 0) k (get_or l k 0)) k) I.n
     (λ k h. rw (own k h, sum_to_cong (λ i. I.cost i (get_or l i 0) k (get_or l k 0)) (λ i. J.cost i (get_or l i 0) k (get_or l k 0)) k (λ i a. pair i k a h))))
 
 module _ (s : List ℕ) (ok : Accepted s) where
@@ -130,16 +128,16 @@ module _ (s : List ℕ) (ok : Accepted s) where
 abbrev pub floor_of : List ℕ → ℕ
 floor_of s = (projected_of s).held.floor
 
-part_le : (F t : ℕ) (c : Cost) → Of F ⊕ c ≡ Of t → F ≤ t
-part_le F t (Of x) e = omega (arith, ap as_number e)
-part_le F t Forbidden e = absurd (number_not_forbidden t (sym e))
+part_le : (F t : ℕ) (c : Cost) → Some F ⊕ c ≡ Some t → F ≤ t
+part_le F t (Some x) e = omega (arith, ap as_number e)
+part_le F t None e = absurd (number_not_forbidden t (sym e))
 
 module _ (s : List ℕ) (ok : Accepted s) where
   kept : Kept (units_of s) (sizes_in s) (held_by 0 (held_of s)) (projected_of s).held
   kept = project_all_keeps (units_of s) (sizes_in s) (held_by 0 (held_of s))
 
   -- it is at most the total of any assignment
-  floor_below : (l : List ℕ) (t : ℕ) → Valued (instance_of s) l → total (instance_of s) l ≡ Of t → floor_of s ≤ t
+  floor_below : (l : List ℕ) (t : ℕ) → Valued (instance_of s) l → total (instance_of s) l ≡ Some t → floor_of s ≤ t
   unfolding instance_of
   floor_below l t valued e =
       let v : Valued (instance_in (units_of s) (sizes_in s) (held_of s)) l = λ k h.

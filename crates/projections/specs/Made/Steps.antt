@@ -1,10 +1,10 @@
 -- What the code that holds a table's costs goes by: numbers written one by one, where it reads them, and what it gives and leaves. Assumes nothing.
-use Rattle.std.specs.Prelude.{ℕ, ◌+◌, ◌*◌, ◌-◌, ◌≤◌, ◌<◌, Bool, cond, set, take}
+use Rattle.std.specs.Prelude.{ℕ, ◌+◌, ◌*◌, ◌≤◌, ◌<◌, Bool, cond, set, take}
 use Rattle.std.proofs.Math.Path.{◌≡◌, refl, sym, ap}
 use Rattle.std.proofs.Common.{◌∙◌, zero-add, arith, take_at}
 use Rattle.std.proofs.Math.Bool.{true, false}
 use mathlib.Core.List.{List, [], ◌∷◌, ◌++◌}
-use Rattle.std.proofs.Math.Nat.{add-zero, sub-zero}
+use Rattle.std.proofs.Math.Nat.{add-zero}
 use Rattle.std.proofs.Math.Dec.{eqb, ltb}
 use Rattle.std.proofs.Math.ListN.{length, drop}
 use Rattle.std.proofs.Math.Seq.{paste-zero, drop-append-add}
@@ -54,10 +54,6 @@ pub pair_read : (s : List ℕ) (from k : ℕ) → from ≡ pairs_at s → as_num
 pair_read s from k q = rw q (ap (λ (x : ℕ). as_number (pair_cost x)) (sym (cost_number_at s k)))
 
 -- ---- how many there are, as the code counts them
-
-pub accepted_by : (s : List ℕ) (r : ℕ) → r ≡ stream_refusal s → r ≡ 0 → Accepted s
-unfolding Accepted
-accepted_by s r e z = sym e ∙ z
 
 module _ (s : List ℕ) (ok : Accepted s) {n : ℕ} {sizes : List ℕ} (units : n ≡ units_of s) (array : sizes ≡ sizes_in s) where
   pub units_most : n ≤ 16
@@ -123,29 +119,29 @@ module _ (s out : List ℕ) where
   unfolding hold_of
   hold_number = refl
 
-  pub bound_refused : (r : Length) (l : List ℕ) → r ≡ hold_of s (length out) → l ≡ hold_into s out → (r.refusal ≡ 0 → ⊥)
-      → (◌≡◌ {A = Moved} (record { refusal = r.refusal; floor = 0 }) (bound_of s (length out))) × (l ≡ bound_into s out)
+  pub bound_refused : (r : ℕ) (l : List ℕ) → ◌≡◌ {A = Length} (record { refusal = r; length = 0 }) (hold_of s (length out)) → l ≡ hold_into s out → (r ≡ 0 → ⊥)
+      → (◌≡◌ {A = Moved} (record { refusal = r; floor = 0 }) (bound_of s (length out))) × (l ≡ bound_into s out)
   unfolding hold_into bound_of bound_into
   bound_refused r l e q ne =
-      let z : held_refusal s (length out) ≡ r.refusal = sym (ap (λ (x : Length). x.refusal) e ∙ hold_number) in
-      let f : eqb r.refusal 0 ≡ false = ne_eqb r.refusal 0 ne in
+      let z : held_refusal s (length out) ≡ r = sym (ap (λ (x : Length). x.refusal) e ∙ hold_number) in
+      let f : eqb r 0 ≡ false = ne_eqb r 0 ne in
       (rw (z, f), q ∙ rw (z, f))
 
-  module _ (r : Length) (e : r ≡ hold_of s (length out)) (ok : r.refusal ≡ 0) where
+  module _ (count : ℕ) (e : ◌≡◌ {A = Length} (record { refusal = 0; length = count }) (hold_of s (length out))) where
     none : held_refusal s (length out) ≡ 0
-    none = sym hold_number ∙ sym (ap (λ (x : Length). x.refusal) e) ∙ ok
+    none = sym hold_number ∙ sym (ap (λ (x : Length). x.refusal) e)
 
-    pub held_length : r.length ≡ length (held_of s)
+    pub held_length : count ≡ length (held_of s)
     unfolding hold_of
     held_length = ap (λ (x : Length). x.length) e ∙ rw none
 
-    pub held_room : r.length ≤ length out
+    pub held_room : count ≤ length out
     unfolding held_refusal
     held_room =
         let short : ◌≡◌ {A = ℕ} (cond (ltb (length out) (length (held_of s))) 13 0) 0 = or_right (stream_refusal s) (cond (ltb (length out) (length (held_of s))) 13 0) none in
         go (ltb (length out) (length (held_of s))) refl short
       where
-        go : (t : Bool) → ltb (length out) (length (held_of s)) ≡ t → ◌≡◌ {A = ℕ} (cond t 13 0) 0 → r.length ≤ length out
+        go : (t : Bool) → ltb (length out) (length (held_of s)) ≡ t → ◌≡◌ {A = ℕ} (cond t 13 0) 0 → count ≤ length out
         go true q z = absurd (omega arith)
         go false q z = omega (arith, held_length, ltb-false (length out) (length (held_of s)) q)
 
@@ -155,10 +151,10 @@ module _ (s out : List ℕ) where
       held_front = q ∙ rw none
 
       -- the costs are the part that is lent on
-      pub held-part : take (r.length - 0) (drop 0 l) ≡ held_of s
-      held-part = rw (sub-zero r.length, held_front) (take_at (held_of s) (drop (length (held_of s)) out) r.length (sym held_length))
+      pub held-part : take count (drop 0 l) ≡ held_of s
+      held-part = rw held_front (take_at (held_of s) (drop (length (held_of s)) out) count (sym held_length))
 
-      pub bound_left : (m : Moved) (new : List ℕ) (k : ℕ) → m ≡ answer_of (projected_of s) → new ≡ (projected_of s).held.costs → k ≡ length new → k ≡ r.length
+      pub bound_left : (m : Moved) (new : List ℕ) (k : ℕ) → m ≡ answer_of (projected_of s) → new ≡ (projected_of s).held.costs → k ≡ length new → k ≡ count
           → (m ≡ bound_of s (length out)) × (take 0 l ++ (new ++ drop k (drop 0 l)) ≡ bound_into s out)
       unfolding bound_of bound_into
       bound_left m new k a b c d =

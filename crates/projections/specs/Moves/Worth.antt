@@ -2,7 +2,7 @@
 -- total is the same before and after each move". A row move changes one unit's own term and one pair's, and their sum stays (specs/Terms).
 -- In order: amounts; a row's move; the own costs'; the calls. Assumes nothing.
 use Prim.Native.Nat.{ℕ, suc, pred, ◌+◌, ◌-◌, ◌≤◌, ◌<◌}
-use Rattle.std.specs.Prelude.{◌⊎◌, ◌≡◌, Bool, cond, not, ◌&&◌, List, leb, ltb, length}
+use Rattle.std.specs.Prelude.{◌⊎◌, ◌≡◌, Bool, cond, not, ◌&&◌, List, leb, ltb, length, Some, None}
 use Rattle.std.proofs.Common.{inl, inr, ◌∙◌, arith}
 use Rattle.std.proofs.Math.Path.{refl, sym, ap}
 use Rattle.std.proofs.Math.Bool.{true, false}
@@ -13,9 +13,7 @@ use Rattle.base.specs.Every.Laws.{every_at, every_by}
 use Rattle.base.specs.Shape.{is_value, shape_good}
 use Rattle.base.specs.Shape.Laws.{and_left, and_right, value_range}
 use Rattle.base.specs.Sums.{sum_to}
-use Rattle.costs.specs.declared.Cost.{Cost}
-use Rattle.costs.specs.declared.Cost.TheVariants.{Of, Forbidden}
-use Rattle.costs.specs.Cost.{◌⊕◌}
+use Rattle.costs.specs.Cost.{Cost, ◌⊕◌}
 use Rattle.costs.specs.Cost.Laws.{◌⊑◌}
 use Rattle.costs.proofs.LeastOf.{least_le}
 use Rattle.costs.specs.Instance.{dom_in}
@@ -29,25 +27,25 @@ use Rattle.projections.specs.Moves.Changed.{free, Apart, each_other, each_at, ea
 
 -- ---- amounts
 
-taken_le : (c : Cost) (x : ℕ) → c ⊑ Of x → taken c ≤ x
-taken_le (Of a) x h = h
-taken_le Forbidden x h = omega arith
+taken_le : (c : Cost) (x : ℕ) → c ⊑ Some x → taken c ≤ x
+taken_le (Some a) x h = h
+taken_le None x h = omega arith
 
 -- what is taken off some costs is at most each of them
 pub taken-most : (place : ℕ → ℕ) (d : ℕ) (l : List ℕ) (v : ℕ) → InDom d v → get_or l (place v) 0 < barred → taken (least_at place d l) ≤ get_or l (place v) 0
 taken-most place d l v r h =
     let x : ℕ = get_or l (place v) 0 in
-    let e : held_cost x ≡ Of x = rw (lt-ltb x barred h) in
+    let e : held_cost x ≡ Some x = rw (lt-ltb x barred h) in
     taken_le (least_at place d l) x (rw e at (least_le (λ w. held_cost (get_or l (place w) 0)) d v r.0 r.1))
 
-lowered_balance : (o a x : ℕ) → (x < barred → a ≤ x) → Of o ⊕ held_cost x ≡ Of (o + a) ⊕ held_cost (lowered a x)
+lowered_balance : (o a x : ℕ) → (x < barred → a ≤ x) → Some o ⊕ held_cost x ≡ Some (o + a) ⊕ held_cost (lowered a x)
 lowered_balance o a x h = go (ltb x barred) refl
   where
-    go : (t : Bool) → ltb x barred ≡ t → Of o ⊕ held_cost x ≡ Of (o + a) ⊕ held_cost (lowered a x)
+    go : (t : Bool) → ltb x barred ≡ t → Some o ⊕ held_cost x ≡ Some (o + a) ⊕ held_cost (lowered a x)
     go true e =
         let m : x < barred = ltb-true x barred e in
         let q : a ≤ x = h m in
-        rw (e, lt-ltb (x - a) barred (omega arith)) (ap Of (omega arith))
+        rw (e, lt-ltb (x - a) barred (omega arith)) (ap Some (omega arith))
     go false e = rw (e, e)
 
 lowered-free : (a x : ℕ) → ltb (lowered a x) barred ≡ ltb x barred
@@ -58,11 +56,11 @@ lowered-free a x = go (ltb x barred) refl
     go false e = rw (e, e)
 
 module _ (part x : ℕ) (fits : raise_fits part x ≡ true) where
-  raised_balance : (o : ℕ) → part ≤ o → Of o ⊕ held_cost x ≡ Of (o - part) ⊕ held_cost (raised part x)
+  raised_balance : (o : ℕ) → part ≤ o → Some o ⊕ held_cost x ≡ Some (o - part) ⊕ held_cost (raised part x)
   raised_balance o h = go (ltb x barred) refl fits
     where
-      go : (t : Bool) → ltb x barred ≡ t → cond t (ltb (x + part) barred) true ≡ true → Of o ⊕ held_cost x ≡ Of (o - part) ⊕ held_cost (raised part x)
-      go true e f = rw (e, f) (ap Of (omega arith))
+      go : (t : Bool) → ltb x barred ≡ t → cond t (ltb (x + part) barred) true ≡ true → Some o ⊕ held_cost x ≡ Some (o - part) ⊕ held_cost (raised part x)
+      go true e f = rw (e, f) (ap Some (omega arith))
       go false e f = rw (e, e)
 
   raised-free : ltb (raised part x) barred ≡ ltb x barred
@@ -79,7 +77,7 @@ module _ (n : ℕ) (sizes : List ℕ) where
   dom = dom_in n sizes
 
   abbrev own_term : List ℕ → List ℕ → ℕ → Cost
-  own_term costs l k = Of (get_or costs (own_at dom k (get_or l k 0)) 0)
+  own_term costs l k = Some (get_or costs (own_at dom k (get_or l k 0)) 0)
 
   abbrev pair_term : List ℕ → List ℕ → ℕ → ℕ → Cost
   pair_term costs l a b = held_cost (get_or costs (pair_at dom n a (get_or l a 0) b (get_or l b 0)) 0)
@@ -89,7 +87,7 @@ module _ (n : ℕ) (sizes : List ℕ) where
   total_terms costs l = refl
 
   module _ {i u j : ℕ} (r : Row dom n i u j) (c : List ℕ) (count : length c ≡ cost_count dom n) (f g : ℕ → ℕ)
-      (balance : (v : ℕ) → InDom (dom j) v → Of (get_or c (own_at dom i u) 0) ⊕ held_cost (get_or c (with_at dom n i u j v) 0) ≡ Of (g (get_or c (own_at dom i u) 0)) ⊕ held_cost (f (get_or c (with_at dom n i u j v) 0)))
+      (balance : (v : ℕ) → InDom (dom j) v → Some (get_or c (own_at dom i u) 0) ⊕ held_cost (get_or c (with_at dom n i u j v) 0) ≡ Some (g (get_or c (own_at dom i u) 0)) ⊕ held_cost (f (get_or c (with_at dom n i u j v) 0)))
       (l : List ℕ) (valued : Valued (instance_in n sizes c) l) where
     abbrev c' : List ℕ
     c' = row_moved r c count f g
@@ -99,7 +97,7 @@ module _ (n : ℕ) (sizes : List ℕ) where
     at k = get_or l k 0
 
     own_same : (k : ℕ) → k < n → (k ≡ i → ⊥) → own_term c l k ≡ own_term c' l k
-    own_same k h ne = ap Of (sym (own-kept r c count f g k (at k) h (valued k h) (λ e q. ne e)))
+    own_same k h ne = ap Some (sym (own-kept r c count f g k (at k) h (valued k h) (λ e q. ne e)))
 
     -- an assignment that has value u
     module _ (has : at i ≡ u) where
@@ -109,7 +107,7 @@ module _ (n : ℕ) (sizes : List ℕ) where
       own_first : get_or c (own_at dom i (at i)) 0 ≡ get_or c (own_at dom i u) 0
       own_first = ap (λ (z : ℕ). get_or c (own_at dom i z) 0) has
 
-      balanced : (p : ℕ) → p ≡ with_at dom n i u j (at j) → Of (get_or c (own_at dom i (at i)) 0) ⊕ held_cost (get_or c p 0) ≡ Of (get_or c' (own_at dom i (at i)) 0) ⊕ held_cost (get_or c' p 0)
+      balanced : (p : ℕ) → p ≡ with_at dom n i u j (at j) → Some (get_or c (own_at dom i (at i)) 0) ⊕ held_cost (get_or c p 0) ≡ Some (get_or c' (own_at dom i (at i)) 0) ⊕ held_cost (get_or c' p 0)
       balanced p e = rw (e, own_then, own_first, pair_moved r c count f g (at j) (valued j r.other)) (balance (at j) (valued j r.other))
 
     module _ (h : i < j) where
@@ -170,25 +168,25 @@ module _ (n : ℕ) (sizes : List ℕ) where
       u' = change_each (lowered a) (own_at dom i) (dom i) c
 
       units_same : (k : ℕ) → k < n → (k ≡ i → ⊥) → own_term c l k ≡ own_term u' l k
-      units_same k h ne = ap Of (sym (each_other (lowered a) (own_at dom i) c (dom i) (own_at dom k (get_or l k 0)) (λ v q e. ne (own_once dom k i (get_or l k 0) v (valued k h) q e).0)))
+      units_same k h ne = ap Some (sym (each_other (lowered a) (own_at dom i) c (dom i) (own_at dom k (get_or l k 0)) (λ v q e. ne (own_once dom k i (get_or l k 0) v (valued k h) q e).0)))
 
       pairs_same : (x y : ℕ) → x < y → y < n → pair_term c l x y ≡ pair_term u' l x y
       pairs_same x y lt h =
           let p : ℕ = pair_at dom n x (get_or l x 0) y (get_or l y 0) in
           ap held_cost (sym (each_other (lowered a) (own_at dom i) c (dom i) p (λ v q e. omega (arith, own_inside dom n i v unit q, pair_behind dom n x (get_or l x 0) y (get_or l y 0)))))
 
-      moved_up : (F : ℕ) → Of F ⊕ own_term c l i ≡ Of (F + a) ⊕ own_term u' l i
+      moved_up : (F : ℕ) → Some F ⊕ own_term c l i ≡ Some (F + a) ⊕ own_term u' l i
       moved_up F =
           let v : ℕ = get_or l i 0 in
           let x : ℕ = get_or c (own_at dom i v) 0 in
           let in-dom : InDom (dom i) v = valued i unit in
           let e : get_or u' (own_at dom i v) 0 ≡ x - a = each_at (lowered a) (own_at dom i) c (dom i) own-apart v in-dom ∙ rw (good (own_at dom i v) (own_inside dom n i v unit in-dom)) in
-          rw e (ap Of (omega (arith, most v in-dom)))
+          rw e (ap Some (omega (arith, most v in-dom)))
 
-      own-worth : (F : ℕ) → Of F ⊕ total (instance_in n sizes c) l ≡ Of (F + a) ⊕ total (instance_in n sizes u') l
+      own-worth : (F : ℕ) → Some F ⊕ total (instance_in n sizes c) l ≡ Some (F + a) ⊕ total (instance_in n sizes u') l
       own-worth F =
           rw (total_terms c l, total_terms u' l)
-          (own_changed (own_term c l) (own_term u' l) (pair_term c l) (pair_term u' l) n i (Of F) (Of (F + a)) unit units_same pairs_same (moved_up F))
+          (own_changed (own_term c l) (own_term u' l) (pair_term c l) (pair_term u' l) n i (Some F) (Some (F + a)) unit units_same pairs_same (moved_up F))
 
 -- ---- the calls
 
@@ -285,7 +283,7 @@ module _ (n : ℕ) (sizes : List ℕ) (h : Held) where
     projected-kept count good fits =
         record {
           same = λ l v.
-              ap (λ (z : Cost). Of h.floor ⊕ z)
+              ap (λ (z : Cost). Some h.floor ⊕ z)
               (sym (row-total n sizes r h.costs count (lowered α) (λ x. x + α) (λ w q. lowered_balance own α (cost w) (taken-most (with_at dm n i u j) (dm j) h.costs w q)) l v));
           bars = row-free r h.costs count (lowered α) (λ x. x + α) (λ w q. lowered-free α (cost w)) (fits ∙ sym good);
           small = λ q. q;
@@ -300,7 +298,7 @@ module _ (n : ℕ) (sizes : List ℕ) (h : Held) where
         ap (λ (z : ℕ). raise_fits part (cost z)) (sym e) ∙ every_at (λ k. raise_fits part (cost (suc k))) (dm j) (and_right (leb part own) _ fits) (w - 1) (omega (arith, q.0, q.1)) in
         record {
           same = λ l v.
-              ap (λ (z : Cost). Of h.floor ⊕ z)
+              ap (λ (z : Cost). Some h.floor ⊕ z)
               (sym (row-total n sizes r h.costs count (raised part) (λ x. x - part) (λ w q. raised_balance part (cost w) (room w q) own small) l v));
           bars = row-free r h.costs count (raised part) (λ x. x - part) (λ w q. raised-free part (cost w) (room w q))
               (lt-ltb (own - part) barred (omega (arith, ltb-true own barred good)) ∙ sym good);

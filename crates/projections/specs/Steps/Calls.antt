@@ -8,15 +8,14 @@ use Rattle.std.proofs.lemmas.Bool.{lt-leb}
 use Rattle.base.specs.Every.{every}
 use Rattle.base.specs.Every.Laws.{every_at}
 use Rattle.base.specs.Shape.{shape_good}
-use Rattle.costs.specs.Cost.{as_number}
 use Rattle.costs.specs.Instance.{dom_in}
 use Rattle.projections.specs.declared.Moved.{Moved}
 use Rattle.projections.specs.declared.Run.{Run}
 use Rattle.projections.specs.declared.Found.{Found}
 use Rattle.projections.specs.Held.{own_at, with_at, cost_count, barred, Held}
-use Rattle.projections.specs.Moves.{change_each, lowered, raised, least_at, row_taken, own_taken, projected, unary_projected, extended, lent_good, extend_fits, raise_fits, refusal_by, project_fits, row_there, project_refusal, unary_project_refusal, extend_refusal, outcome_by, answer_of, project_of, unary_project_of, extend_of}
+use Rattle.projections.specs.Moves.{change_each, lowered, raised, least_at, taken, row_taken, own_taken, projected, unary_projected, extended, lent_good, extend_fits, raise_fits, refusal_by, project_fits, row_there, project_refusal, unary_project_refusal, extend_refusal, outcome_by, answer_of, project_of, unary_project_of, extend_of}
 use Rattle.projections.specs.Moves.Changed.{row_apart, own_is}
-use Rattle.projections.specs.Steps.{run_place, RunOf, RowFound, Raisable, run_each, run-least, run-every, run-apart, taken_by, taken-least, fits_last}
+use Rattle.projections.specs.Steps.{run_place, RunOf, RowAt, Raisable, run_each, run-least, run-every, run-apart, fits_last}
 
 -- ---- what is refused
 
@@ -58,7 +57,7 @@ amount_fits n sizes h there fits e f = fits_last n sizes h there fits e ∙ ap (
 
 -- ---- a row, as it is found
 
-module _ (n : ℕ) (sizes : List ℕ) (unit value other : ℕ) (h : Held) {f : Found} (found : RowFound n sizes unit value other h f) where
+module _ (n : ℕ) (sizes : List ℕ) (unit value other : ℕ) (h : Held) where
   abbrev dm : ℕ → ℕ
   dm = dom_in n sizes
 
@@ -71,14 +70,8 @@ module _ (n : ℕ) (sizes : List ℕ) (unit value other : ℕ) (h : Held) {f : F
   abbrev there : Bool
   there = row_there n dm unit value other
 
-  abbrev own : ℕ
-  own = get_or h.costs f.own 0
-
-  own_at_lem : f.refusal ≡ 0 → own ≡ get_or h.costs (own_at dm i value) 0
-  own_at_lem z = ap (λ (p : ℕ). get_or h.costs p 0) (found.at z).own
-
-  none : f.refusal ≡ 0 → refusal_by n sizes h there true ≡ 0
-  none z = sym found.first ∙ z
+  own_at_lem : {f : Found} → RowAt n sizes unit value other h f → get_or h.costs f.own 0 ≡ get_or h.costs (own_at dm i value) 0
+  own_at_lem at = ap (λ (p : ℕ). get_or h.costs p 0) at.own
 
   -- ---- binary projection
 
@@ -89,30 +82,33 @@ module _ (n : ℕ) (sizes : List ℕ) (unit value other : ℕ) (h : Held) {f : F
   unfolding project_of
   project_stays r e ne = outcome-refused (project_refusal n sizes unit value other h) h (projected dm n i value j h) r e ne
 
-  pub project_refused : (f.refusal ≡ 0 → ⊥) → Projected f.refusal h.costs
-  project_refused ne = project_stays f.refusal (refused-first n sizes h there (project_fits dm n i value j h) f.refusal found.first ne) ne
+  pub project_refused : (r : ℕ) → r ≡ refusal_by n sizes h there true → (r ≡ 0 → ⊥) → Projected r h.costs
+  project_refused r first ne = project_stays r (refused-first n sizes h there (project_fits dm n i value j h) r first ne) ne
 
-  module _ (z : f.refusal ≡ 0) (least amount : ℕ) (e : least ≡ as_number (least_at (run_place f.row) f.row.count h.costs)) (q : amount ≡ taken_by least) where
+  module _ {f : Found} (at : RowAt n sizes unit value other h f) (amount : ℕ) (q : amount ≡ taken (least_at (run_place f.row) f.row.count h.costs)) where
+    abbrev own : ℕ
+    own = get_or h.costs f.own 0
+
     abbrev α : ℕ
     α = row_taken dm n i value j h.costs
 
     -- the amount that is found
     row-taken : amount ≡ α
-    row-taken = q ∙ ap taken_by (e ∙ ap as_number (run-least (found.at z).run h.costs)) ∙ taken-least (with_at dm n i value j) (dm j) h.costs
+    row-taken = q ∙ ap taken (run-least at.run h.costs)
 
     pub project_over : barred - own ≤ amount → Projected 19 h.costs
     project_over over =
-        let fits : project_fits dm n i value j h ≡ false = rw (← own_at_lem z, ← row-taken) (over_left own amount (found.at z).small over) in
-        project_stays 19 (amount_over n sizes h there (project_fits dm n i value j h) (none z) fits) (λ c. omega arith)
+        let fits : project_fits dm n i value j h ≡ false = rw (← own_at_lem at, ← row-taken) (over_left own amount at.small over) in
+        project_stays 19 (amount_over n sizes h there (project_fits dm n i value j h) at.none fits) (λ c. omega arith)
 
     pub project_moves : amount < barred - own → (m : List ℕ) → m ≡ change_each (lowered amount) (run_place f.row) f.row.count h.costs → Projected 0 (set m f.own (own + amount))
     unfolding project_of projected
     project_moves under m w =
-        let fits : project_fits dm n i value j h ≡ true = rw (← own_at_lem z, ← row-taken) (under_left own amount under) in
-        let changed : m ≡ change_each (lowered α) (with_at dm n i value j) (dm j) h.costs = w ∙ run_each (found.at z).run (lowered amount) h.costs ∙ ap (λ (x : ℕ). change_each (lowered x) (with_at dm n i value j) (dm j) h.costs) row-taken in
-        let sum : own + amount ≡ get_or m (own_at dm i value) 0 + α = rw (changed, own_is (found.at z).row h.costs (found.at z).count (lowered α) (λ x. x + α), own_at_lem z, row-taken) in
-        outcome_done (project_refusal n sizes unit value other h) h (projected dm n i value j h) (set m f.own (own + amount)) (amount_fits n sizes h there (project_fits dm n i value j h) (none z) fits)
-        (rw (sum, (found.at z).own, changed))
+        let fits : project_fits dm n i value j h ≡ true = rw (← own_at_lem at, ← row-taken) (under_left own amount under) in
+        let changed : m ≡ change_each (lowered α) (with_at dm n i value j) (dm j) h.costs = w ∙ run_each at.run (lowered amount) h.costs ∙ ap (λ (x : ℕ). change_each (lowered x) (with_at dm n i value j) (dm j) h.costs) row-taken in
+        let sum : own + amount ≡ get_or m (own_at dm i value) 0 + α = rw (changed, own_is at.row h.costs at.count (lowered α) (λ x. x + α), own_at_lem at, row-taken) in
+        outcome_done (project_refusal n sizes unit value other h) h (projected dm n i value j h) (set m f.own (own + amount)) (amount_fits n sizes h there (project_fits dm n i value j h) at.none fits)
+        (rw (sum, at.own, changed))
 
   -- ---- extension
 
@@ -124,40 +120,43 @@ module _ (n : ℕ) (sizes : List ℕ) (unit value other : ℕ) (h : Held) {f : F
     unfolding extend_of
     extend_stays r e ne = outcome-refused (extend_refusal n sizes unit value other part h) h (extended dm n i value j part h) r e ne
 
-    pub extend_refused : (f.refusal ≡ 0 → ⊥) → Extended f.refusal h.costs
-    extend_refused ne = extend_stays f.refusal (refused-first n sizes h there (extend_fits dm n i value j part h) f.refusal found.first ne) ne
+    pub extend_refused : (r : ℕ) → r ≡ refusal_by n sizes h there true → (r ≡ 0 → ⊥) → Extended r h.costs
+    extend_refused r first ne = extend_stays r (refused-first n sizes h there (extend_fits dm n i value j part h) r first ne) ne
 
-    module _ (z : f.refusal ≡ 0) where
-      pub part_over : own < part → Extended 19 h.costs
+    module _ {f : Found} (at : RowAt n sizes unit value other h f) where
+      abbrev kept : ℕ
+      kept = get_or h.costs f.own 0
+
+      pub part_over : kept < part → Extended 19 h.costs
       part_over over =
-          let fits : extend_fits dm n i value j part h ≡ false = rw (← own_at_lem z, lt-leb part own over) in
-          extend_stays 19 (amount_over n sizes h there (extend_fits dm n i value j part h) (none z) fits) (λ c. omega arith)
+          let fits : extend_fits dm n i value j part h ≡ false = rw (← own_at_lem at, lt-leb part kept over) in
+          extend_stays 19 (amount_over n sizes h there (extend_fits dm n i value j part h) at.none fits) (λ c. omega arith)
 
       -- whether the row can be raised
-      module _ (fit : part ≤ own) (t : Bool) (e : t ≡ every (λ k. raise_fits part (get_or h.costs (run_place f.row (suc k)) 0)) f.row.count) where
+      module _ (fit : part ≤ kept) (t : Bool) (e : t ≡ every (λ k. raise_fits part (get_or h.costs (run_place f.row (suc k)) 0)) f.row.count) where
         row_fits : extend_fits dm n i value j part h ≡ t
-        row_fits = rw (← own_at_lem z, le-leb part own fit) (sym (e ∙ run-every (found.at z).run (raise_fits part) h.costs))
+        row_fits = rw (← own_at_lem at, le-leb part kept fit) (sym (e ∙ run-every at.run (raise_fits part) h.costs))
 
         pub pair_over : t ≡ false → Extended 19 h.costs
-        pair_over over = extend_stays 19 (amount_over n sizes h there (extend_fits dm n i value j part h) (none z) (row_fits ∙ over)) (λ c. omega arith)
+        pair_over over = extend_stays 19 (amount_over n sizes h there (extend_fits dm n i value j part h) at.none (row_fits ∙ over)) (λ c. omega arith)
 
         pub row_raisable : t ≡ true → Raisable f.row part h.costs
         row_raisable all =
             record {
-              apart = run-apart (found.at z).run h.costs (row_apart (found.at z).row h.costs (found.at z).count);
+              apart = run-apart at.run h.costs (row_apart at.row h.costs at.count);
               fits = λ v q.
                   let w : suc (v - 1) ≡ v = omega (arith, q.0) in
                   ap (λ (x : ℕ). raise_fits part (get_or h.costs (run_place f.row x) 0)) (sym w)
                   ∙ every_at (λ k. raise_fits part (get_or h.costs (run_place f.row (suc k)) 0)) f.row.count (sym e ∙ all) (v - 1) (omega (arith, q.0, q.1));
             }
 
-        pub extend_moves : t ≡ true → (m : List ℕ) → m ≡ change_each (raised part) (run_place f.row) f.row.count h.costs → Extended 0 (set m f.own (own - part))
+        pub extend_moves : t ≡ true → (m : List ℕ) → m ≡ change_each (raised part) (run_place f.row) f.row.count h.costs → Extended 0 (set m f.own (kept - part))
         unfolding extend_of extended
         extend_moves all m w =
-            let changed : m ≡ change_each (raised part) (with_at dm n i value j) (dm j) h.costs = w ∙ run_each (found.at z).run (raised part) h.costs in
-            let rest : own - part ≡ get_or m (own_at dm i value) 0 - part = rw (changed, own_is (found.at z).row h.costs (found.at z).count (raised part) (λ x. x - part), own_at_lem z) in
-            outcome_done (extend_refusal n sizes unit value other part h) h (extended dm n i value j part h) (set m f.own (own - part)) (amount_fits n sizes h there (extend_fits dm n i value j part h) (none z) (row_fits ∙ all))
-            (rw (rest, (found.at z).own, changed))
+            let changed : m ≡ change_each (raised part) (with_at dm n i value j) (dm j) h.costs = w ∙ run_each at.run (raised part) h.costs in
+            let rest : kept - part ≡ get_or m (own_at dm i value) 0 - part = rw (changed, own_is at.row h.costs at.count (raised part) (λ x. x - part), own_at_lem at) in
+            outcome_done (extend_refusal n sizes unit value other part h) h (extended dm n i value j part h) (set m f.own (kept - part)) (amount_fits n sizes h there (extend_fits dm n i value j part h) at.none (row_fits ∙ all))
+            (rw (rest, at.own, changed))
 
 -- ---- unary projection
 
@@ -181,6 +180,5 @@ module _ (n : ℕ) (sizes : List ℕ) (h : Held) where
         let d = outcome_done (unary_project_refusal n sizes unit h) h left l e changed in
         (ap (λ (z : ℕ). record { refusal = 0; floor = h.floor + z }) a ∙ d.0, d.1)
 
-  pub own-taken : (i least amount : ℕ) {run : Run} → RunOf (own_at dom i) (dom i) run → least ≡ as_number (least_at (run_place run) run.count h.costs) → amount ≡ taken_by least
-      → amount ≡ own_taken dom i h.costs
-  own-taken i least amount runs e q = q ∙ ap taken_by (e ∙ ap as_number (run-least runs h.costs)) ∙ taken-least (own_at dom i) (dom i) h.costs
+  pub own-taken : (i amount : ℕ) {run : Run} → RunOf (own_at dom i) (dom i) run → amount ≡ taken (least_at (run_place run) run.count h.costs) → amount ≡ own_taken dom i h.costs
+  own-taken i amount runs q = q ∙ ap taken (run-least runs h.costs)

@@ -3,7 +3,7 @@
 -- In order: what is sent on backtracking; a value written; the values tried; a CPA in hand; a bound taken.
 -- Assumes nothing.
 use Prim.Native.Nat.{ℕ, zero, suc, ◌+◌, ◌*◌, ◌-◌, ◌≤◌, ◌<◌, pred}
-use Rattle.std.specs.Prelude.{◌≡◌, ◌≢◌, Bool, true, false, ◌||◌, List, ◌∷◌, reverse, ltb, leb, eqb, length, get_or, set, take}
+use Rattle.std.specs.Prelude.{◌≡◌, ◌≢◌, Bool, true, false, ◌||◌, List, ◌∷◌, reverse, ltb, leb, eqb, length, get_or, set, take, Some, None}
 use Rattle.std.proofs.Math.Path.{refl}
 use Rattle.std.proofs.Common.{sym, ap, ◌∙◌, subst, inr, get_or-take, eqb-true, ltb-true}
 use native.Mathlib.Omega.{arith}
@@ -11,9 +11,7 @@ use Rattle.std.proofs.Math.Dec.{eqb-suc-zero}
 use Rattle.std.proofs.Math.ListN.{length-set}
 use Rattle.std.proofs.Math.Seq.{get_or-set_same}
 use Rattle.costs.specs.declared.ValueOrder.{ValueOrder}
-use Rattle.costs.specs.declared.Cost.{Cost}
-use Rattle.costs.specs.declared.Cost.TheVariants.{Of, Forbidden}
-use Rattle.costs.specs.Cost.{◌⊕◌, as_number}
+use Rattle.costs.specs.Cost.{Cost, ◌⊕◌, as_number}
 use Rattle.costs.specs.Cost.Laws.{sum_left, taken_off, number_below, number_is, number_mono, below_number}
 use Rattle.costs.specs.Instance.{Instance, view_by}
 use Rattle.costs.specs.Bounds.{cost_with, h}
@@ -118,14 +116,14 @@ module _ (order : ValueOrder) (I : Instance) where
         let e : length u.prefix ≡ k = prefix_length order I k s.values u.prefix b.values.are in
         λ i. value_at (view_by order I (sym e i)) (suc (b.tried i)) ∷ values_at order I u.prefix
 
-    next-cost : (v : ℕ) (s : UnitState) (u : Agent) → OwnOff order I k v s u → Of s.cost ⊕ cost_with (view_by order I k) s.values k (coming v) ≡ cost_of I (values_at order I (suc u.own ∷ u.prefix))
+    next-cost : (v : ℕ) (s : UnitState) (u : Agent) → OwnOff order I k v s u → Some s.cost ⊕ cost_with (view_by order I k) s.values k (coming v) ≡ cost_of I (values_at order I (suc u.own ∷ u.prefix))
     next-cost v s u b =
         ap (λ (z : Cost). z ⊕ cost_with (view_by order I k) s.values k (coming v)) b.cost
         ∙ subst (λ z. cost_of I z ⊕ cost_with (view_by order I k) s.values k (coming v) ≡ cost_of I (coming v ∷ z)) b.values.are (cost-next order I k s.values (coming v))
         ∙ ap (cost_of I) (next_read v s u b)
 
     next-lookahead : (v : ℕ) (s : UnitState) (u : Agent) → OwnOff order I k v s u
-        → Of s.cost ⊕ cost_with (view_by order I k) s.values k (coming v) ⊕ h (view_by order I k) (coming v) ≡ lookahead_of I (values_at order I (suc u.own ∷ u.prefix))
+        → Some s.cost ⊕ cost_with (view_by order I k) s.values k (coming v) ⊕ h (view_by order I k) (coming v) ≡ lookahead_of I (values_at order I (suc u.own ∷ u.prefix))
     next-lookahead v s u b =
         ap (λ (z : Cost). z ⊕ cost_with (view_by order I k) s.values k (coming v) ⊕ h (view_by order I k) (coming v)) b.cost
         ∙ subst (λ z. cost_of I z ⊕ cost_with (view_by order I k) s.values k (coming v) ⊕ h (view_by order I k) (coming v) ≡ lookahead_of I (coming v ∷ z)) b.values.are (lookahead-next order I k s.values (coming v))
@@ -154,7 +152,7 @@ module _ (order : ValueOrder) (I : Instance) where
               );
         }
 
-    write_at_rest : (v c : ℕ) (s : UnitState) (u : Agent) → OwnOff order I k v s u → s.estimates ≡ zeros → u.counter ≤ 30 → Of c ≡ cost_of I (values_at order I (suc u.own ∷ u.prefix))
+    write_at_rest : (v c : ℕ) (s : UnitState) (u : Agent) → OwnOff order I k v s u → s.estimates ≡ zeros → u.counter ≤ 30 → Some c ≡ cost_of I (values_at order I (suc u.own ∷ u.prefix))
         → AtRest order I k (U.write (view_by order I k) (coming v) c s) (M.write u)
     write_at_rest v c s u b z hc ec =
         record {
@@ -184,7 +182,7 @@ module _ (order : ValueOrder) (I : Instance) where
         st : StampIs (suc k) (set s.stamp k (suc s.counter)) (u.prefix_stamp * 32 + suc u.counter)
         st = written-stamp v s u b hc
 
-    forward_read : (v c : ℕ) (s : UnitState) (u : Agent) → OwnOff order I k v s u → u.counter ≤ 30 → Of c ≡ cost_of I (values_at order I (suc u.own ∷ u.prefix))
+    forward_read : (v c : ℕ) (s : UnitState) (u : Agent) → OwnOff order I k v s u → u.counter ≤ 30 → Some c ≡ cost_of I (values_at order I (suc u.own ∷ u.prefix))
         → ReadAll order I (sent_to Cpa (carried (view_by order I k) (U.write (view_by order I k) (coming v) c s)) (suc k)
         ∷ each (sent_to Request (without_bound (carried (view_by order I k) (U.write (view_by order I k) (coming v) c s)))) (suc k) (I.n - suc k))
         (M.send_down (problem_by order I) k (M.write u))
@@ -209,16 +207,16 @@ module _ (order : ValueOrder) (I : Instance) where
     )
 
     -- unit n: the new best, and the value taken off again
-    solved-cost : (v c : ℕ) (s : UnitState) (u : Agent) → OwnOff order I k v s u → Of c ≡ Of s.cost ⊕ cost_with (view_by order I k) s.values k (coming v)
-        → Of (c - as_number (cost_with (view_by order I k) (set s.values k (coming v)) k (get_or (set s.values k (coming v)) k 0))) ≡ cost_of I (values_at order I u.prefix)
+    solved-cost : (v c : ℕ) (s : UnitState) (u : Agent) → OwnOff order I k v s u → Some c ≡ Some s.cost ⊕ cost_with (view_by order I k) s.values k (coming v)
+        → Some (c - as_number (cost_with (view_by order I k) (set s.values k (coming v)) k (get_or (set s.values k (coming v)) k 0))) ≡ cost_of I (values_at order I u.prefix)
     solved-cost v c s u b ec =
         let e : get_or (set s.values k (coming v)) k 0 ≡ coming v = get_or-set_same s.values k (coming v) 0 (omega (arith, b.values.filled.size)) in
         let a : cost_with (view_by order I k) (set s.values k (coming v)) k (coming v) ≡ cost_with (view_by order I k) s.values k (coming v) =
         cost_with_prefix order I k (set s.values k (coming v)) k (coming v) (omega arith) ∙ ap (against I k (coming v)) (pre_set k k s.values (coming v) (omega arith))
         ∙ sym (cost_with_prefix order I k s.values k (coming v) (omega arith)) in
-        rw (e, a) (taken_off c (Of s.cost) (cost_with (view_by order I k) s.values k (coming v)) ec ∙ b.cost)
+        rw (e, a) (taken_off c (Some s.cost) (cost_with (view_by order I k) s.values k (coming v)) ec ∙ b.cost)
 
-    solved_off : (v c : ℕ) (s : UnitState) (u : Agent) → OwnOff order I k v s u → Of c ≡ Of s.cost ⊕ cost_with (view_by order I k) s.values k (coming v) → u.counter ≤ 30 → suc k ≡ I.n
+    solved_off : (v c : ℕ) (s : UnitState) (u : Agent) → OwnOff order I k v s u → Some c ≡ Some s.cost ⊕ cost_with (view_by order I k) s.values k (coming v) → u.counter ≤ 30 → suc k ≡ I.n
         → OwnOff order I k (suc v) (take_off (view_by order I k) (with_best c (set s.values k (coming v)) (U.write (view_by order I k) (coming v) c s))) (M.solved (problem_by order I) (M.write u))
     solved_off v c s u b ec hc last =
         record {
@@ -266,19 +264,19 @@ module _ (order : ValueOrder) (I : Instance) where
             → Agrees order I k q.log (U.try_after (view_by order I k) m (coming v) x t) (M.try_from (problem_by order I) k m x q)
 
         next_at : Cost
-        next_at = Of s.cost ⊕ cost_with (view_by order I k) s.values k (coming v)
+        next_at = Some s.cost ⊕ cost_with (view_by order I k) s.values k (coming v)
 
         c : ℕ
-        c = as_number (Of s.cost ⊕ cost_with (view_by order I k) s.values k (coming v))
+        c = as_number (Some s.cost ⊕ cost_with (view_by order I k) s.values k (coming v))
 
         b' : List ℕ
         b' = suc u.own ∷ u.prefix
 
         -- with a lookahead below the bound, the value's cost is a number, and at most NONE
-        paid : as_number (lookahead_of I (values_at order I b')) < u.bound → Of c ≡ next_at
+        paid : as_number (lookahead_of I (values_at order I b')) < u.bound → Some c ≡ next_at
         paid low =
             sym (number_is next_at
-            (subst (λ (x : Cost). x ≢ Forbidden) (sym (next-cost v s u b)) (sum_left (cost_of I (values_at order I b')) (h_of I (length (values_at order I u.prefix)) (value_at (view_by order I (length u.prefix)) (suc u.own))) (number_below (lookahead_of I (values_at order I b')) (omega arith)))))
+            (subst (λ (x : Cost). x ≢ None) (sym (next-cost v s u b)) (sum_left (cost_of I (values_at order I b')) (h_of I (length (values_at order I u.prefix)) (value_at (view_by order I (length u.prefix)) (suc u.own))) (number_below (lookahead_of I (values_at order I b')) (omega arith)))))
 
         few : as_number (lookahead_of I (values_at order I b')) < u.bound → as_number (cost_of I (values_at order I b')) ≤ NONE
         few low = omega (arith, number_mono (cost_of I (values_at order I b')) (lookahead_of I (values_at order I b')) (cost_le_lookahead I (values_at order I b')) (omega arith))

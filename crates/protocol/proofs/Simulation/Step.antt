@@ -3,14 +3,13 @@
 -- In order: what holds of the unit; CPAs going down and back; requests; estimates; solutions and stops; any message.
 -- Assumes nothing.
 use Prim.Native.Nat.{ℕ, zero, suc, ◌+◌, ◌*◌, ◌-◌, ◌/◌, ◌^◌, ◌≤◌, ◌<◌}
-use Rattle.std.specs.Prelude.{◌≡◌, Bool, true, false, cond, ◌&&◌, List, [], ◌∷◌, ltb, leb, eqb, length, get_or, set}
+use Rattle.std.specs.Prelude.{◌≡◌, Bool, true, false, cond, ◌&&◌, List, [], ◌∷◌, ltb, leb, eqb, length, get_or, set, Some}
 use Rattle.std.proofs.Math.Path.{refl, subst}
 use Rattle.std.proofs.Common.{sym, ap, ◌∙◌, arith, length-set, get_or-set_same, get_or-set_other, ltb-true, ltb-false, eqb-true, lt-ltb, le-ltb}
 use Rattle.std.proofs.Math.Nat.{sub-zero}
 use Rattle.std.proofs.lemmas.Bool.{eqb-false}
 use Rattle.base.specs.Sums.{sum_from}
 use Rattle.costs.specs.declared.ValueOrder.{ValueOrder}
-use Rattle.costs.specs.declared.Cost.TheVariants.{Of}
 use Rattle.costs.specs.Cost.{as_number}
 use Rattle.costs.specs.Cost.Laws.{number_eq, taken_off}
 use Rattle.costs.specs.Instance.{Instance, view_by}
@@ -25,8 +24,8 @@ use Rattle.message.specs.declared.Message.{Message}
 use Rattle.message.specs.declared.Kind.TheVariants.{Estimate}
 use Rattle.message.specs.Message.{Packet}
 use Rattle.rules.specs.declared.Unit.{Unit as UnitState}
-use Rattle.rules.specs.declared.Ordering.{Ordering}
-use Rattle.rules.specs.declared.Ordering.TheVariants.{Less, Equal, Greater}
+use Rattle.std.specs.declared.cmp.Ordering.{Ordering}
+use Rattle.std.specs.declared.cmp.Ordering.TheVariants.{Less, Equal, Greater}
 use Rattle.rules.specs.State.{with_threshold, with_cpa, with_estimates, with_stopped, own_value, compare_on, same_on}
 use Rattle.rules.specs.Step as U
 use Rattle.rules.specs.Step.{accepted, take_bound, reply}
@@ -45,8 +44,8 @@ use Rattle.protocol.proofs.Simulation.Assign.{less_test, most_test}
 use Rattle.protocol.proofs.Simulation.Resume.{ReadyToAssign, assign_agrees, lower_log, resume-lower}
 use Rattle.protocol.specs.Simulation.Step.{FreeWhenUnassigned}
 
-against_unassigned : (I : Instance) → FreeWhenUnassigned I → (j : ℕ) (b : List ℕ) → against I j 0 b ≡ Of 0
-against_unassigned I free j [] = ap (λ x. Of x) (free.0 j)
+against_unassigned : (I : Instance) → FreeWhenUnassigned I → (j : ℕ) (b : List ℕ) → against I j 0 b ≡ Some 0
+against_unassigned I free j [] = ap (λ x. Some x) (free.0 j)
 against_unassigned I free j (u ∷ b) = rw (free.1 (length b) u j, against_unassigned I free j b)
 
 -- What the theory knows of its unit: it is good, and the message is valid.
@@ -85,7 +84,7 @@ module _ (order : ValueOrder) (I : Instance) (free : FreeWhenUnassigned I) (laws
           values-filled = r.cpa.values-filled;
           prefix = r.cpa.prefix o;
           cost_is =
-              let a : cost_of I (own_value (view_by order I k) s ∷ pre k s.values) ≡ Of s.cost = ap (cost_of I) (out_values o) ∙ sym (r.cpa.cost_is o) in
+              let a : cost_of I (own_value (view_by order I k) s ∷ pre k s.values) ≡ Some s.cost = ap (cost_of I) (out_values o) ∙ sym (r.cpa.cost_is o) in
               let b : cost_of I (pre k s.values) ≡ cost_of I (values_at order I u.prefix) = ap (cost_of I) (r.cpa.prefix o) in
               taken_off s.cost (cost_of I (pre k s.values)) (cost_with (view_by order I k) s.values k (own_value (view_by order I k) s)) (sym a ∙ sym (cost-next order I k s.values (own_value (view_by order I k) s))) ∙ b;
         };
@@ -106,7 +105,7 @@ module _ (order : ValueOrder) (I : Instance) (free : FreeWhenUnassigned I) (laws
   -- ---- a CPA going down
 
   received_in_hand : (m : Message) (t : List ℕ) (x : ℕ) (b : List ℕ) → length t ≡ 16 → Digits t → rank (suc k) t ≡ x * 32 → StampIs k m.stamp x → ValuesAre order I k m.values b
-      → Of m.cost ≡ cost_of I (values_at order I b) → InHand order I k (with_cpa m.stamp m.values m.cost (with_threshold t s)) (M.received x b u)
+      → Some m.cost ≡ cost_of I (values_at order I b) → InHand order I k (with_cpa m.stamp m.values m.cost (with_threshold t s)) (M.received x b u)
   received_in_hand m t x b len d e st vs ec =
       record {
         common = record { size = len; digits = d; threshold_is = e; bound_is = r.common.bound_is; best_is = r.common.best_is; counter_is = r.common.counter_is; stopped_is = r.common.stopped_is };

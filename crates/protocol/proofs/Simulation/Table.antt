@@ -1,13 +1,12 @@
 -- What an accepted table gives the units of a run, whatever pool or air their packets are in: a unit without a value costs nothing, the laws of costs hold,
 -- and every unit sees what is good. From the table's own laws. Assumes nothing.
-use Rattle.std.specs.Prelude.{ℕ, ◌≤◌, ◌<◌, ◌≡◌, refl, Bool, true, false, cond, ◌&&◌, List, ltb}
+use Rattle.std.specs.Prelude.{ℕ, ◌≤◌, ◌<◌, ◌≡◌, refl, Bool, true, false, cond, ◌&&◌, List, ltb, Some}
 use Rattle.std.proofs.Common.{sym, arith}
 use Rattle.base.specs.Shape.{is_value}
 use Rattle.table.specs.Stream.{in_form_two, units_of, Accepted}
 use Rattle.table.specs.StreamLaws.{accepted_units}
+use Rattle.costs.specs.Cost.{Cost}
 use Rattle.costs.specs.declared.ValueOrder.{ValueOrder}
-use Rattle.costs.specs.declared.Cost.{Cost}
-use Rattle.costs.specs.declared.Cost.TheVariants.{Of}
 use Rattle.costs.specs.Instance.{view_by, instance_of, dom_of}
 use Rattle.costs.specs.Laws.Tried.{problem_by}
 use Rattle.costs.proofs.Laws.Tried.{laws_by}
@@ -27,7 +26,7 @@ stream-free s = (λ j. no_value (in_form_two s), λ i u j. never _ (ltb i j) (lt
     no_value true = refl
     no_value false = refl
 
-    never : (x : Cost) (a b c : Bool) → cond (a && b && c && false) x (Of 0) ≡ Of 0
+    never : (x : Cost) (a b c : Bool) → cond (a && b && c && false) x (Some 0) ≡ Some 0
     never x true true true = refl
     never x true true false = refl
     never x true false c = refl

@@ -2,14 +2,13 @@
 -- (`start_simulated`), and so does each step on a packet, which is never refused (`step_simulated`). Whatever pool the packets wait in.
 -- In order: lists of packets, read; what corresponds; a step, and what follows from it; making and a step.
 -- Assumes nothing.
-use Rattle.std.specs.Prelude.{ℕ, zero, suc, ◌+◌, ◌<◌, pred, ◌≡◌, refl, false, List, [], ◌∷◌, ◌++◌, length, replicate}
+use Rattle.std.specs.Prelude.{ℕ, zero, suc, ◌+◌, ◌<◌, pred, ◌≡◌, refl, false, List, [], ◌∷◌, ◌++◌, length, replicate, Some}
 use Rattle.std.proofs.Common.{sym, ap, ◌∙◌, subst, inl, arith, length-append, length-set}
 use Rattle.std.proofs.lemmas.List.{get_or-replicate}
 use Rattle.base.specs.Sums.{sum_to}
 use Rattle.base.specs.Members.{In, here, there}
 use Rattle.base.specs.Members.Laws.{not-in-nil, in_left, in_right, every_nil, every_append}
 use Rattle.costs.specs.declared.ValueOrder.{ValueOrder}
-use Rattle.costs.specs.declared.Cost.TheVariants.{Of}
 use Rattle.costs.specs.Instance.{Instance, view_by}
 use Rattle.costs.specs.Order.Laws.{value_of_none}
 use Rattle.costs.specs.Laws.{Sound}
@@ -177,7 +176,7 @@ module _ (order : ValueOrder) (I : Instance) (snd : Sound I) (free : FreeWhenUna
       (assign_agrees order I 0 (omega arith) fresh M.fresh
       (record {
         common = (fresh_at_rest 0).common;
-        hand = record { own = sym (value_of_none (view_by order I 0)); stamp-filled = zeros-filled 1; stamp_digits = zeros_digits; prefix_stamp = refl; values-filled = zeros-filled 1; prefix = refl; cost_is = ap Of (omega arith) };
+        hand = record { own = sym (value_of_none (view_by order I 0)); stamp-filled = zeros-filled 1; stamp_digits = zeros_digits; prefix_stamp = refl; values-filled = zeros-filled 1; prefix = refl; cost_is = ap Some (omega arith) };
       })
       (omega arith, omega (arith, snd.dom16 0), omega arith, omega arith))
       (make-step_safe (problem_by order I) laws snd.n1)

@@ -1,8 +1,7 @@
 -- Runs on the air, computed: the most deliveries that there can be are reached with two units and with three. (By `ends` all units have then stopped.)
 -- Assumes nothing.
-use Rattle.std.specs.Prelude.{ℕ, ◌+◌, ◌*◌, ◌-◌, ◌≡◌, refl, List, [], ◌∷◌, get_or}
+use Rattle.std.specs.Prelude.{ℕ, ◌+◌, ◌*◌, ◌-◌, ◌≡◌, refl, List, [], ◌∷◌, get_or, Some}
 use Rattle.costs.specs.declared.ValueOrder.TheVariants.{Ascending}
-use Rattle.costs.specs.declared.Cost.TheVariants.{Of}
 use Rattle.costs.specs.Instance.{Instance}
 use Rattle.costs.specs.Order.{place_tried, value_at}
 use Rattle.costs.specs.Laws.Tried.{problem_by}
@@ -22,7 +21,7 @@ falling =
       n = 3;
       dom = λ k. 2;
       unary = λ k v. 0;
-      cost = λ i u j v. Of (get_or (16 ∷ 17 ∷ 3 ∷ 7 ∷ 9 ∷ 10 ∷ 14 ∷ 9 ∷ 18 ∷ 15 ∷ 9 ∷ 10 ∷ []) ((i + j - 1) * 4 + (u - 1) * 2 + (v - 1)) 0);
+      cost = λ i u j v. Some (get_or (16 ∷ 17 ∷ 3 ∷ 7 ∷ 9 ∷ 10 ∷ 14 ∷ 9 ∷ 18 ∷ 15 ∷ 9 ∷ 10 ∷ []) ((i + j - 1) * 4 + (u - 1) * 2 + (v - 1)) 0);
     }
 
 -- newest-first on T, and the stop to unit 2 at the end: (3n - 1) × N + (n - 1)

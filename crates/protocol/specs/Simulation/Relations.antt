@@ -3,10 +3,9 @@
 -- In order: stamps and values; packets; states; decisions, with their records.
 -- Assumes nothing.
 use Prim.Native.Nat.{ℕ, zero, suc, ◌+◌, ◌≤◌, ◌<◌}
-use Rattle.std.specs.Prelude.{◌≡◌, ◌⊎◌, Bool, List, [], ◌∷◌, ◌++◌, reverse, length, get_or}
+use Rattle.std.specs.Prelude.{◌≡◌, ◌⊎◌, Bool, List, [], ◌∷◌, ◌++◌, reverse, length, get_or, Some}
 use Rattle.std.proofs.Common.{sym, ap, ◌∙◌, arith}
 use Rattle.costs.specs.declared.ValueOrder.{ValueOrder}
-use Rattle.costs.specs.declared.Cost.TheVariants.{Of}
 use Rattle.costs.specs.Instance.{Instance, view_by}
 use Rattle.costs.specs.Laws.{cost_of}
 use Rattle.costs.specs.Order.{place_tried, value_at}
@@ -49,10 +48,10 @@ module _ (order : ValueOrder) (I : Instance) where
   abbrev pub Reads : Packet → Msg → Type 0
   Reads p (M.down k s b B l) =
       (p.kind ≡ Cpa) × (p.message.receiver ≡ suc k) × (p.message.sender < suc k) × StampIs k p.message.stamp s × ValuesAre order I k p.message.values b
-      × (Of p.message.cost ≡ cost_of I (values_at order I b)) × (p.message.bound ≡ B) × BestIs p.message.best l
+      × (Some p.message.cost ≡ cost_of I (values_at order I b)) × (p.message.bound ≡ B) × BestIs p.message.best l
   Reads p (M.back k s b B l) =
       (p.kind ≡ Cpa) × (p.message.receiver ≡ suc k) × (suc k < p.message.sender) × StampIs (suc k) p.message.stamp s × ValuesAre order I (suc k) p.message.values b
-      × (Of p.message.cost ≡ cost_of I (values_at order I b)) × (p.message.bound ≡ B) × BestIs p.message.best l
+      × (Some p.message.cost ≡ cost_of I (values_at order I b)) × (p.message.bound ≡ B) × BestIs p.message.best l
   Reads p (M.request k j s b) =
       (p.kind ≡ Request) × (p.message.receiver ≡ suc k) × (p.message.sender ≡ suc j) × StampIs (suc j) p.message.stamp s × ValuesAre order I (suc j) p.message.values b
   Reads p (M.estimate k j s e) =
@@ -102,7 +101,7 @@ pub record CpaOf (order : ValueOrder) (I : Instance) (k : ℕ) (stamp values : L
   pub prefix_stamp : 1 ≤ v → rank k stamp ≡ s
   pub own-stamp : 1 ≤ v → get_or stamp k 0 ≡ c
   pub prefix : 1 ≤ v → pre k values ≡ values_at order I b
-  pub cost_is : 1 ≤ v → Of cost ≡ cost_of I (values_at order I (v ∷ b))
+  pub cost_is : 1 ≤ v → Some cost ≡ cost_of I (values_at order I (v ∷ b))
 
 pub no_cpa : (order : ValueOrder) (I : Instance) (k : ℕ) {c s d : ℕ} {b : List ℕ} → CpaOf order I k zeros zeros c 0 s b d
 no_cpa order I k =
@@ -137,7 +136,7 @@ pub record HandOf (order : ValueOrder) (I : Instance) (k : ℕ) (stamp values : 
   pub prefix_stamp : rank k stamp ≡ s
   pub values-filled : FilledTo (suc k) values
   pub prefix : pre k values ≡ values_at order I b
-  pub cost_is : Of bare ≡ cost_of I (values_at order I b)
+  pub cost_is : Some bare ≡ cost_of I (values_at order I b)
 
 pub record InHand (order : ValueOrder) (I : Instance) (k : ℕ) (s : UnitState) (u : Agent) : Type 0 where
   pub common : Common order I k s u
@@ -149,7 +148,7 @@ pub record OwnOff (order : ValueOrder) (I : Instance) (k v : ℕ) (s : UnitState
   pub tried : v ≡ u.own
   pub stamp : StampIs k s.stamp u.prefix_stamp
   pub values : ValuesAre order I k s.values u.prefix
-  pub cost : Of s.cost ≡ cost_of I (values_at order I u.prefix)
+  pub cost : Some s.cost ≡ cost_of I (values_at order I u.prefix)
 
 -- ---- decisions
 

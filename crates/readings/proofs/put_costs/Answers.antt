@@ -11,13 +11,12 @@ use Rattle.base.specs.Put.{put_at}
 use Rattle.base.specs.Join.Laws.{join_more, join_turn, join_room}
 use Rattle.costs.specs.Streamed.{later_costs}
 use Rattle.readings.specs.Readings.{lines_of}
-use borrow.Author.Rules.{rules}
 use Rattle.readings.proofs.put_costs.Goals as goal
 
 pub loop-i-init : goal.loop-i-init
 loop-i-init c =
     let a = c.args in
-    (c.wide-count.ensures.0, omega arith, omega arith, refl, paste-zero a.stream.now (1 + a.n) [])
+    (c.from-count.ensures, omega arith, paste-zero a.stream.now (1 + a.n) [])
 
 pub put_later-at-requires : goal.put_later-at-requires
 put_later-at-requires c =
@@ -32,10 +31,8 @@ loop-i-preserved c =
     let f = later_costs (lines_of a.n a.sizes a.readings.now) in
     let room : 1 + a.n ≤ length a.stream.now = omega arith in (
       l.invariant.0,
-      omega arith,
-      c.put_later-at.ensures.0 ∙ omega (arith, l.invariant.2, ap length (join_more f l.i), length-append (join_to f l.i) (f l.i)),
-      search rules,
-      c.put_later-at.ensures.1 ∙ join_turn f l.i (1 + a.n) l.at a.stream.now l.stream (f l.i) room l.invariant.4 l.invariant.2 refl,
+      c.put_later-at.ensures.0 ∙ omega (arith, l.invariant.1, ap length (join_more f l.i), length-append (join_to f l.i) (f l.i)),
+      c.put_later-at.ensures.1 ∙ join_turn f l.i (1 + a.n) l.at a.stream.now l.stream (f l.i) room l.invariant.2 l.invariant.1 refl,
     )
 
 pub returns : goal.returns
@@ -44,4 +41,4 @@ returns c =
     let l = c.loop-i in
     let e : l.i ≡ a.n = omega arith in
     let f = later_costs (lines_of a.n a.sizes a.readings.now) in
-    (l.invariant.2 ∙ ap (λ k. 1 + a.n + length (join_to f k)) e, l.invariant.4 ∙ ap (λ k. put_at a.stream.now (1 + a.n) (join_to f k)) e)
+    (l.invariant.1 ∙ ap (λ k. 1 + a.n + length (join_to f k)) e, l.invariant.2 ∙ ap (λ k. put_at a.stream.now (1 + a.n) (join_to f k)) e)

@@ -2,7 +2,7 @@
 -- Assumes nothing.
 use Prim.Native.Nat.{ℕ, suc, ◌+◌, ◌-◌, ◌≤◌, ◌<◌}
 use mathlib.Core.List.{List, []}
-use mathlib.Core.Path.{◌≡◌, refl, ap, ◌∙◌}
+use mathlib.Core.Path.{◌≡◌, ap, ◌∙◌}
 use native.Mathlib.Omega.{arith}
 use lib.ListN.{length, length-append}
 use lib.Seq.{paste-zero}
@@ -11,7 +11,6 @@ use Rattle.base.specs.Join.Laws.{join_more, join_turn, join_room}
 use Rattle.costs.specs.Streamed.{pair_costs}
 use Rattle.readings.specs.Readings.{lines_of}
 use Rattle.readings.specs.Pieces.{lines_pair, pair_is}
-use borrow.Author.Rules.{rules}
 use Rattle.readings.proofs.put_later.Invariants.{piece}
 use Rattle.readings.proofs.put_later.Goals as goal
 
@@ -19,7 +18,7 @@ pub loop-j-init : goal.loop-j-init
 loop-j-init c =
     let a = c.args in
     let none : a.i + 1 - suc a.i ≡ 0 = omega arith in
-    (c.wide-count.ensures.0, omega arith, omega arith, rw none (omega arith), refl, rw none (paste-zero a.stream.now a.at []))
+    (c.from-count.ensures, omega arith, omega arith, rw none (omega arith), rw none (paste-zero a.stream.now a.at []))
 
 -- the next piece
 next : (n : ℕ) (sizes readings : List ℕ) (i j : ℕ) → i < j → j < n → lines_pair sizes readings i j ≡ piece n sizes readings i (j - suc i)
@@ -49,8 +48,7 @@ loop-j-preserved c =
       omega arith,
       omega arith,
       rw more (c.put_lines-end.ensures.0 ∙ omega (arith, ap length e, l.invariant.3, ap length (join_more f k), length-append (join_to f k) (f k))),
-      search rules,
-      rw more (c.put_lines-end.ensures.1 ∙ join_turn f k a.at l.end a.stream.now l.stream (lines_pair a.sizes a.readings.now a.i l.j) room l.invariant.5 l.invariant.3 e),
+      rw more (c.put_lines-end.ensures.1 ∙ join_turn f k a.at l.end a.stream.now l.stream (lines_pair a.sizes a.readings.now a.i l.j) room l.invariant.4 l.invariant.3 e),
     )
 
 pub returns : goal.returns
@@ -59,4 +57,4 @@ returns c =
     let a = c.args in
     let l = c.loop-j in
     let e : l.j - suc a.i ≡ a.n - suc a.i = omega arith in
-    rw (← e) (l.invariant.3, l.invariant.5)
+    rw (← e) (l.invariant.3, l.invariant.4)

@@ -17,7 +17,4 @@ piece n sizes readings i k = pair_costs (lines_of n sizes readings) i (suc i + k
 abbrev pub invariant-loop-j : goal.invariant-loop-j
 invariant-loop-j l =
     let before = join_to (piece l.n l.sizes l.readings l.i) (l.j - suc l.i) in
-    (l.count ≡ l.n) × (l.i < l.j) × (l.j ≤ l.n) × (l.end ≡ l.at + length before) × (length l.stream ≡ length l.initial.stream) × (l.stream ≡ put_at l.initial.stream l.at before)
-
-abbrev pub decreases-loop-j : goal.decreases-loop-j
-decreases-loop-j l = l.count - l.j
+    (l.count ≡ l.n) × (l.i < l.j) × (l.j ≤ l.n) × (l.end ≡ l.at + length before) × (l.stream ≡ put_at l.initial.stream l.at before)

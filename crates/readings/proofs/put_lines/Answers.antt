@@ -6,18 +6,19 @@ use lib.ListN.{length}
 use Rattle.base.specs.Put.{put_at}
 use Rattle.readings.specs.Readings.{gap, gap_cost}
 use Rattle.readings.specs.Pieces.{pair_of, lines_pair}
+use borrow.Author.Rules.{rules}
 use Rattle.readings.proofs.put_lines.Goals as goal
 use Rattle.readings.proofs.put_lines.Goals.{After-put_pair-arg-1}
 
 -- what is written is the costs of the two lines
 same : (c : After-put_pair-arg-1) → let a = c.args in
-    pair_of c.pair_cost.result c.wide.result c.wide-2.result ≡ lines_pair a.sizes a.readings.now a.i a.j
+    pair_of c.pair_cost.result c.from.result c.from-2.result ≡ lines_pair a.sizes a.readings.now a.i a.j
 same c =
     let e : c.pair_cost.result ≡ gap_cost (gap c.u16_at-earlier.result c.u16_at-later.result) = c.pair_cost.ensures.0 in
-    rw (c.wide-2.ensures.0, c.wide.ensures.0, e, c.u16_at-later.ensures.0, c.u16_at-earlier.ensures.0)
+    rw (c.from-2.ensures, c.from.ensures, e, c.u16_at-later.ensures.0, c.u16_at-earlier.ensures.0)
 
 pub put_pair-requires : goal.put_pair-requires
-put_pair-requires c = (omega arith, omega arith, omega arith, rw (same (goal.at.put_pair-requires c).After-put_pair-arg-1) c.requires.2)
+put_pair-requires c = (omega arith, rw c.from.ensures (search rules), rw c.from-2.ensures (search rules), rw (same (goal.at.put_pair-requires c).After-put_pair-arg-1) c.requires.2)
 
 pub returns : goal.returns
 returns c =

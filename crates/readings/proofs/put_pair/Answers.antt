@@ -9,11 +9,10 @@ use lib.Seq.{paste-zero}
 use Rattle.base.specs.Put.{put_at}
 use Rattle.base.specs.Join.Laws.{join_turn, join_room}
 use Rattle.readings.specs.Pieces.{row_of, pair_of, pair_length}
-use borrow.Author.Rules.{rules}
 use Rattle.readings.proofs.put_pair.Goals as goal
 
 pub loop-u-init : goal.loop-u-init
-loop-u-init c = (omega arith, refl, paste-zero c.args.stream.now c.args.at [])
+loop-u-init c = paste-zero c.args.stream.now c.args.at []
 
 pub overflow_mul-e-in-loop-u : goal.overflow_mul-e-in-loop-u
 overflow_mul-e-in-loop-u c =
@@ -38,11 +37,8 @@ loop-u-preserved c =
     let a = c.args in
     let l = c.loop-u in
     let room : a.at ≤ length a.stream.now = omega arith in
-    let place : a.at + 2 * a.e * l.u ≡ a.at + length (pair_of a.cost l.u a.e) = omega (arith, pair_length a.cost l.u a.e) in (
-      omega arith,
-      search rules,
-      c.put_row.ensures ∙ join_turn (row_of a.cost a.e) l.u a.at _ a.stream.now l.stream (row_of a.cost a.e l.u) room l.invariant.2 place refl,
-    )
+    let place : a.at + 2 * a.e * l.u ≡ a.at + length (pair_of a.cost l.u a.e) = omega (arith, pair_length a.cost l.u a.e) in
+    c.put_row.ensures ∙ join_turn (row_of a.cost a.e) l.u a.at _ a.stream.now l.stream (row_of a.cost a.e l.u) room l.invariant place refl
 
 pub overflow_mul-result-2 : goal.overflow_mul-result-2
 overflow_mul-result-2 c =
@@ -60,4 +56,4 @@ returns c =
     let a = c.args in
     let l = c.loop-u in
     let e : l.u ≡ a.d = omega arith in
-    (omega (arith, pair_length a.cost a.d a.e), l.invariant.2 ∙ ap (λ k. put_at a.stream.now a.at (pair_of a.cost k a.e)) e)
+    (omega (arith, pair_length a.cost a.d a.e), l.invariant ∙ ap (λ k. put_at a.stream.now a.at (pair_of a.cost k a.e)) e)

@@ -1,13 +1,8 @@
 -- `put_pair` meets its contract. The loop's invariant: the costs of the first u lots stand at their place. Assumes nothing.
-use Prim.Native.Nat.{◌-◌, ◌≤◌}
 use mathlib.Core.Path.{◌≡◌}
-use lib.ListN.{length}
 use Rattle.base.specs.Put.{put_at}
 use Rattle.readings.specs.Pieces.{pair_of}
 use Rattle.readings.proofs.put_pair.Given as goal
 
 abbrev pub invariant-loop-u : goal.invariant-loop-u
-invariant-loop-u l = (l.u ≤ l.d) × (length l.stream ≡ length l.initial.stream) × (l.stream ≡ put_at l.initial.stream l.at (pair_of l.cost l.u l.e))
-
-abbrev pub decreases-loop-u : goal.decreases-loop-u
-decreases-loop-u l = l.d - l.u
+invariant-loop-u l = l.stream ≡ put_at l.initial.stream l.at (pair_of l.cost l.u l.e)

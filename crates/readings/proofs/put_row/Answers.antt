@@ -1,7 +1,7 @@
 -- `put_row` meets its contract. The loop's invariant: the costs with the first v lots stand at their place. Assumes nothing.
 use Prim.Native.Nat.{suc, ◌+◌, ◌*◌, ◌≤◌}
 use mathlib.Core.List.{[]}
-use mathlib.Core.Path.{◌≡◌, refl, ap, ◌∙◌}
+use mathlib.Core.Path.{◌≡◌, ap, ◌∙◌}
 use native.Mathlib.Omega.{arith}
 use lib.ListN.{length}
 use lib.Seq.{paste-zero}
@@ -10,11 +10,10 @@ use Rattle.base.specs.Put.{put_at}
 use Rattle.base.specs.Join.Laws.{join_turn}
 use Rattle.readings.specs.Readings.{in_lots}
 use Rattle.readings.specs.Pieces.{row_of, row_length, lots_from_one}
-use borrow.Author.Rules.{rules}
 use Rattle.readings.proofs.put_row.Goals as goal
 
 pub loop-v-init : goal.loop-v-init
-loop-v-init c = (omega arith, refl, paste-zero c.args.stream.now c.args.at [])
+loop-v-init c = paste-zero c.args.stream.now c.args.at []
 
 pub overflow_mul-v : goal.overflow_mul-v
 overflow_mul-v c = omega arith
@@ -35,17 +34,14 @@ loop-v-preserved c =
     let l = c.loop-v in
     let lots = c.in_lots in
     let room : a.at ≤ length a.stream.now = omega arith in
-    let place : a.at + 2 * l.v ≡ a.at + length (row_of a.cost l.v a.u) = omega (arith, row_length a.cost l.v a.u) in (
-      omega arith,
-      search rules,
-      c.put_cost.ensures
-          ∙ join_turn (λ v. le16 (in_lots a.cost (suc a.u) (suc v))) l.v a.at _ a.stream.now l.stream (le16 lots.result) room l.invariant.2 place
-          (ap le16 (lots.ensures ∙ lots_from_one a.cost a.u l.v)),
-    )
+    let place : a.at + 2 * l.v ≡ a.at + length (row_of a.cost l.v a.u) = omega (arith, row_length a.cost l.v a.u) in
+    c.put_cost.ensures
+    ∙ join_turn (λ v. le16 (in_lots a.cost (suc a.u) (suc v))) l.v a.at _ a.stream.now l.stream (le16 lots.result) room l.invariant place
+    (ap le16 (lots.ensures ∙ lots_from_one a.cost a.u l.v))
 
 pub returns : goal.returns
 returns c =
     let a = c.args in
     let l = c.loop-v in
     let e : l.v ≡ a.e = omega arith in
-    l.invariant.2 ∙ ap (λ k. put_at a.stream.now a.at (row_of a.cost k a.u)) e
+    l.invariant ∙ ap (λ k. put_at a.stream.now a.at (row_of a.cost k a.u)) e

@@ -1,5 +1,4 @@
 -- `put_shape` meets its contract: one byte set, and the sizes put behind it. Assumes nothing.
-use Prim.Native.Nat.{◌-◌}
 use mathlib.Core.Path.{◌≡◌, ap, ◌∙◌}
 use native.Mathlib.Omega.{arith}
 use lib.ListN.{length, set, take, length-set}
@@ -17,6 +16,5 @@ shape_of-stream c =
 pub returns : goal.returns
 returns c =
     let long : length c.args.sizes ≡ 16 = search rules in
-    let count : c.wide-count.result - 0 ≡ c.args.n = omega arith in
-    c.put.ensures ∙ ap (λ k. put_within (set c.args.stream.now 0 c.args.n) 1 (take k c.args.sizes)) count
+    c.put.ensures ∙ ap (λ k. put_within (set c.args.stream.now 0 c.args.n) 1 (take k c.args.sizes)) c.from-count.ensures
     ∙ shape_put c.args.stream.now c.args.sizes c.args.n c.requires.1 (omega arith)

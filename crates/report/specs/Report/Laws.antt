@@ -6,7 +6,6 @@ use Rattle.std.proofs.Common.{◌∙◌, arith, take_at}
 use borrow.Author.Tests.{eq-eqb}
 use Rattle.base.specs.declared.Length.{Length}
 use Rattle.base.specs.Limits.{pool_size, stream_size}
-use Rattle.base.specs.Refusal.Laws.{or_first}
 use Rattle.table.specs.Stream.{stream_refusal}
 use Rattle.table.specs.File.{stream_of, read_refusal, read_of, read_into}
 use Rattle.table.specs.FileLaws.{read_most}
@@ -21,17 +20,12 @@ use Rattle.slots.specs.Slot.{slot_pool_size}
 use Rattle.slots.specs.Settle as S
 use Rattle.report.specs.Report.{file_refusal, settle_refusal, slots_refusal}
 
+-- what reading a file into a buffer of a stream's size gives: its refusal, or the stream, in front of the buffer
 module _ (f out : List ℕ) (r : Length) (e : r ≡ read_of f (length out)) (room : length out ≡ stream_size) where
-  refusal_of_lem : r.refusal ≡ read_refusal f stream_size
+  pub refusal_of_lem : r.refusal ≡ read_refusal f stream_size
   unfolding read_of
   refusal_of_lem = ap (λ (x : Length). x.refusal) e ∙ rw room
 
-  -- a file that isn't read
-  pub unread : (done : List ℕ → ℕ) → (r.refusal ≡ 0 → ⊥) → r.refusal ≡ file_refusal done f
-  unfolding file_refusal
-  unread done h = refusal_of_lem ∙ sym (or_first (read_refusal f stream_size) (done (stream_of f)) (λ z. h (refusal_of_lem ∙ z)))
-
--- a file that is read: the front of the buffer is its stream
 module _ (f out : List ℕ) (r : Length) (e : r ≡ read_of f (length out)) (room : length out ≡ stream_size) (h : r.refusal ≡ 0) where
   read_of_lem : read_refusal f (length out) ≡ 0
   unfolding read_of
@@ -48,9 +42,10 @@ module _ (f out : List ℕ) (r : Length) (e : r ≡ read_of f (length out)) (roo
   unfolding read_into
   read_front left q = rw (length_of, q, eq-eqb (read_refusal f (length out)) 0 read_of_lem) (take_at (stream_of f) (drop (length (stream_of f)) out) (length (stream_of f)) refl)
 
-  pub read_report : (done : List ℕ → ℕ) (k : ℕ) (part : List ℕ) → part ≡ stream_of f → k ≡ done part → k ≡ file_refusal done f
-  unfolding file_refusal
-  read_report done k part p q = let z : read_refusal f stream_size ≡ 0 = rw (← room) read_of_lem in q ∙ rw (p, z)
+-- a file that is read: what is done with its stream
+pub read_report : (f : List ℕ) → read_refusal f stream_size ≡ 0 → (done : List ℕ → ℕ) (k : ℕ) (part : List ℕ) → part ≡ stream_of f → k ≡ done part → k ≡ file_refusal done f
+unfolding file_refusal
+read_report f z done k part p q = q ∙ rw (p, z)
 
 -- the number of either search
 pub found_refusal : (s : List ℕ) (r : Found) → r ≡ search_of s → r.refusal ≡ search_refusal s

@@ -6,7 +6,7 @@ use Rattle.table.specs.Form.Laws.{convert_fits}
 use Rattle.retest.proofs.show_file.Goals as goal
 
 pub slice_bounds-two-end : goal.slice_bounds-two-end
-slice_bounds-two-end c = omega (arith, convert_fits _ _ _ _ c.convert-done.ensures.0, c.convert-done.auto.out)
+slice_bounds-two-end g c = omega (arith, convert_fits _ _ _ _ c.in-Ok.ensures.0)
 
 pub slice_bounds-show_table-end : goal.slice_bounds-show_table-end
-slice_bounds-show_table-end c = sym (length-take-le _ _ (omega (arith, convert_fits _ _ _ _ c.convert-done.ensures.0, c.convert-done.auto.out)))
+slice_bounds-show_table-end g c = sym (length-take-le _ _ (omega (arith, convert_fits _ _ _ _ c.in-Ok.ensures.0)))

@@ -1,9 +1,12 @@
 -- `show_table` is safe: the stream that was read is the front of the buffer.
-use Rattle.std.proofs.Common.{rules, replicate}
+use mathlib.Core.Path.{sym}
+use native.Mathlib.Omega.{arith}
+use lib.Seq.{length-take-le}
 use Rattle.retest.proofs.Laws.{read_fits}
 use Rattle.retest.proofs.show_table.Goals as goal
 
 pub slice_bounds-stream-end : goal.slice_bounds-stream-end
-slice_bounds-stream-end c =
-    let p = read_fits c.args.file.now (replicate 61970 0) c.read-r.result c.read-r.ensures.0 c.if-refusal-ne0.false in
-    search rules
+slice_bounds-stream-end g c = omega (arith, read_fits _ _ _ c.in-Ok.ensures.0)
+
+pub slice_bounds-show_stream-end : goal.slice_bounds-show_stream-end
+slice_bounds-show_stream-end g c = sym (length-take-le _ _ (omega (arith, read_fits _ _ _ c.in-Ok.ensures.0)))

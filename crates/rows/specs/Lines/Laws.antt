@@ -1,14 +1,14 @@
 -- Laws of a line's text, as the code writes it: where there is room, names without quotes byte by byte, quotes written twice. Assumes nothing.
-use Rattle.std.specs.Prelude.{ℕ, ◌+◌, ◌*◌, ◌-◌, ◌/◌, ◌≤◌, ◌<◌, ◌≡◌, refl, List, [], ◌∷◌, ◌++◌, ltb, leb, eqb, length, get_or, set, take, drop}
-use Rattle.std.proofs.Common.{sym, ap, ◌∙◌, append_assoc, arith, add-one, ltb-true, ltb-false, le-leb, lt-ltb, le-ltb, length-append, length-drop, take-suc, drop-cons, length-take-le}
-use mathlib.Core.Bool.{Bool, true, false, cond, not, ◌&&◌}
+use Rattle.std.specs.Prelude.{ℕ, ◌+◌, ◌*◌, ◌-◌, ◌/◌, ◌≤◌, ◌<◌, ◌≡◌, refl, List, [], ◌∷◌, ◌++◌, ltb, leb, eqb, length, get_or, set, take, drop, Some, None, slice_get}
+use Rattle.std.proofs.Common.{sym, ap, ◌∙◌, append_assoc, arith, add-one, ltb-true, ltb-false, le-leb, lt-ltb, le-ltb, length-append, length-drop, take-suc, length-take-le}
+use Rattle.std.specs.List.{list_all}
+use mathlib.Core.Bool.{Bool, true, false, cond, not, ◌&&◌, ◌||◌}
 use Rattle.std.proofs.lemmas.Bool.{lt-leb}
-use Rattle.std.proofs.Math.Seq.{drop-length}
 use Rattle.std.proofs.lemmas.List.Edits.{sets-eq}
 use Rattle.base.specs.Put.{put_at, put_within}
 use Rattle.base.specs.Put.Laws.{put_after, put-fits}
-use Rattle.rows.specs.Row.{sort_of, digit}
-use Rattle.rows.specs.Lines.{ordinary, bare_from, is_bare, twice, doubled, name_text, glyph, tail_text, Line, line_text, written_length, written_into}
+use Rattle.rows.specs.Row.{sort_of, is_solid}
+use Rattle.rows.specs.Lines.{ordinary, can_end, solid_ends, bare_from, is_bare, twice, doubled, name_text, glyph, tail_text, Line, line_text, written_length, written_into}
 
 -- ---- room
 
@@ -38,23 +38,37 @@ has_room n room e = go (ltb room (2 * n + 11)) refl e
 
 -- ---- names without quotes
 
-pub bare_none : (l : List ℕ) → length l ≡ 0 → is_bare l ≡ false
-unfolding is_bare
-bare_none [] e = refl
-bare_none (b ∷ l) e = absurd (omega (arith, e))
+last_ordinary : (b : ℕ) → is_solid (sort_of b) ≡ (ordinary b && true && is_solid (sort_of b))
+last_ordinary b = go (eqb b 32) (is_solid (sort_of b))
+  where
+    go : (p q : Bool) → q ≡ ((p || q) && true && q)
+    go true q = refl
+    go false true = refl
+    go false false = refl
 
-pub bare-first : (l : List ℕ) → 0 < length l → is_bare l ≡ (leb digit (sort_of (get_or l 0 0)) && bare_from (get_or l 0 0) (drop 1 l))
-unfolding is_bare
-bare-first [] h = absurd (omega arith)
-bare-first (b ∷ l) h = refl
+and_assoc : (a b c : Bool) → (a && (b && c)) ≡ (a && b && c)
+and_assoc true b c = refl
+and_assoc false b c = refl
 
-pub bare_more : (l : List ℕ) (i : ℕ) → i + 1 < length l → bare_from (get_or l i 0) (drop (i + 1) l) ≡ (ordinary (get_or l i 0) && bare_from (get_or l (i + 1) 0) (drop (i + 1 + 1) l))
+and_last : (a b c : Bool) → (a && (b && c)) ≡ (a && c && b)
+and_last true true true = refl
+and_last true true false = refl
+and_last true false true = refl
+and_last true false false = refl
+and_last false b c = refl
+
+-- all bytes are ordinary, and the last can stand at an end
+bare_all : (b : ℕ) (l : List ℕ) → bare_from b l ≡ (list_all ordinary (b ∷ l) && can_end (slice_get (b ∷ l) (length l)))
 unfolding bare_from
-bare_more l i h = rw (drop-cons l (i + 1) 0 h, add-one (i + 1))
+bare_all b [] = last_ordinary b
+bare_all b (c ∷ l) = rw (bare_all c l) (and_assoc (ordinary b) (list_all ordinary (c ∷ l)) (can_end (slice_get (c ∷ l) (length l))))
 
-pub bare-last : (l : List ℕ) (i : ℕ) → i + 1 ≡ length l → bare_from (get_or l i 0) (drop (i + 1) l) ≡ leb digit (sort_of (get_or l i 0))
-unfolding bare_from
-bare-last l i e = rw (e, drop-length l)
+pub bare_ends : (l : List ℕ) → is_bare l ≡ (solid_ends l && list_all ordinary l)
+unfolding is_bare
+bare_ends [] = refl
+bare_ends (b ∷ l) =
+    let n : length (b ∷ l) - 1 ≡ length l = omega arith in
+    rw (n, bare_all b l) (and_last (is_solid (sort_of b)) (list_all ordinary (b ∷ l)) (can_end (slice_get (b ∷ l) (length l))))
 
 -- ---- quotes written twice
 
@@ -157,10 +171,10 @@ pub line_put : (out name : List ℕ) (x d at : ℕ) → at ≡ length (name_text
 unfolding line_text
 line_put out name x d at e = let f : at ≡ 0 + length (name_text name) = omega arith in rw f (put_after out (name_text name) (tail_text x d) 0 (omega arith))
 
-pub not_written : (name out text : List ℕ) → length out < 2 * length name + 11 → (0 ≡ written_length name (length out) text) × (out ≡ written_into name out text)
+pub not_written : (name out text : List ℕ) → length out < 2 * length name + 11 → (None ≡ written_length name (length out) text) × (out ≡ written_into name out text)
 unfolding written_length written_into
 not_written name out text h = let t = lt-ltb (length out) (2 * length name + 11) h in (rw t, rw t)
 
-pub written : (name out text : List ℕ) → 2 * length name + 11 ≤ length out → (length text ≡ written_length name (length out) text) × (put_at out 0 text ≡ written_into name out text)
+pub written : (name out text : List ℕ) → 2 * length name + 11 ≤ length out → (Some (length text) ≡ written_length name (length out) text) × (put_at out 0 text ≡ written_into name out text)
 unfolding written_length written_into
 written name out text h = let t = le-ltb (length out) (2 * length name + 11) h in (rw t, rw t)

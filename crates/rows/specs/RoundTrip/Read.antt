@@ -2,16 +2,18 @@
 -- lines, one after another; and what may come behind them, nothing or a listing. Assumes nothing.
 --     Ready, line_ready, Reads, lines_read    lines
 --     Ends, ends_here, ends_listing           what comes behind them
-use Rattle.std.specs.Prelude.{ℕ, ◌+◌, ◌-◌, ◌≤◌, ◌<◌, ◌≡◌, refl, Bool, true, false, cond, not, ◌&&◌, List, [], ◌∷◌, ◌++◌, eqb, length, set, take, drop}
+use Rattle.std.specs.Prelude.{ℕ, ◌+◌, ◌-◌, ◌≤◌, ◌<◌, ◌≡◌, refl, Bool, true, false, cond, not, ◌&&◌, List, [], ◌∷◌, ◌++◌, eqb, length, set, take, drop, Some, None, is_some}
 use Rattle.std.proofs.Common.{sym, ap, subst, ◌∙◌, append_assoc, append-nil, arith, ne_eqb, length-append, length-take-le, take_at, drop_at}
 use Rattle.std.proofs.lemmas.Bool.{false≢true}
 use Rattle.std.proofs.lemmas.List.Edits.{sets, sets-eq}
 use Rattle.std.proofs.Math.Seq.{length-sets}
 use Rattle.base.specs.Members.{Every, here, there}
+use Rattle.rows.specs.declared.Fault.TheVariants.{NotClosed, NoRows}
 use Rattle.rows.specs.declared.Row.{Row}
 use Rattle.rows.specs.declared.Sheet.{Sheet}
 use Rattle.rows.specs.Cases.{by_test}
-use Rattle.rows.specs.Row.{sort_of, next, in_name, fed, fed_by}
+use Rattle.rows.specs.Row.{sort_of, next, in_name, is_start, fed, fed_by}
+use Rattle.rows.specs.declared.scan.Sort.TheVariants.{Comma}
 use Rattle.rows.specs.Sheet.{fresh, blank_sheet, reading, passed, refused, taken, ended, entered, eaten, kept, sheet_after, names_after, closed_by}
 use Rattle.rows.specs.Sheet.Laws.{eaten-row}
 use Rattle.rows.specs.Lines.{Line, lines_in, cut, is_bare, doubled, name_text, tail_text, line_text, text_of}
@@ -47,14 +49,14 @@ pub record Ready (room at : ℕ) (s : Sheet) (names : List ℕ) (lines : List Li
   pub laid : Laid s
   pub row : s.row ≡ fresh at
   pub free : s.stopped ≡ false
-  pub sound : s.fault ≡ 0
+  pub sound : s.fault ≡ None
   pub long : length names ≡ room
   pub held : lines_in s names ≡ lines
 
 pub blank_ready : (names : List ℕ) → Ready (length names) 0 blank_sheet names []
 unfolding lines_in cut
 blank_ready names =
-    let laid : Laid blank_sheet = record { lengths = refl; readings = refl; sizes = refl; few = omega arith; behind = refl } in
+    let laid : Laid blank_sheet = record { room = refl; few = omega arith; behind = refl } in
     record { laid = laid; row = refl; free = refl; sound = refl; long = refl; held = refl }
 
 -- how many lines there are
@@ -104,7 +106,7 @@ module _ (room at : ℕ) (s : Sheet) (names : List ℕ) (lines : List Line) (lin
     free = y.free;
     sound = y.sound;
     long = length-sets names at line.name ∙ y.long;
-    held = taken_lines s r y.laid few (sym starts) all (omega (arith, row-reading at line g, g.most))
+    held = taken_lines s r y.laid few (sym starts) all
         ∙ ap (λ (l : List Line). l ++ line_by r all ∷ []) same ∙ ap (λ (x : Line). lines ++ x ∷ []) own;
   }
 
@@ -150,13 +152,13 @@ lines_read room (line ∷ lines) before at s names y good few fits =
 last-feed : (room at : ℕ) (s : Sheet) → s.row ≡ fresh at → s.stopped ≡ false → eaten room s (10 ∷ []) ≡ passed s s.first at
 unfolding fed fed_by sort_of next ended
 last-feed room at s e free =
-    eaten-row room s (10 ∷ []) free (ap (λ (x : Row). eqb x.phase 0 && false) e) ∙ ap (λ (x : Row). entered s (fed room x 10)) e
+    eaten-row room s (10 ∷ []) free (ap (λ (x : Row). is_start x.phase && false) e) ∙ ap (λ (x : Row). entered s (fed room x 10)) e
 
-closed_same : (s : Sheet) → s.fault ≡ 0 → eqb s.row.phase 0 ≡ true → 0 < s.count → closed_by s ≡ s
+closed_same : (s : Sheet) → s.fault ≡ None → is_start s.row.phase ≡ true → 0 < s.count → closed_by s ≡ s
 unfolding closed_by
-closed_same s a b c = go (not (eqb s.fault 0)) (not (eqb s.row.phase 0)) (eqb s.count 0) (rw a) (rw b) (ne_eqb s.count 0 (λ e. omega (arith, e)))
+closed_same s a b c = go (is_some s.fault) (not (is_start s.row.phase)) (eqb s.count 0) (rw a) (rw b) (ne_eqb s.count 0 (λ e. omega (arith, e)))
   where
-    go : (p q t : Bool) → p ≡ false → q ≡ false → t ≡ false → cond p s (cond q (refused s s.row 10) (cond t (refused s s.row 11) s)) ≡ s
+    go : (p q t : Bool) → p ≡ false → q ≡ false → t ≡ false → cond p s (cond q (refused s s.row (Some NotClosed)) (cond t (refused s s.row (Some NoRows)) s)) ≡ s
     go p q t e f g = rw (e, f, g)
 
 -- what comes behind the lines adds none and has no fault
@@ -164,7 +166,7 @@ pub record Ends (room : ℕ) (t : Sheet) (was rest : List ℕ) : Type 0 where
   pub end : Sheet
   pub sheet : closed_by (eaten room (sheet_after room t rest) (10 ∷ [])) ≡ end
   pub names : names_after t rest was ≡ was
-  pub sound : end.fault ≡ 0
+  pub sound : end.fault ≡ None
   pub held : lines_in end was ≡ lines_in t was
 
 -- nothing
@@ -201,7 +203,7 @@ stopped_names s (b ∷ l) names e =
 -- a comma at a row's start is no byte of a name
 kept_none : (s : Sheet) (names : List ℕ) (at : ℕ) → s.row ≡ fresh at → kept s 44 names ≡ names
 unfolding kept next sort_of
-kept_none s names at e = ap (λ (x : Row). cond (not s.stopped && in_name (next x.phase 2)) (set names s.row.kept 44) names) e ∙ go (not s.stopped)
+kept_none s names at e = ap (λ (x : Row). cond (not s.stopped && in_name (next x.phase Comma)) (set names s.row.kept 44) names) e ∙ go (not s.stopped)
   where
     go : (t : Bool) → cond (t && false) (set names s.row.kept 44) names ≡ names
     go true = refl
@@ -209,18 +211,18 @@ kept_none s names at e = ap (λ (x : Row). cond (not s.stopped && in_name (next 
 
 -- a listing
 listing_eaten : (room at : ℕ) (s : Sheet) (rest : List ℕ) → s.row ≡ fresh at → s.stopped ≡ false
-    → eaten room s (44 ∷ 108 ∷ 111 ∷ 116 ∷ rest) ≡ refused s s.row 0
+    → eaten room s (44 ∷ 108 ∷ 111 ∷ 116 ∷ rest) ≡ refused s s.row None
 unfolding eaten
 listing_eaten room at s _ e free =
-    let P : Sheet → Type 0 = λ t. t ≡ refused s s.row 0 in
+    let P : Sheet → Type 0 = λ t. t ≡ refused s s.row None in
     by_test P s.stopped (λ f. absurd (false≢true (sym free ∙ f)))
-    (λ _. by_test P (eqb s.row.phase 0 && true) (λ _. refl) (λ f. absurd (false≢true (sym f ∙ ap (λ (x : Row). eqb x.phase 0 && true) e))))
+    (λ _. by_test P (is_start s.row.phase && true) (λ _. refl) (λ f. absurd (false≢true (sym f ∙ ap (λ (x : Row). is_start x.phase && true) e))))
 
 pub ends_listing : (room at : ℕ) (t : Sheet) (names : List ℕ) (lines : List Line) (rest : List ℕ) → Ready room at t names lines → 0 < t.count
     → Ends room t names (44 ∷ 108 ∷ 111 ∷ 116 ∷ rest)
 unfolding sheet_after names_after lines_in kept next sort_of
 ends_listing room at t names lines rest y some =
-    let end : Sheet = refused t t.row 0 in
+    let end : Sheet = refused t t.row None in
     let l : List ℕ = 108 ∷ 111 ∷ 116 ∷ rest in
     let one = listing_eaten room at t rest y.row y.free in
     let sheet : sheet_after room (eaten room t (44 ∷ l)) l ≡ end = ap (λ (s : Sheet). sheet_after room s l) one ∙ stopped_sheet room end l refl in
@@ -228,7 +230,7 @@ ends_listing room at t names lines rest y some =
     record {
       end = end;
       sheet = ap (λ (s : Sheet). closed_by (eaten room s (10 ∷ []))) sheet ∙ ap closed_by (stopped-eaten room end (10 ∷ []) refl)
-          ∙ closed_same end refl (ap (λ (x : Row). eqb x.phase 0) y.row) some;
+          ∙ closed_same end refl (ap (λ (x : Row). is_start x.phase) y.row) some;
       names = ap (λ (s : Sheet). names_after s l (kept t 44 names)) (listing_eaten (length names) at t rest y.row y.free)
           ∙ stopped_names end l (kept t 44 names) refl ∙ none;
       sound = refl;

@@ -1,13 +1,15 @@
 -- Laws of a sheet: what holds of a row without a fault; the row's number rises by at most one with a byte; one more byte of a text. Assumes nothing.
-use Rattle.std.specs.Prelude.{ℕ, ◌+◌, ◌≤◌, ◌<◌, ◌≡◌, refl, Bool, true, false, cond, not, ◌&&◌, List, [], ◌∷◌, ltb, leb, eqb, length, get_or, set, drop}
-use Rattle.std.proofs.Common.{sym, ◌∙◌, arith, add-zero, add-one, ltb-false, leb-false, length-set, drop-cons, get_or-drop}
-use Rattle.std.proofs.lemmas.Bool.{eqb-false}
+use Rattle.std.specs.Prelude.{ℕ, ◌+◌, ◌≤◌, ◌<◌, ◌≡◌, refl, Bool, true, false, cond, not, ◌&&◌, ◌||◌, List, [], ◌∷◌, ltb, leb, length, get_or, set, drop, Option, Some, None, is_some}
+use Rattle.std.proofs.Common.{◌∙◌, arith, add-one, ltb-false, leb-false, length-set, drop-cons}
+use Rattle.std.specs.Option.{option_or}
 use Rattle.std.proofs.Math.Seq.{drop-length}
+use Rattle.rows.specs.declared.Fault.{Fault}
+use Rattle.rows.specs.declared.Fault.TheVariants.{MoreRows}
 use Rattle.rows.specs.declared.Row.{Row}
 use Rattle.rows.specs.declared.Sheet.{Sheet}
 use Rattle.rows.specs.Cases.{by_test}
-use Rattle.rows.specs.Row.{start, in_name, next, sort_of, fed, over}
-use Rattle.rows.specs.Sheet.{row_fault, reading, more_rows, with_row, passed, refused, taken, ended, starts_listing, entered, eaten, kept, sheet_after, names_after}
+use Rattle.rows.specs.Row.{in_name, is_over, is_start, next, sort_of, fed}
+use Rattle.rows.specs.Sheet.{row_fault, value_fault, reading, with_row, passed, refused, taken, ended, starts_listing, entered, eaten, kept, sheet_after, names_after}
 
 -- ---- a row without a fault
 
@@ -18,29 +20,39 @@ pub record Sound (r : Row) : Type 0 where
   pub some : 1 ≤ r.lots
   pub few : r.lots ≤ 16
 
-pub not_true : (b : Bool) → not b ≡ true → b ≡ false
-not_true true e = sym e
-not_true false e = refl
+pub no_fault : (f : Fault) → Some f ≡ None → ⊥
+no_fault f e = cc
 
-pub sound : (r : Row) → row_fault r ≡ 0 → Sound r
+or_none : (a b : Option Fault) → option_or a b ≡ None → b ≡ None
+or_none None b e = e
+or_none (Some f) b e = absurd (no_fault f e)
+
+neither : (a b : Bool) → (a || b) ≡ false → (a ≡ false) × (b ≡ false)
+neither true b e = cc
+neither false b e = (refl, e)
+
+value_sound : (r : Row) → value_fault r ≡ None → Sound r
+unfolding value_fault
+value_sound r =
+    let P : Option Fault → Type 0 = λ x. x ≡ None → Sound r in
+    by_test P (leb r.solid r.start) (λ _ e. absurd (no_fault _ e)) (λ a.
+    by_test P (ltb (reading r) 100) (λ _ e. absurd (no_fault _ e)) (λ b.
+    by_test P (ltb 400 (reading r)) (λ _ e. absurd (no_fault _ e)) (λ c.
+    by_test P (ltb r.lots 1 || ltb 16 r.lots) (λ _ e. absurd (no_fault _ e)) (λ d _.
+    let f = neither (ltb r.lots 1) (ltb 16 r.lots) d in record
+    { named = leb-false _ _ a; least = ltb-false _ _ b; most = ltb-false _ _ c; some = ltb-false _ _ f.0; few = ltb-false _ _ f.1 }))))
+
+pub sound : (r : Row) → row_fault r ≡ None → Sound r
 unfolding row_fault
-sound r =
-    let P : ℕ → Type 0 = λ x. x ≡ 0 → Sound r in
-    by_test P (not (eqb r.fault 0)) (λ t e. absurd (eqb-false r.fault 0 (not_true _ t) e)) (λ _.
-    by_test P (leb r.solid r.start) (λ _ e. absurd (omega (arith, e))) (λ a.
-    by_test P (ltb (reading r) 100) (λ _ e. absurd (omega (arith, e))) (λ b.
-    by_test P (ltb 400 (reading r)) (λ _ e. absurd (omega (arith, e))) (λ c.
-    by_test P (ltb r.lots 1) (λ _ e. absurd (omega (arith, e))) (λ d.
-    by_test P (ltb 16 r.lots) (λ _ e. absurd (omega (arith, e))) (λ f _. record
-    { named = leb-false _ _ a; least = ltb-false _ _ b; most = ltb-false _ _ c; some = ltb-false _ _ d; few = ltb-false _ _ f }))))))
+sound r e = value_sound r (or_none r.fault (value_fault r) e)
 
 -- ---- the row's number
 
 ended_number : (s : Sheet) (r : Row) → (ended s r).number ≤ s.number + 1
 unfolding ended
-ended_number s r = go r.empty (s.first && not r.digits) (not (eqb (row_fault r) 0)) (leb 16 s.count)
+ended_number s r = go r.empty (s.first && not r.digits) (is_some (row_fault r)) (leb 16 s.count)
   where
-    go : (a b c d : Bool) → (cond a (passed s s.first r.start) (cond b (passed s false r.start) (cond c (refused s r (row_fault r)) (cond d (refused s r more_rows) (taken s r))))).number ≤ s.number + 1
+    go : (a b c d : Bool) → (cond a (passed s s.first r.start) (cond b (passed s false r.start) (cond c (refused s r (row_fault r)) (cond d (refused s r (Some MoreRows)) (taken s r))))).number ≤ s.number + 1
     go true b c d = omega arith
     go false true c d = omega arith
     go false false true d = omega arith
@@ -49,12 +61,12 @@ ended_number s r = go r.empty (s.first && not r.digits) (not (eqb (row_fault r) 
 
 pub eaten_number : (room : ℕ) (s : Sheet) (l : List ℕ) → (eaten room s l).number ≤ s.number + 1
 unfolding eaten
-eaten_number room s l = go s.stopped (eqb s.row.phase start && starts_listing l) (eqb (fed room s.row (get_or l 0 0)).phase over)
+eaten_number room s l = go s.stopped (is_start s.row.phase && starts_listing l) (is_over (fed room s.row (get_or l 0 0)).phase)
   where
     r : Row
     r = fed room s.row (get_or l 0 0)
 
-    go : (a b c : Bool) → (cond a s (cond b (refused s s.row 0) (cond c (ended s r) (with_row s r)))).number ≤ s.number + 1
+    go : (a b c : Bool) → (cond a s (cond b (refused s s.row None) (cond c (ended s r) (with_row s r)))).number ≤ s.number + 1
     go true b c = omega arith
     go false true c = omega arith
     go false false true = ended_number s r
@@ -63,12 +75,9 @@ eaten_number room s l = go s.stopped (eqb s.row.phase start && starts_listing l)
 -- ---- a byte
 
 -- no listing begins here, and nothing stopped
-pub eaten-row : (room : ℕ) (s : Sheet) (l : List ℕ) → s.stopped ≡ false → (eqb s.row.phase start && starts_listing l) ≡ false → eaten room s l ≡ entered s (fed room s.row (get_or l 0 0))
+pub eaten-row : (room : ℕ) (s : Sheet) (l : List ℕ) → s.stopped ≡ false → (is_start s.row.phase && starts_listing l) ≡ false → eaten room s l ≡ entered s (fed room s.row (get_or l 0 0))
 unfolding eaten
 eaten-row room s l a b = rw (a, b)
-
-pub listing_last : (t : Bool) (l : List ℕ) → t ≡ true → get_or l 0 0 ≡ 44 → get_or l 1 0 ≡ 108 → get_or l 2 0 ≡ 111 → (t && starts_listing l) ≡ eqb (get_or l 3 0) 116
-listing_last t l e f g h = rw (e, f, g, h)
 
 -- ---- names
 
@@ -95,10 +104,6 @@ pub names_more : (s : Sheet) (text names : List ℕ) (i : ℕ) → i < length te
     → names_after s (drop i text) names ≡ names_after (eaten (length names) s (drop i text)) (drop (i + 1) text) (kept s (get_or text i 0) names)
 unfolding names_after
 names_more s text names i h = rw (drop-cons text i 0 h, add-one)
-
--- the byte that begins what is left
-pub first-left : (l : List ℕ) (i : ℕ) → get_or (drop i l) 0 0 ≡ get_or l i 0
-first-left l i = get_or-drop i l 0 0 ∙ rw (add-zero i)
 
 -- nothing is left
 pub sheet_end : (room : ℕ) (s : Sheet) (text : List ℕ) (i : ℕ) → i ≡ length text → sheet_after room s (drop i text) ≡ s

@@ -2,17 +2,16 @@
 -- The threshold's own place is at most 16 before, so at most 17 after backtracking; the counter is at most the value tried. By recursion over
 -- the values left. In order: what is kept; what a value written costs; backtrack; a value written; the values left; assign and resume. Assumes nothing.
 use Prim.Native.Nat.{ℕ, zero, suc, ◌+◌, ◌*◌, ◌≤◌, ◌<◌}
-use Rattle.std.specs.Prelude.{◌≡◌, Bool, cond, List, [], ◌∷◌, leb, eqb, length, set}
+use Rattle.std.specs.Prelude.{◌≡◌, Bool, cond, List, [], ◌∷◌, leb, eqb, length, set, Some}
 use Rattle.std.proofs.Math.Path.{refl, ap}
 use Rattle.std.proofs.Common.{sym, ◌∙◌, subst, arith, get_or-set_same, get_or-set_other, eqb-true}
 use Rattle.std.proofs.Math.Bool.{true, false}
 use Rattle.std.proofs.lemmas.Bool.{false≢true, eqb-false}
 use Rattle.std.proofs.Math.ListN.{get_or, length-set}
+use Rattle.std.specs.Ordering.{is_ge}
 use Rattle.base.specs.Limits.{estimate_limit, pair_limit, unary_limit, prefix_limit}
 use Rattle.base.specs.Members.{Every}
-use Rattle.costs.specs.declared.Cost.{Cost}
-use Rattle.costs.specs.declared.Cost.TheVariants.{Of}
-use Rattle.costs.specs.Cost.{◌⊕◌, sum_to, below, as_number}
+use Rattle.costs.specs.Cost.{Cost, ◌⊕◌, sum_to, below, as_number}
 use Rattle.costs.specs.Cost.Laws.{AtMost, below_numbers, number_behind}
 use Rattle.costs.specs.Instance.{View}
 use Rattle.costs.specs.Order.{place_tried, next, left}
@@ -25,7 +24,7 @@ use Rattle.message.specs.Laws.{blank-filled, bound_by}
 use Rattle.rules.specs.declared.Unit.{Unit as State}
 use Rattle.rules.specs.declared.Sending.{Sending}
 use Rattle.rules.specs.declared.Plan.TheVariants.{Forward}
-use Rattle.rules.specs.State.{with_best, own_value, own_cost, not_less, in_range}
+use Rattle.rules.specs.State.{with_best, own_value, own_cost, in_range}
 use Rattle.rules.specs.Step.{Decision, refused, accepted, Written, recorded, bare_cost, take_off, carried, backed_up, backtrack, write, record_of, after_write, try_after, begun, assign, resume}
 use Rattle.rules.specs.Tests.{is_last, cost_at, try_value, reached_bound}
 use Rattle.rules.specs.Send.{packets}
@@ -80,7 +79,7 @@ module _ (w : View) where
 
   pub cost_set : (l : List ℕ) (a x : ℕ) → cost_with w (set l w.place a) w.place x ≡ cost_with w l w.place x
   unfolding cost_with
-  cost_set l a x = ap (λ (c : Cost). Of (w.unary x) ⊕ c) (sum_set l a x w.place w.place (omega arith))
+  cost_set l a x = ap (λ (c : Cost). Some (w.unary x) ⊕ c) (sum_set l a x w.place w.place (omega arith))
 
   pub paid_written : (u : State) (x c : ℕ) → w.place < length u.values → own_cost w (write w x c u) ≡ as_number (cost_with w u.values w.place x)
   paid_written u x c l = rw (get_or-set_same u.values w.place x 0 l) (ap as_number (cost_set u.values x x))
@@ -128,12 +127,12 @@ module _ (n : ℕ) (sizes : List ℕ) (w : View) (g : GoodView n sizes w) where
 
   -- value x, one of the unit's, whose place is past the counter
   module _ (u : State) (x : ℕ) (i : InHand n sizes w u) (least : 1 ≤ x) (most : x ≤ get_or sizes w.place 0) (tried : u.counter < place_tried w x)
-      (number : cost_with w u.values w.place x ≡ Of (as_number (cost_with w u.values w.place x))) where
+      (number : cost_with w u.values w.place x ≡ Some (as_number (cost_with w u.values w.place x))) where
     abbrev next-cost : ℕ
     next-cost = as_number (cost_at w x u)
 
     next_is : next-cost ≡ u.cost + as_number (cost_with w u.values w.place x)
-    next_is = ap (λ (c : Cost). as_number (Of u.cost ⊕ c)) number
+    next_is = ap (λ (c : Cost). as_number (Some u.cost ⊕ c)) number
 
     abbrev written : State
     written = write w x next-cost u
@@ -192,7 +191,7 @@ module _ (n : ℕ) (sizes : List ℕ) (w : View) (g : GoodView n sizes w) where
                 cost = cost_limit;
                 counter = sym own-stamp;
                 tried = rw own_is tried;
-                threshold = ap not_less (places_equal (suc w.place) written.stamp written.stamp (λ j b. refl));
+                threshold = ap is_ge (places_equal (suc w.place) written.stamp written.stamp (λ j b. refl));
                 paid = omega (arith, paid_is, next_is);
                 bare = omega (arith, bare_is, i.cost);
               };
@@ -249,7 +248,7 @@ module _ (n : ℕ) (sizes : List ℕ) (w : View) (g : GoodView n sizes w) where
   module _ (m : ℕ) (again : Bool → State → Decision) (x : ℕ) (least : 1 ≤ x) (most : x ≤ get_or sizes w.place 0)
       (next : (b : Bool) (u : State) → InHand n sizes w u → u.counter ≤ place_tried w x → Improved n sizes w.place u.bound u.best b → Whenever (GoodDecision n sizes w m) (again b u)) where
     after_write-kept : (u : State) (i : InHand n sizes w u) (tried : u.counter < place_tried w x)
-        (number : cost_with w u.values w.place x ≡ Of (as_number (cost_with w u.values w.place x))) (b : Bool) → is_last w ≡ b
+        (number : cost_with w u.values w.place x ≡ Some (as_number (cost_with w u.values w.place x))) (b : Bool) → is_last w ≡ b
         → Whenever (GoodDecision n sizes w (suc m)) (after_write w b (write w x (as_number (cost_at w x u)) u) again)
     after_write-kept u i tried number true e =
         let l : suc w.place ≡ n = (last_or_not true e).0 refl in

@@ -10,8 +10,7 @@ use native.Mathlib.Omega.{arith}
 use borrow.Author.Tests.{ltb-true}
 use Rattle.base.specs.Shape.Laws.{and_left}
 use Rattle.costs.specs.Instance.{View}
-use Rattle.costs.specs.declared.Cost.{Cost}
-use Rattle.costs.specs.Cost.{◌⊕◌, below, as_number}
+use Rattle.costs.specs.Cost.{Cost, ◌⊕◌, below, as_number}
 use Rattle.costs.specs.Cost.Laws.{below_part}
 use Rattle.costs.specs.Bounds.{h}
 use Rattle.costs.specs.Order.{next, left}
@@ -19,8 +18,8 @@ use Rattle.message.specs.declared.Message.{Message}
 use Rattle.message.specs.declared.Kind.{Kind}
 use Rattle.message.specs.declared.Kind.TheVariants.{Cpa, Request, Estimate, Solution, Stop}
 use Rattle.rules.specs.declared.Unit.{Unit as State}
-use Rattle.rules.specs.declared.Ordering.{Ordering}
-use Rattle.rules.specs.declared.Ordering.TheVariants.{Less, Equal, Greater}
+use Rattle.std.specs.declared.cmp.Ordering.{Ordering}
+use Rattle.std.specs.declared.cmp.Ordering.TheVariants.{Less, Equal, Greater}
 use Rattle.rules.specs.declared.Sending.{Sending}
 use Rattle.rules.specs.State.{with_threshold, with_best, with_cpa, own_value, compare_on, same_on}
 use Rattle.rules.specs.Step.{Decision, refused, accepted, Written, recorded, quiet, take_bound, bare_cost, take_off, backtrack, write, record_of, after_write, try_after, begun, assign, resume, on_down, is_out, is_cpa_out, on_back, on_cpa, on_fresh, on_request, on_own_estimate, on_timely, on_estimate, on_solution, on_stop, by_kind, respond}

@@ -1,9 +1,10 @@
 -- What making and a step keep, whatever they are lent: a state in range, packets that can be written, at most 16 of them and of records.
 -- The refusals say what was checked first (`Passed`, `Makes`), the rest is Steps. Assumes nothing.
-use Rattle.std.specs.Prelude.{ℕ, zero, suc, ◌≤◌, pred, ◌≡◌, Bool, true, false, cond, not, List, ltb, length}
+use Rattle.std.specs.Prelude.{ℕ, zero, suc, ◌≤◌, pred, ◌≡◌, Bool, true, false, cond, not, List, ltb, length, Result, Ok, Err}
 use Rattle.std.proofs.Math.Path.{refl, subst}
-use Rattle.std.proofs.Common.{sym, ap, arith}
+use Rattle.std.proofs.Common.{sym, arith}
 use borrow.Author.Tests.{ltb-false, le-ltb, not-false}
+use Rattle.base.specs.declared.Refusal.{Refusal}
 use Rattle.base.specs.Limits.{sending_size}
 use Rattle.base.specs.Refusal.Laws.{or_left, or_right}
 use Rattle.base.specs.Shape.{shape_good}
@@ -11,15 +12,13 @@ use Rattle.costs.specs.declared.ValueOrder.{ValueOrder}
 use Rattle.costs.specs.Instance.{View, lent_view}
 use Rattle.costs.specs.Lent.{lent_refusal}
 use Rattle.message.specs.declared.Message.{Message}
-use Rattle.message.specs.declared.Parsed.{Parsed}
-use Rattle.message.specs.declared.Read.{Read}
-use Rattle.message.specs.declared.Read.TheVariants.{Good, Refused}
+use Rattle.message.specs.declared.Kind.{Kind}
 use Rattle.message.specs.Message.{Packet, is_unit}
 use Rattle.message.specs.Written.{encode}
 use Rattle.message.specs.Decode.{message_in, parse_for}
 use Rattle.message.specs.DecodeLaws.{check_length}
 use Rattle.base.specs.Bytes.Laws.{AllBytes}
-use Rattle.message.specs.RoundTrip.{sized_in, parse_encode, parsed_good}
+use Rattle.message.specs.RoundTrip.{sized_in, parse_encode, parsed_good, parsed_message}
 use Rattle.rules.specs.declared.Unit.{Unit as State}
 use Rattle.rules.specs.State.{in_range}
 use Rattle.rules.specs.Step.{Decision, refused, respond}
@@ -128,27 +127,26 @@ module _ (order : ValueOrder) (own n : ℕ) (sizes costs : List ℕ) (room : ℕ
     receiver_is : is_unit n own ≡ true → (m : Message) → m.receiver ≡ own → m.receiver ≡ suc view.place
     receiver_is i m e = omega (arith, (unit_range n own i).0, place_is)
 
-    read_kept : Passed order u own n sizes costs room → (a : Read) → (parse_for n sizes own bytes).answer ≡ a → Whenever (GoodDecision n sizes view 16) (on_read view u a (parse_for n sizes own bytes).message)
-    read_kept p (Refused r) e = tt
-    read_kept p (Good k) e =
-        let a = parsed_good n sizes own bytes k e in
+    read_kept : Passed order u own n sizes costs room → (a : Result (Kind × Message) Refusal) → parse_for n sizes own bytes ≡ a → Whenever (GoodDecision n sizes view 16) (on_read view u a)
+    read_kept p (Err r) e = tt
+    read_kept p (Ok (k, read)) e =
+        let a = parsed_good n sizes own bytes k read e in
         let m : Message = message_in bytes in
-        subst (λ (x : Message). Whenever (GoodDecision n sizes view 16) (respond view k u x)) (sym (ap (λ (x : Parsed). x.message) a.whole))
+        subst (λ (x : Message). Whenever (GoodDecision n sizes view 16) (respond view k u x)) (sym (parsed_message n sizes own bytes k read e))
         (respond-kept n sizes view (lent_good_lem order own n sizes costs p.shape long p.unit p.lent) k u m p.state arrays
         record { address = a.address; form = a.formed; arrays = sized_in bytes (check_length bytes a.check) all } (receiver_is p.unit m a.receiver))
 
     pub step_kept : Whenever (GoodDecision n sizes (lent_view order own n sizes costs) 16) (step_out order u own n sizes costs bytes room)
     unfolding step_out
     step_kept =
-        unless_refused_lem (Whenever (GoodDecision n sizes view 16)) (step_refusal order u own n sizes costs room) (on_read view u (parse_for n sizes own bytes).answer (parse_for n sizes own bytes).message) (λ x. tt)
-        (λ e. read_kept (passed own n sizes costs room order u e) (parse_for n sizes own bytes).answer refl)
+        unless_refused_lem (Whenever (GoodDecision n sizes view 16)) (step_refusal order u own n sizes costs room) (on_read view u (parse_for n sizes own bytes)) (λ x. tt)
+        (λ e. read_kept (passed own n sizes costs room order u e) (parse_for n sizes own bytes) refl)
 
   -- a packet that can be written, written and given to its receiver, is what the unit responds to
   pub step_of_packet : (u : State) → Passed order u own n sizes costs room → (p : Packet) → Sendable n sizes p → p.message.receiver ≡ own
       → step_out order u own n sizes costs (encode p.kind p.message) room ≡ respond (lent_view order own n sizes costs) p.kind u p.message
   unfolding step_out
   step_of_packet u q p s to =
-      let read : Parsed = record { answer = Good p.kind; message = p.message } in
-      let e : parse_for n sizes own (encode p.kind p.message) ≡ read =
-      subst (λ (x : ℕ). parse_for n sizes x (encode p.kind p.message) ≡ read) to (parse_encode n sizes p.kind p.message q.shape s.address s.form s.arrays) in
+      let e : parse_for n sizes own (encode p.kind p.message) ≡ Ok (p.kind, p.message) =
+      subst (λ (x : ℕ). parse_for n sizes x (encode p.kind p.message) ≡ Ok (p.kind, p.message)) to (parse_encode n sizes p.kind p.message q.shape s.address s.form s.arrays) in
       rw (not_refused own n sizes costs room order u q, e)

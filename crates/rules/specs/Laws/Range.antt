@@ -5,6 +5,7 @@ use Rattle.std.proofs.Math.Bool.{true, false, cond}
 use native.Mathlib.Omega.{arith}
 use Rattle.std.proofs.Common.{add-one}
 use Rattle.std.proofs.Math.Dec.{eqb}
+use Rattle.std.specs.Ordering.{is_ge}
 use borrow.Author.Tests.{leb-true, le-leb, eqb-true, eqb-false, eq-eqb, ne_eqb}
 use Rattle.base.specs.Limits.{estimate_limit, prefix_limit}
 use Rattle.base.specs.Shape.Laws.{and_left, and_right}
@@ -12,7 +13,7 @@ use Rattle.costs.specs.Instance.{View}
 use Rattle.costs.specs.Order.{place_tried}
 use Rattle.message.specs.Message.{filled_to, none_or_bound}
 use Rattle.rules.specs.declared.Unit.{Unit}
-use Rattle.rules.specs.State.{own_value, own_cost, compare_on, not_less, cpa_zero, cpa_out_in_range, paid_in_range, in_range_paid, in_range}
+use Rattle.rules.specs.State.{own_value, own_cost, compare_on, cpa_zero, cpa_out_in_range, paid_in_range, in_range_paid, in_range}
 use Rattle.rules.specs.Laws.Filled.{most_at, at_most}
 
 -- what the types of the code say of a state: arrays of 16 places
@@ -36,7 +37,7 @@ pub record CpaOut (sizes : List ℕ) (w : View) (u : Unit) : Type 0 where
   pub cost : u.cost ≤ prefix_limit (suc w.place)
   pub counter : u.counter ≡ get_or u.stamp w.place 0
   pub tried : u.counter ≤ place_tried w (own_value w u)
-  pub threshold : not_less (compare_on (suc w.place) u.threshold u.stamp) ≡ true
+  pub threshold : is_ge (compare_on (suc w.place) u.threshold u.stamp) ≡ true
   pub paid : own_cost w u ≤ u.cost
   pub bare : u.cost - own_cost w u ≤ prefix_limit w.place
 

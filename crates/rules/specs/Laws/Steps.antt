@@ -2,7 +2,7 @@
 -- and so does making (`start-kept`). Message by message: each leaves, before the unit assigns or backtracks, a threshold whose own
 -- place is the CPA's, so at most 16 (`Ready`). In order: states beside one another; CPAs; requests; estimates; solutions and stops; any message; making.
 -- Assumes nothing.
-use Rattle.std.specs.Prelude.{ℕ, zero, suc, ◌+◌, ◌-◌, ◌≤◌, ◌<◌, ◌≡◌, ◌&&◌, List, [], leb, length, get_or, set}
+use Rattle.std.specs.Prelude.{ℕ, zero, suc, ◌+◌, ◌-◌, ◌≤◌, ◌<◌, ◌≡◌, ◌&&◌, List, [], leb, length, get_or, set, Some, None}
 use Rattle.std.proofs.Math.Path.{refl}
 use Rattle.std.proofs.Common.{sym, ap, ⊎_elim, length-set, ltb-true, lt-ltb, leb-false}
 use Rattle.std.proofs.Math.Bool.{Bool, true, false}
@@ -11,9 +11,7 @@ use Rattle.std.proofs.Math.Dec.{ltb}
 use Rattle.base.specs.Limits.{NONE, estimate_limit, prefix_limit}
 use Rattle.base.specs.Shape.Laws.{and_left, and_right}
 use Rattle.base.specs.Members.Laws.{every_nil}
-use Rattle.costs.specs.declared.Cost.{Cost}
-use Rattle.costs.specs.declared.Cost.TheVariants.{Of, Forbidden}
-use Rattle.costs.specs.Cost.{as_number}
+use Rattle.costs.specs.Cost.{Cost, as_number}
 use Rattle.costs.specs.Cost.Laws.{AtMost, most_mono}
 use Rattle.costs.specs.Instance.{View}
 use Rattle.costs.specs.Bounds.{estimate}
@@ -25,9 +23,10 @@ use Rattle.message.specs.Message.{filled_to, none_or_bound, carried_of, cost_fit
 use Rattle.message.specs.Laws.{cpa_count, cost_by, none_by, cost-most, cost_or_none, blank-filled, no_bound_by, address_by, Addressed, addressed, Formed, formed_by, formed, filled_at, filled_past}
 use Rattle.message.specs.Sized.{Sized}
 use Rattle.rules.specs.declared.Unit.{Unit as State}
-use Rattle.rules.specs.declared.Ordering.{Ordering}
-use Rattle.rules.specs.declared.Ordering.TheVariants.{Less, Equal, Greater}
-use Rattle.rules.specs.State.{zeros, fresh, with_threshold, with_cpa, own_value, compare_on, same_on, not_less, in_range}
+use Rattle.std.specs.declared.cmp.Ordering.{Ordering}
+use Rattle.std.specs.declared.cmp.Ordering.TheVariants.{Less, Equal, Greater}
+use Rattle.std.specs.Ordering.{is_ge}
+use Rattle.rules.specs.State.{zeros, fresh, with_threshold, with_cpa, own_value, compare_on, same_on, in_range}
 use Rattle.rules.specs.Step.{take_bound, assign, on_down, is_out, is_cpa_out, on_back, on_cpa, reply, on_fresh, on_request, on_own_estimate, on_timely, on_estimate, on_solution, on_stop, respond}
 use Rattle.rules.specs.Tests.{sum_later, stored, silent, on_own, take_lower, on_either, reached_by_estimates, unless_stopped}
 use Rattle.rules.specs.Send.{packet, packets}
@@ -43,12 +42,12 @@ use Rattle.rules.specs.Laws.Assign.{Whenever, GoodDecision, Ready, assign-kept, 
 -- ---- an estimate, as a message carries it
 
 estimate-fits : (m : Message) (c : Cost) → AtMost estimate_limit c → cost_fits (carried_of Estimate m) (as_number c) ≡ true
-estimate-fits m (Of x) h = cost_by (carried_of Estimate m) x h
-estimate-fits m Forbidden h = none_by (carried_of Estimate m) refl
+estimate-fits m (Some x) h = cost_by (carried_of Estimate m) x h
+estimate-fits m None h = none_by (carried_of Estimate m) refl
 
 estimate_32 : (c : Cost) → AtMost estimate_limit c → as_number c < 4294967296
-estimate_32 (Of x) h = omega arith
-estimate_32 Forbidden h = omega arith
+estimate_32 (Some x) h = omega arith
+estimate_32 None h = omega arith
 
 -- ---- states with the same CPA out
 
@@ -72,7 +71,7 @@ module _ (n : ℕ) (sizes : List ℕ) (w : View) (g : GoodView n sizes w) where
 
   module _ (u : State) (r : InRange sizes w u) (a : SizedUnit u) where
     same_cpa_range : (t : List ℕ) (B : ℕ) (l e : List ℕ) (b : Bool) → ((j : ℕ) → j < 16 → get_or t j 0 ≤ 17) → none_or_bound n sizes B l ≡ true
-        → ((j : ℕ) → j < 16 → get_or e j 0 ≤ estimate_limit) → (1 ≤ own_value w u → not_less (compare_on (suc w.place) t u.stamp) ≡ true) → InRange sizes w (same_cpa u t B l e b)
+        → ((j : ℕ) → j < 16 → get_or e j 0 ≤ estimate_limit) → (1 ≤ own_value w u → is_ge (compare_on (suc w.place) t u.stamp) ≡ true) → InRange sizes w (same_cpa u t B l e b)
     same_cpa_range t B l e b ht hb he hs =
         record {
           threshold = ht;
@@ -182,12 +181,12 @@ module _ (n : ℕ) (sizes : List ℕ) (w : View) (g : GoodView n sizes w) where
           resume-kept n sizes w g (take_bound m x) (ready_lower x (down_ready e m.stamp q.stamp (λ j l. omega (arith, most j l)) (most w.place k16)) m.bound m.best q.best f.bound (ltb m.bound x.bound))
 
       -- going back, it isn't smaller than the threshold, nor is the threshold smaller than it: the own places are equal
-      own_threshold : 1 ≤ own_value w u → SamePlaces (suc w.place) m.stamp u.stamp → not_less (compare_on (suc w.place) m.stamp u.threshold) ≡ true → get_or u.threshold w.place 0 ≤ 16
+      own_threshold : 1 ≤ own_value w u → SamePlaces (suc w.place) m.stamp u.stamp → is_ge (compare_on (suc w.place) m.stamp u.threshold) ≡ true → get_or u.threshold w.place 0 ≤ 16
       own_threshold o same not-stale =
-          let back : not_less (compare_on (suc w.place) u.stamp u.threshold) ≡ true = rw (places_compare (suc w.place) m.stamp u.stamp u.threshold same) at not-stale in
+          let back : is_ge (compare_on (suc w.place) u.stamp u.threshold) ≡ true = rw (places_compare (suc w.place) m.stamp u.stamp u.threshold same) at not-stale in
           omega (arith, both_ways (suc w.place) u.threshold u.stamp (r.out o).threshold back w.place (omega arith), own-stamp-most u r a o)
 
-      own-kept : not_less (compare_on (suc w.place) m.stamp u.threshold) ≡ true → (t : Bool) → is_cpa_out w u m ≡ t → Whenever (GoodDecision n sizes w 16) (on_own w t u m)
+      own-kept : is_ge (compare_on (suc w.place) m.stamp u.threshold) ≡ true → (t : Bool) → is_cpa_out w u m ≡ t → Whenever (GoodDecision n sizes w 16) (on_own w t u m)
       own-kept not-stale false p = tt
       own-kept not-stale true p =
           let e : _ = and_left _ _ p in
@@ -198,8 +197,8 @@ module _ (n : ℕ) (sizes : List ℕ) (w : View) (g : GoodView n sizes w) where
 
       back_kept : (o : Ordering) → compare_on (suc w.place) m.stamp u.threshold ≡ o → Whenever (GoodDecision n sizes w 16) (on_back w o u m)
       back_kept Less p = quiet-kept u r a
-      back_kept Equal p = own-kept (ap not_less p) (is_cpa_out w u m) refl
-      back_kept Greater p = own-kept (ap not_less p) (is_cpa_out w u m) refl
+      back_kept Equal p = own-kept (ap is_ge p) (is_cpa_out w u m) refl
+      back_kept Greater p = own-kept (ap is_ge p) (is_cpa_out w u m) refl
 
       cpa-kept : Whenever (GoodDecision n sizes w 16) (on_cpa w u m)
       unfolding on_cpa
@@ -245,7 +244,7 @@ module _ (n : ℕ) (sizes : List ℕ) (w : View) (g : GoodView n sizes w) where
           let most : (j : ℕ) → j < 16 → get_or m.stamp j 0 ≤ 16 = filled-most n m.sender sizes m.stamp from.from_most (size_most n sizes w g) f.stamps in
           reply-kept (with_threshold m.stamp u)
           (same_cpa_range u r a m.stamp u.bound u.best u.estimates u.stopped (λ j l. omega (arith, most j l)) (own_bound u r a) r.estimates
-          (λ o. ap not_less (bigger_more w.place m.stamp u.stamp (bigger_than w.place m.stamp u.threshold u.stamp p (fewer_not_smaller w.place u.threshold u.stamp (r.out o).threshold)))))
+          (λ o. ap is_ge (bigger_more w.place m.stamp u.stamp (bigger_than w.place m.stamp u.threshold u.stamp p (fewer_not_smaller w.place u.threshold u.stamp (r.out o).threshold)))))
           (same_cpa_arrays u r a m.stamp u.bound u.best u.estimates u.stopped q.stamp a.best a.estimates)
 
       request_kept : Whenever (GoodDecision n sizes w 16) (on_request w u m)

@@ -1,8 +1,9 @@
 -- A unit on what is known to be good: what is asked is what the deciding functions ask, what it sends is sent where it fits,
 -- and on what making and a step accept it is these. By the tests. Assumes nothing.
-use Rattle.std.specs.Prelude.{ℕ, pred, ◌*◌, ◌-◌, ◌≤◌, ◌<◌, ◌≡◌, refl, Bool, true, false, ◌&&◌, ◌||◌, List, [], leb, eqb, length, get_or}
+use Rattle.std.specs.Prelude.{ℕ, pred, ◌*◌, ◌-◌, ◌≤◌, ◌<◌, ◌≡◌, refl, Bool, true, false, ◌&&◌, ◌||◌, List, [], leb, eqb, length, get_or, Result, Ok}
 use Rattle.std.proofs.Common.{ap, ◌∙◌, arith}
 use borrow.Author.Tests.{le-leb, lt-leb, leb-true, leb-false, le-ltb, eq-eqb, ne_eqb, eqb-true, eqb-false}
+use Rattle.base.specs.declared.Refusal.{Refusal}
 use Rattle.base.specs.Limits.{message_size, sending_size}
 use Rattle.base.specs.Shape.Laws.{and_left, and_right}
 use Rattle.costs.specs.declared.Seat.{Seat}
@@ -11,8 +12,6 @@ use Rattle.costs.specs.Instance.{View, view_from, view_knowing}
 use Rattle.costs.specs.Knowing.{Knows, knowing_sees}
 use Rattle.message.specs.declared.Kind.{Kind}
 use Rattle.message.specs.declared.Message.{Message}
-use Rattle.message.specs.declared.Parsed.{Parsed}
-use Rattle.message.specs.declared.Read.TheVariants.{Good}
 use Rattle.message.specs.Message.{is_unit}
 use Rattle.message.specs.Decode.{message_in, parse_for}
 use Rattle.message.specs.Unpack.{unpack_of}
@@ -102,13 +101,13 @@ module _ (seat : Seat) (costs ahead : List ℕ) where
   unfolding start_to
   start_on e = rw e
 
-module _ (seat : Seat) (u : State) (costs ahead bytes : List ℕ) (room : ℕ) (fits : sending_size ≤ room) (p : Parsed) (read : p ≡ unpack_of bytes) where
-  pub trusted_known : trusted_out seat u costs ahead bytes room ≡ on_known seat costs ahead u p.answer p.message
+module _ (seat : Seat) (u : State) (costs ahead bytes : List ℕ) (room : ℕ) (fits : sending_size ≤ room) (p : Result (Kind × Message) Refusal) (read : p ≡ unpack_of bytes) where
+  pub trusted_known : trusted_out seat u costs ahead bytes room ≡ on_known seat costs ahead u p
   unfolding trusted_out
   trusted_known = rw (le-ltb room sending_size fits, ← read)
 
-  pub trusted_on : (k : Kind) → p.answer ≡ Good k → trusted_out seat u costs ahead bytes room ≡ respond_to seat costs ahead k u p.message
-  trusted_on k a = trusted_known ∙ rw a
+  pub trusted_on : (k : Kind) (m : Message) → p ≡ Ok (k, m) → trusted_out seat u costs ahead bytes room ≡ respond_to seat costs ahead k u m
+  trusted_on k m a = trusted_known ∙ rw a
 
 -- ---- what was decided is sent
 
@@ -163,9 +162,9 @@ starts seat costs ahead room m long knows =
     start_on seat costs ahead (can_step_lem seat fresh s m.unit (ready_fresh seat s.number)) ∙ ap (λ (w : View). start w (pred seat.own)) (knowing_sees (view_from seat costs) ahead knows)
 
 module _ (seat : Seat) (u : State) (costs ahead : List ℕ) (room : ℕ) (q : Passed seat.order u seat.own seat.n seat.sizes costs room) (long : seat.n ≤ length seat.sizes) (knows : Knows (view_from seat costs) ahead) (bytes : List ℕ) (k : Kind)
-    (good : (parse_for seat.n seat.sizes seat.own bytes).answer ≡ Good k) where
+    (m : Message) (good : parse_for seat.n seat.sizes seat.own bytes ≡ Ok (k, m)) where
   known : ParsedGood seat.n seat.sizes seat.own bytes k
-  known = parsed_good seat.n seat.sizes seat.own bytes k good
+  known = parsed_good seat.n seat.sizes seat.own bytes k m good
 
   pub responds : respond_to seat costs ahead k u (message_in bytes) ≡ respond (view_from seat costs) k u (message_in bytes)
   responds =
@@ -177,4 +176,4 @@ module _ (seat : Seat) (u : State) (costs ahead : List ℕ) (room : ℕ) (q : Pa
   pub trusted_steps : trusted_out seat u costs ahead bytes room ≡ step_out seat.order u seat.own seat.n seat.sizes costs bytes room
   unfolding trusted_out step_out
   trusted_steps =
-      rw (unpack_parsed seat.n seat.sizes seat.own bytes k good, known.whole, le-ltb room sending_size q.fits, not_refused seat.own seat.n seat.sizes costs room seat.order u q) responds
+      rw (unpack_parsed seat.n seat.sizes seat.own bytes k m good, known.whole, le-ltb room sending_size q.fits, not_refused seat.own seat.n seat.sizes costs room seat.order u q) responds

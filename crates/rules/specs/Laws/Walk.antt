@@ -12,8 +12,8 @@ use Rattle.message.specs.declared.Message.{Message}
 use Rattle.message.specs.declared.Kind.{Kind}
 use Rattle.message.specs.declared.Kind.TheVariants.{Cpa, Request, Estimate, Solution, Stop}
 use Rattle.rules.specs.declared.Unit.{Unit as State}
-use Rattle.rules.specs.declared.Ordering.{Ordering}
-use Rattle.rules.specs.declared.Ordering.TheVariants.{Less, Equal, Greater}
+use Rattle.std.specs.declared.cmp.Ordering.{Ordering}
+use Rattle.std.specs.declared.cmp.Ordering.TheVariants.{Less, Equal, Greater}
 use Rattle.rules.specs.declared.Plan.TheVariants.{Forward}
 use Rattle.rules.specs.State.{own_value, compare_on, same_on, with_best, with_threshold, with_stopped}
 use Rattle.rules.specs.Step.{Decision, refused, accepted, Written, recorded, quiet, take_bound, take_off, begun, record_of, write, carried, after_write, try_after, assign, backtrack, bare_cost, resume, received, on_down, is_cpa_out, on_back, on_cpa, reply, on_fresh, on_request, is_out, on_own_estimate, on_timely, on_estimate, on_solution, on_stop, by_kind, respond}

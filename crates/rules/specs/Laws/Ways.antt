@@ -1,23 +1,22 @@
 -- A unit decides what the way of a message says.
 -- Kind by kind, by the tests of the way. Assumes nothing.
-use Rattle.std.specs.Prelude.{ℕ, suc, pred, ◌+◌, ◌-◌, ◌≤◌, ◌≡◌, Bool, cond, ◌&&◌, List, ltb}
+use Rattle.std.specs.Prelude.{ℕ, suc, pred, ◌+◌, ◌-◌, ◌≤◌, ◌≡◌, Bool, cond, ◌&&◌, List, ltb, Ok, Err}
 use Rattle.std.proofs.Common.{arith, ◌∙◌, ltb-true}
 use Rattle.std.proofs.Math.Path.{refl, sym, ap}
 use Rattle.std.proofs.Math.Bool.{true, false}
 use Rattle.std.proofs.Math.Dec.{leb}
 use Rattle.std.proofs.lemmas.Bool.{lt-leb}
+use Rattle.base.specs.declared.Refusal.{Refusal}
 use Rattle.base.specs.Shape.Laws.{and_left, and_right}
 use Rattle.costs.specs.declared.Seat.{Seat}
 use Rattle.costs.specs.Instance.{View, lent_view, knowing, view_knowing}
 use Rattle.message.specs.declared.Kind.{Kind}
 use Rattle.message.specs.declared.Kind.TheVariants.{Cpa, Request, Estimate, Solution, Stop}
 use Rattle.message.specs.declared.Message.{Message}
-use Rattle.message.specs.declared.Read.{Read}
-use Rattle.message.specs.declared.Read.TheVariants.{Good, Refused}
 use Rattle.message.specs.Message.{is_unit}
 use Rattle.rules.specs.declared.Unit.{Unit as State}
-use Rattle.rules.specs.declared.Ordering.{Ordering}
-use Rattle.rules.specs.declared.Ordering.TheVariants.{Less, Equal, Greater}
+use Rattle.std.specs.declared.cmp.Ordering.{Ordering}
+use Rattle.std.specs.declared.cmp.Ordering.TheVariants.{Less, Equal, Greater}
 use Rattle.rules.specs.declared.Way.{Way}
 use Rattle.rules.specs.declared.Way.TheVariants.{Quiet, Reply, Follow, Store, Lower, Whole}
 use Rattle.rules.specs.State.{compare_on, same_on}
@@ -63,7 +62,7 @@ module _ (w : View) (u : State) (m : Message) where
     below_is : stays_below own n u m ≡ below
     below_is = rw (place, ← number, ← units)
 
-    kind_by : (k : Kind) → by_kind w k u m ≡ by_way (way_by own n (Good k) u m) w u m (by_kind w k u m)
+    kind_by : (k : Kind) → by_kind w k u m ≡ by_way (way_by own n k u m) w u m (by_kind w k u m)
     unfolding on_request on_estimate on_solution
     kind_by Cpa = refl
     kind_by Request = rw place (fresh_by (compare_on w.place m.stamp u.threshold))
@@ -77,12 +76,12 @@ module _ (seat : Seat) (costs ahead : List ℕ) (k : Kind) (u : State) (m : Mess
   abbrev seen : View
   seen = view_knowing seat costs ahead
 
-  pub way_decides : by_kind seen k u m ≡ by_way (way_of seat (Good k) u m) seen u m (by_kind seen k u m)
+  pub way_decides : by_kind seen k u m ≡ by_way (way_of seat (Ok (k, m)) u) seen u m (by_kind seen k u m)
   unfolding way_of knowing lent_view
   way_decides = go (is_unit seat.n seat.own && leb seat.n 16 && is_unit 16 m.sender) refl
     where
       go : (t : Bool) → (is_unit seat.n seat.own && leb seat.n 16 && is_unit 16 m.sender) ≡ t
-          → by_kind seen k u m ≡ by_way (cond t (way_by seat.own seat.n (Good k) u m) Whole) seen u m (by_kind seen k u m)
+          → by_kind seen k u m ≡ by_way (cond t (way_by seat.own seat.n k u m) Whole) seen u m (by_kind seen k u m)
       go true e =
           let o = unit_range seat.n seat.own (and_left _ _ (and_left _ _ e)) in
           kind_by seen u m seat.own seat.n (omega (arith, o.0, pred_sub seat.own)) refl k
@@ -103,20 +102,16 @@ module _ (seat : Seat) (costs ahead : List ℕ) (k : Kind) (u : State) (m : Mess
       go true true false e f g = respond_on seat costs ahead k u m e f ∙ ap (λ (b : Bool). unless_stopped b seen k u m) g
 
 -- no way is told of what was not read
-pub way_unread : (seat : Seat) (r : ℕ) (u : State) (m : Message) → way_of seat (Refused r) u m ≡ Whole
+pub way_unread : (seat : Seat) (r : Refusal) (u : State) → way_of seat (Err r) u ≡ Whole
 unfolding way_of
-way_unread seat r u m = go (is_unit seat.n seat.own && leb seat.n 16 && is_unit 16 m.sender)
-  where
-    go : (t : Bool) → cond {A = Way} t Whole Whole ≡ Whole
-    go true = refl
-    go false = refl
+way_unread seat r u = refl
 
 -- an estimate that is stored is of one of 16 units
-pub store-sender : (seat : Seat) (read : Read) (u : State) (m : Message) → way_of seat read u m ≡ Store → is_unit 16 m.sender ≡ true
+pub store-sender : (seat : Seat) (k : Kind) (u : State) (m : Message) → way_of seat (Ok (k, m)) u ≡ Store → is_unit 16 m.sender ≡ true
 unfolding way_of
-store-sender seat read u m e = go (is_unit seat.n seat.own && leb seat.n 16 && is_unit 16 m.sender) refl e
+store-sender seat k u m e = go (is_unit seat.n seat.own && leb seat.n 16 && is_unit 16 m.sender) refl e
   where
-    go : (t : Bool) → (is_unit seat.n seat.own && leb seat.n 16 && is_unit 16 m.sender) ≡ t → cond t (way_by seat.own seat.n read u m) Whole ≡ Store → is_unit 16 m.sender ≡ true
+    go : (t : Bool) → (is_unit seat.n seat.own && leb seat.n 16 && is_unit 16 m.sender) ≡ t → cond t (way_by seat.own seat.n k u m) Whole ≡ Store → is_unit 16 m.sender ≡ true
     go true f e = and_right (is_unit seat.n seat.own && leb seat.n 16) _ f
     go false f e = let c : ◌≡◌ {A = ℕ} 0 1 = ap code e in absurd (omega arith)
       where

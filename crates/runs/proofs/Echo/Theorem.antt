@@ -2,12 +2,13 @@
 -- machine's theorem. Of two such lists the reports agree (`two-heard`), and a list without echoes is a run of demand 3 (`deliveries_only`), whose limit holds.
 -- In order: a packet is told by its bytes; a list of events, from any point; one list; 02's words (`as_asked`); two lists; no echoes.
 -- Assumes nothing.
-use Rattle.std.specs.Prelude.{ℕ, suc, ◌<◌, ◌≡◌, refl, ◌⊎◌, true, cond, eqb}
+use Rattle.std.specs.Prelude.{ℕ, suc, ◌<◌, ◌≡◌, refl, ◌⊎◌, true, cond, eqb, Result as Reading, Ok}
 use Rattle.std.proofs.Math.Path.{sym, ap}
 use Rattle.std.proofs.Common.{◌∙◌, subst, inl, inr, eq-eqb}
 use mathlib.Core.List.{List, [], ◌∷◌, ◌++◌, map, append-nil, append_assoc}
 use Rattle.std.proofs.Math.Option.{some}
 use Rattle.std.proofs.Math.ListN.{get_or}
+use Rattle.base.specs.declared.Refusal.{Refusal}
 use Rattle.base.specs.Members.{In, here, there}
 use Rattle.base.specs.Members.Laws.{in-cases, not-in-nil}
 use Rattle.table.specs.Stream.{units_of, Accepted}
@@ -19,10 +20,7 @@ use Rattle.costs.specs.Laws.Stream.{sound_of}
 use Rattle.costs.specs.Gather.{sizes_in}
 use Rattle.costs.specs.Gather.Sizes.{accepted-sizes_good}
 use Rattle.message.specs.declared.Kind.{Kind}
-use Rattle.message.specs.declared.Kind.TheVariants.{Cpa}
-use Rattle.message.specs.declared.Parsed.{Parsed}
-use Rattle.message.specs.declared.Read.{Read}
-use Rattle.message.specs.declared.Read.TheVariants.{Good, Refused}
+use Rattle.message.specs.declared.Message.{Message}
 use Rattle.message.specs.Message.{Packet}
 use Rattle.message.specs.Decode.{parse_for}
 use Rattle.message.specs.RoundTrip.{parse_encode, receiver_of_encode}
@@ -52,22 +50,21 @@ use Rattle.runs.proofs.Echo.Proof.{Traced, Hears, hears, make-traced}
 
 -- ---- a packet is told by its bytes
 
-kind_in : Read → Kind
-kind_in (Good k) = k
-kind_in (Refused r) = Cpa
-
 module _ (s : List ℕ) (ok : Accepted s) where
   one_packet : (p q : Packet) → Sendable (instance_of s).n (sizes_in s) p → Sendable (instance_of s).n (sizes_in s) q → packet_bytes p ≡ packet_bytes q → p ≡ q
-  unfolding instance_of kind_in
-  one_packet p q w v e = λ i. record { kind = ap (λ (r : Parsed). kind_in r.answer) same i; message = ap (λ (r : Parsed). r.message) same i }
+  unfolding instance_of
+  one_packet p q w v e = ap (λ (r : Kind × Message). record { kind = r.0; message = r.1 }) read
     where
       to : p.message.receiver ≡ q.message.receiver
       to = sym (receiver_of_encode p.kind p.message w.arrays) ∙ ap (λ l. get_or l 2 0) e ∙ receiver_of_encode q.kind q.message v.arrays
 
-      same : ◌≡◌ {A = Parsed} (record { answer = Good p.kind; message = p.message }) (record { answer = Good q.kind; message = q.message })
+      same : ◌≡◌ {A = Reading (Kind × Message) Refusal} (Ok (p.kind, p.message)) (Ok (q.kind, q.message))
       same =
           sym (parse_encode (units_of s) (sizes_in s) p.kind p.message (accepted-sizes_good s ok) w.address w.form w.arrays)
           ∙ (λ i. parse_for (units_of s) (sizes_in s) (to i) (e i)) ∙ parse_encode (units_of s) (sizes_in s) q.kind q.message (accepted-sizes_good s ok) v.address v.form v.arrays
+
+      read : ◌≡◌ {A = Kind × Message} (p.kind, p.message) (q.kind, q.message)
+      read = let f = same in cc
 
   -- one whose bytes are among others'
   in_bytes : (p : Packet) (ps : List Packet) → Sendable (instance_of s).n (sizes_in s) p → ((q : Packet) → In q ps → Sendable (instance_of s).n (sizes_in s) q) → In (packet_bytes p) (map packet_bytes ps) → In p ps

@@ -13,7 +13,6 @@ use Rattle.costs.specs.Laws.Tried.{problem_by}
 use Rattle.costs.specs.Laws.Stream.{sound_of}
 use Rattle.costs.specs.Gather.{sizes_in}
 use Rattle.costs.specs.Gather.Sizes.{accepted-sizes_good}
-use Rattle.message.specs.declared.Parsed.{Parsed}
 use Rattle.message.specs.Message.{Packet, is_unit}
 use Rattle.message.specs.RoundTrip.{parse_encode, receiver_of_encode}
 use Rattle.rules.specs.declared.Unit.{Unit as UnitState}
@@ -62,7 +61,7 @@ module _ (order : ValueOrder) (s : List ℕ) (ok : Accepted s) where
     pub step_is : (us : List UnitState) → step_from8 order s us p.message.receiver (packet_bytes p) ≡ step_on order (instance_of s) us p
     unfolding step_from8 instance_of
     step_is us =
-        ap (λ (q : Parsed). on_read (view_by order (instance_of s) (place_of p)) (unit_at us (place_of p)) q.answer q.message)
+        ap (on_read (view_by order (instance_of s) (place_of p)) (unit_at us (place_of p)))
         (parse_encode (units_of s) (sizes_in s) p.kind p.message (accepted-sizes_good s ok) w.address w.form w.arrays)
 
   -- ---- the records fit two words

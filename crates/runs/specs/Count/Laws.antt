@@ -7,10 +7,6 @@ use Rattle.std.proofs.Math.Arith.{mod-mul}
 use Rattle.runs.specs.declared.Count.{Count}
 use Rattle.runs.specs.Count.{value_of, plus}
 
--- the carry of a low word that went round
-pub carry_one : (l m r : ℕ) → l < 2 ^ 64 → m < 2 ^ 64 → r ≡ (l + m) % 2 ^ 64 → r < m → (l + m) / 2 ^ 64 ≡ 1
-carry_one l m r hl hm e h = omega arith
-
 -- two digits to the base b with m more
 digits_plus : (b l h m : ℕ) → zero < b → ((h + (l + m) / b) % b) * b + (l + m) % b ≡ (h * b + l + m) % (b * b)
 digits_plus b l h m pos =

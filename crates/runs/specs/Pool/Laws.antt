@@ -1,15 +1,14 @@
--- How the pool's bytes move, by one turn of each loop, and that closing the gap and copying in what was sent is the pool after a delivery.
--- By laws on lists at the next place. Assumes nothing.
+-- That closing the gap and copying in what was sent is the pool after a delivery.
+-- By laws on lists. Assumes nothing.
 use Prim.Native.Nat.{ℕ, suc, ◌+◌, ◌*◌, ◌-◌, ◌≤◌, ◌<◌}
-use Rattle.std.specs.Prelude.{◌≡◌, get_or, set}
-use Rattle.std.proofs.Common.{sym, ◌∙◌, length-append, length-drop, get_or-append-add, get_or-drop, length-take-le}
+use Rattle.std.specs.Prelude.{◌≡◌}
+use Rattle.std.proofs.Common.{sym, ◌∙◌, length-append, length-drop, length-take-le}
 use Rattle.std.proofs.Math.Path.{ap}
 use mathlib.Core.List.{List, ◌++◌, append_assoc}
 use native.Mathlib.Omega.{arith}
 use Rattle.std.proofs.Math.ListN.{length, take, drop}
-use Rattle.std.proofs.Math.Seq.{paste, length_paste_head, take_at, drop-append-add, drop-drop}
+use Rattle.std.proofs.Math.Seq.{paste, take_at, drop-append-add, drop-drop}
 use Rattle.base.specs.Limits.{message_size}
-use Rattle.base.specs.Put.Laws.{paste_more}
 use Rattle.message.specs.Message.{Packet}
 use Rattle.rules.specs.Send.{encode_all, laid}
 use Rattle.runs.specs.Pool.{pool_after, pool_with}
@@ -21,25 +20,6 @@ later_cells pool used cell = take (message_size * (used - suc cell)) (drop (mess
 -- the 64 bytes at `at` taken out: what lies up to `end` moves down, and the rest stays
 abbrev pub close_gap : List ℕ → ℕ → ℕ → List ℕ
 close_gap pool at end = take at pool ++ take (end - (at + message_size)) (drop (at + message_size) pool) ++ drop (end - message_size) pool
-
--- ---- one turn
-
--- what lies past the part that is copied so far is as it was
-paste_past : (d : List ℕ) (at : ℕ) (s : List ℕ) (j n k : ℕ) → at ≤ length d → j ≤ length s → k ≡ at + j + n → get_or (paste d at s j) k 0 ≡ get_or d k 0
-paste_past d at s j n k hd hs e =
-    let p : List ℕ = take at d ++ take j s in
-    rw e
-    (ap (λ (m : ℕ). get_or (p ++ drop (at + j) d) (m + n) 0) (sym (length_paste_head d at s j hd hs))
-    ∙ get_or-append-add p (drop (at + j) d) n 0
-    ∙ get_or-drop (at + j) d n 0)
-
--- a byte moved down
-pub gap_more : (d : List ℕ) (at j : ℕ) → at + message_size + j < length d
-    → set (paste d at (drop (at + message_size) d) j) (at + j) (get_or (paste d at (drop (at + message_size) d) j) (at + message_size + j) 0) ≡ paste d at (drop (at + message_size) d) (j + 1)
-gap_more d at j h =
-    let l : j < length (drop (at + message_size) d) = simp length-drop (omega arith) in
-    rw (paste_past d at (drop (at + message_size) d) j message_size (at + message_size + j) (omega arith) (omega arith) (omega arith), ← get_or-drop (at + message_size) d j 0)
-    (paste_more d at (drop (at + message_size) d) j (omega arith) l)
 
 -- ---- a delivery
 

@@ -1,7 +1,7 @@
 -- `added_cost` meets its contract. The loop's invariant: the sum is the cost with the units passed, at most 60,000 for each; a forbidden pair ends it.
 -- Assumes nothing.
 use Prim.Native.Nat.{ℕ, ◌+◌, ◌*◌, ◌-◌, ◌≤◌}
-use mathlib.Core.Path.{◌≡◌, refl, ap, ◌∙◌}
+use mathlib.Core.Path.{◌≡◌, ap, ◌∙◌}
 use native.Mathlib.Omega.{arith}
 use lib.ListN.{get_or}
 use Rattle.base.specs.Limits.{pair_limit, forbidden_pair}
@@ -15,7 +15,7 @@ use Rattle.search.proofs.added_cost.Goals.{After-u16_at-number, Else-number-eq-F
 pub loop-i-init : goal.loop-i-init
 loop-i-init c =
     let read = c.u16_at-sum.ensures.0 ∙ ap (u16_at c.args.stream.now) c.unary_place.ensures in
-    (omega arith, refl, cost_alone c.requires c.u16_at-sum.result read, alone_small c.requires c.u16_at-sum.result read)
+    (cost_alone c.requires c.u16_at-sum.result read, alone_small c.requires c.u16_at-sum.result read)
 
 pub cost_place-at-requires : goal.cost_place-at-requires
 cost_place-at-requires c =
@@ -32,22 +32,22 @@ read c = c.u16_at-number.ensures.0 ∙ ap (u16_at c.args.stream.now) c.cost_plac
 pub returns-then-number-eq-FORBIDDEN_PAIR : goal.returns-then-number-eq-FORBIDDEN_PAIR
 returns-then-number-eq-FORBIDDEN_PAIR c =
     let e : c.u16_at-number.result ≡ forbidden_pair = omega arith in
-    (cost_ends c.requires c.loop-i.i c.loop-i-test.true c.u16_at-number.result (read (goal.at.returns-then-number-eq-FORBIDDEN_PAIR c).After-u16_at-number) e, tt)
+    (cost_ends c.requires c.loop-i.i (omega arith) c.u16_at-number.result (read (goal.at.returns-then-number-eq-FORBIDDEN_PAIR c).After-u16_at-number) e, tt)
 
 -- which is at most 60,000 where it isn't forbidden
 small : (c : Else-number-eq-FORBIDDEN_PAIR) → c.u16_at-number.result ≤ pair_limit
 small c =
-    cost_small c.requires c.loop-i.i c.loop-i-test.true c.u16_at-number.result (read (goal.at.Else-number-eq-FORBIDDEN_PAIR c).After-u16_at-number) c.if-number-eq-FORBIDDEN_PAIR.false
+    cost_small c.requires c.loop-i.i (omega arith) c.u16_at-number.result (read (goal.at.Else-number-eq-FORBIDDEN_PAIR c).After-u16_at-number) c.if-number-eq-FORBIDDEN_PAIR.false
 
 pub loop-i-preserved : goal.loop-i-preserved
 loop-i-preserved c =
     let past = goal.at.loop-i-preserved c in
     let l = c.loop-i in
-    (omega arith, refl, cost-turn c.requires l.i c.loop-i-test.true c.u16_at-number.result (read past.After-u16_at-number) c.if-number-eq-FORBIDDEN_PAIR.false l.sum l.invariant.2, omega (arith, small past.Else-number-eq-FORBIDDEN_PAIR))
+    (cost-turn c.requires l.i (omega arith) c.u16_at-number.result (read past.After-u16_at-number) c.if-number-eq-FORBIDDEN_PAIR.false l.sum l.invariant.0, omega (arith, small past.Else-number-eq-FORBIDDEN_PAIR))
 
 pub returns : goal.returns
 returns c =
     let l = c.loop-i in
     let a = c.args in
     let e : l.i ≡ a.level = omega arith in
-    (l.invariant.2 ∙ ap (λ (m : ℕ). cost_with (view_of (instance_of a.stream.now) a.level) a.chosen m a.v) e, omega arith)
+    (l.invariant.0 ∙ ap (λ (m : ℕ). cost_with (view_of (instance_of a.stream.now) a.level) a.chosen m a.v) e, omega arith)

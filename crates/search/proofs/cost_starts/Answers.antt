@@ -17,4 +17,4 @@ overflow_cast-end c =
 pub returns : goal.returns
 returns c =
     let l = c.loop-i in
-    filling_last c.args.stream.now l.starts c.args.first c.args.n l.i l.at (omega arith) l.invariant.1
+    filling_last c.args.stream.now l.starts c.args.first c.args.n l.i l.at (omega arith) l.invariant

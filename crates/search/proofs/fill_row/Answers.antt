@@ -8,14 +8,12 @@ use Rattle.search.specs.Steps.{size_at, start_fits, filled_next, filling_next}
 use Rattle.search.proofs.fill_row.Goals as goal
 
 pub loop-j-init : goal.loop-j-init
-loop-j-init c =
-    let size = size_at c.args.stream.now c.args.first c.args.i c.byte-d.result c.requires.0.sized.sizes (omega (arith, c.requires.0.sized.units)) c.byte-d.ensures.0 in
-    (omega arith, omega arith, size, omega arith, c.requires.0.start, c.requires.0.filled)
+loop-j-init c = (c.requires.0.start, c.requires.0.filled)
 
 pub overflow_cast-starts : goal.overflow_cast-starts
 overflow_cast-starts c =
     let l = c.loop-j in
-    omega (arith, start_fits c.args.stream.now c.args.i l.j c.requires.0.sized.accepted l.invariant.0 (omega (arith, c.requires.0.sized.units)))
+    omega (arith, start_fits c.args.stream.now c.args.i l.j c.requires.0.sized.accepted (omega arith) (omega (arith, c.requires.0.sized.units)))
 
 pub overflow_mul-from : goal.overflow_mul-from
 overflow_mul-from c =
@@ -34,17 +32,17 @@ overflow_add-from c =
     let l = c.loop-j in
     let b : c.byte.result ≤ 255 = omega arith in
     let d : c.byte-d.result ≤ 255 = omega arith in
-    omega (arith, mul-le-mul d b, start_fits c.args.stream.now c.args.i l.j c.requires.0.sized.accepted l.invariant.0 (omega (arith, c.requires.0.sized.units)))
+    omega (arith, mul-le-mul d b, start_fits c.args.stream.now c.args.i l.j c.requires.0.sized.accepted (omega arith) (omega (arith, c.requires.0.sized.units)))
 
 pub loop-j-preserved : goal.loop-j-preserved
 loop-j-preserved c =
     let l = c.loop-j in
     let b = c.byte-d in
-    let q = filled_next c.args.stream.now l.starts c.args.first c.args.n c.args.i l.j l.from b.result c.byte.result c.requires.0.sized l.invariant.0 (omega arith) l.invariant.4 l.invariant.2 c.byte.ensures.0 l.invariant.5 in
-    (omega arith, omega arith, l.invariant.2, omega arith, q.0, q.1)
+    let size = size_at c.args.stream.now c.args.first c.args.i c.byte-d.result c.requires.0.sized.sizes (omega (arith, c.requires.0.sized.units)) c.byte-d.ensures.0 in
+    filled_next c.args.stream.now l.starts c.args.first c.args.n c.args.i l.j l.from b.result c.byte.result c.requires.0.sized (omega arith) (omega arith) l.invariant.0 size c.byte.ensures.0 l.invariant.1
 
 pub returns : goal.returns
 returns c =
     let l = c.loop-j in
     let e : l.j ≡ c.args.n = omega arith in
-    filling_next c.args.stream.now l.starts c.args.first c.args.n c.args.i l.from c.requires.0.sized c.requires.1 (rw (← e) l.invariant.4) (rw (← e) l.invariant.5)
+    filling_next c.args.stream.now l.starts c.args.first c.args.n c.args.i l.from c.requires.0.sized c.requires.1 (rw (← e) l.invariant.0) (rw (← e) l.invariant.1)

@@ -14,12 +14,12 @@ returns-then-first-eq1 c =
 
 pub loop-i-init : goal.loop-i-init
 loop-i-init c =
-    (omega arith, unaries_first c.requires.0 c.args.starts.now c.requires.1, omega (arith, c.requires.0.front, c.requires.0.most))
+    (unaries_first c.requires.0 c.args.starts.now c.requires.1, omega (arith, c.requires.0.front, c.requires.0.most))
 
 pub loop-i-preserved : goal.loop-i-preserved
 loop-i-preserved c =
     let l = c.loop-i in
-    (omega arith, unaries_next c.requires.0 c.if-first-eq1.false l.starts l.i l.at c.byte.result (omega arith) c.byte.ensures.0 l.invariant.1, omega arith)
+    (unaries_next c.requires.0 c.if-first-eq1.false l.starts l.i l.at c.byte.result (omega arith) c.byte.ensures.0 l.invariant.0, omega arith)
 
 pub shape_of-starts : goal.shape_of-starts
 shape_of-starts c =
@@ -29,4 +29,4 @@ shape_of-starts c =
 pub returns : goal.returns
 returns c =
     let l = c.loop-i in
-    unaries_last c.requires.0 c.if-first-eq1.false l.starts l.i l.at (omega arith) l.invariant.1
+    unaries_last c.requires.0 c.if-first-eq1.false l.starts l.i l.at (omega arith) l.invariant.0

@@ -15,25 +15,25 @@ size c =
     size_at c.args.stream.now c.args.first c.loop-i.i c.byte-count.result c.requires.sizes (omega (arith, c.requires.units)) c.byte-count.ensures.0
 
 pub loop-i-init : goal.loop-i-init
-loop-i-init c = (omega arith, refl, omega arith)
+loop-i-init c = (refl, omega arith)
 
 pub overflow_mul-count : goal.overflow_mul-count
 overflow_mul-count c =
     let l = c.loop-i in
     let b : c.byte-count.result ≤ 255 = omega arith in
-    omega (arith, mul-le-mul l.invariant.2 b)
+    omega (arith, mul-le-mul l.invariant.1 b)
 
 pub returns-then-count-gt-SEARCH_LIMIT : goal.returns-then-count-gt-SEARCH_LIMIT
 returns-then-count-gt-SEARCH_LIMIT c =
     let l = c.loop-i in
-    count_above c.args.stream.now c.requires.accepted l.i l.count c.byte-count.result l.invariant.1 (omega (arith, c.requires.units)) (size (goal.at.returns-then-count-gt-SEARCH_LIMIT c).After-byte-count) c.if-count-gt-SEARCH_LIMIT.true
+    count_above c.args.stream.now c.requires.accepted l.i l.count c.byte-count.result l.invariant.0 (omega (arith, c.requires.units)) (size (goal.at.returns-then-count-gt-SEARCH_LIMIT c).After-byte-count) c.if-count-gt-SEARCH_LIMIT.true
 
 pub loop-i-preserved : goal.loop-i-preserved
 loop-i-preserved c =
     let l = c.loop-i in
-    (omega arith, count_turn c.args.stream.now c.requires.accepted l.i l.count c.byte-count.result l.invariant.1 (size (goal.at.loop-i-preserved c).After-byte-count), omega arith)
+    (count_turn c.args.stream.now c.requires.accepted l.i l.count c.byte-count.result l.invariant.0 (size (goal.at.loop-i-preserved c).After-byte-count), omega arith)
 
 pub returns : goal.returns
 returns c =
     let l = c.loop-i in
-    count-within c.args.stream.now c.requires.accepted l.i l.count 0 l.invariant.1 (omega (arith, c.requires.units)) l.invariant.2
+    count-within c.args.stream.now c.requires.accepted l.i l.count 0 l.invariant.0 (omega (arith, c.requires.units)) l.invariant.1

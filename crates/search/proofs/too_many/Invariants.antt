@@ -1,6 +1,6 @@
 -- `too_many` meets its contract. The loop's invariant: the count is the product of the sizes passed, at most 1,048,576; sizes of 1 or more never lower it.
 -- Assumes nothing.
-use Prim.Native.Nat.{◌-◌, ◌≤◌}
+use Prim.Native.Nat.{◌≤◌}
 use mathlib.Core.Path.{◌≡◌}
 use Rattle.base.specs.Limits.{search_limit}
 use Rattle.costs.specs.Instance.{instance_of}
@@ -8,7 +8,4 @@ use Rattle.costs.specs.Bounds.{prefix_count}
 use Rattle.search.proofs.too_many.Given as goal
 
 abbrev pub invariant-loop-i : goal.invariant-loop-i
-invariant-loop-i l = (l.i ≤ l.n) × (l.count ≡ prefix_count (instance_of l.stream).dom l.i) × (l.count ≤ search_limit)
-
-abbrev pub decreases-loop-i : goal.decreases-loop-i
-decreases-loop-i l = l.n - l.i
+invariant-loop-i l = (l.count ≡ prefix_count (instance_of l.stream).dom l.i) × (l.count ≤ search_limit)

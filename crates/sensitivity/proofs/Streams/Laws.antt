@@ -2,7 +2,7 @@
 -- second lies between the ends. In order: each number stands alone, as numbers stand in blocks one behind the other; each cost by its number; the
 -- rest is the same; the two tables; any two of one shape. Assumes nothing.
 use Prim.Native.Nat.{ℕ, suc, ◌+◌, ◌*◌, ◌-◌, ◌≤◌, ◌<◌}
-use Rattle.std.specs.Prelude.{◌≡◌, ◌≢◌, Bool, ◌&&◌, List, ltb, length, get_or}
+use Rattle.std.specs.Prelude.{◌≡◌, ◌≢◌, Bool, ◌&&◌, List, ltb, length, get_or, Some}
 use Rattle.std.proofs.Math.Path.{refl}
 use Rattle.std.proofs.Common.{sym, ap, ◌∙◌, subst, arith, ext_get_or, get_or-take, get_or-drop, ltb-true, ltb-false, lt-ltb, ne_eqb}
 use Rattle.std.proofs.Math.Bool.{true, false}
@@ -14,7 +14,6 @@ use Rattle.base.specs.Sums.{sum_from, sum_to}
 use Rattle.base.specs.Sums.Laws.{sum_to_mono, sum_to_same, sum_to_scaled, sum_to_shifted}
 use Rattle.table.specs.Stream.{in_form_two, opening, units_of, after_units, sizes_of, sum_list, unaries_in, unaries_at, pairs_at, Accepted}
 use Rattle.table.specs.StreamLaws.{unaries_by, unaries_two, accepted-sizes_length}
-use Rattle.costs.specs.declared.Cost.TheVariants.{Of}
 use Rattle.costs.specs.Cost.{pair_cost}
 use Rattle.costs.specs.Instance.{instance_of, dom_of, pair_start, in_pair}
 use Rattle.costs.specs.Laws.Stream.{in_pair_lt, pair_end, all_four, unary_number_at, cost_number_at, unary_costs, accepted-there, instance_units, instance_dom, sound_of}
@@ -126,8 +125,8 @@ pair_number_lem s i u j v h =
     let e : pairs_at s + 2 * x ≡ unaries_at s + 2 * (unaries_in s + x) = omega arith in
     rw (lt-ltb i j h.0, lt-ltb j (units_of s) h.1, range_value (dom_of s i) u h.2 h.3, range_value (dom_of s j) v h.4 h.5, cost_number_at s x, e)
 
-number_cost : (s : List ℕ) (w : Which) → Stored s w → u16_at s (number_at s w) ≢ forbidden_pair → cost_at (instance_of s) w ≡ Of (u16_at s (number_at s w))
-number_cost s (Unary k v) h ne = ap Of (unary_number s k v h)
+number_cost : (s : List ℕ) (w : Which) → Stored s w → u16_at s (number_at s w) ≢ forbidden_pair → cost_at (instance_of s) w ≡ Some (u16_at s (number_at s w))
+number_cost s (Unary k v) h ne = ap Some (unary_number s k v h)
 number_cost s (Pair i u j v) h ne = pair_number_lem s i u j v h ∙ rw (ne_eqb (u16_at s (number_at s (Pair i u j v))) forbidden_pair ne)
 
 -- ---- two streams that differ in one number: the rest is the same
@@ -207,7 +206,7 @@ module _ (s s' : List ℕ) (w : Which) (one : OneNumber s s' w) where
   stored-cost : (x : Which) → Stored s x → x ≢ w → cost_at (instance_of s') x ≡ cost_at (instance_of s) x
   stored-cost (Unary k v) h ne =
       let x : Which = Unary k v in
-      ap Of (unary_number s' k v (kept x h) ∙ ap (λ (at : ℕ). u16_at s' at) (at_same x) ∙ same_number x h ne ∙ sym (unary_number s k v h))
+      ap Some (unary_number s' k v (kept x h) ∙ ap (λ (at : ℕ). u16_at s' at) (at_same x) ∙ same_number x h ne ∙ sym (unary_number s k v h))
   stored-cost (Pair i u j v) h ne =
       let x : Which = Pair i u j v in
       pair_number_lem s' i u j v (kept x h) ∙ ap (λ (at : ℕ). pair_cost (u16_at s' at)) (at_same x) ∙ ap pair_cost (same_number x h ne) ∙ sym (pair_number_lem s i u j v h)
@@ -232,7 +231,7 @@ module _ (s s' : List ℕ) (w : Which) (one : OneNumber s s' w) where
           units = instance_units s' ∙ same_units s s' w one.elsewhere ∙ sym (instance_units s);
           sizes = λ k q. ap (λ (f : ℕ → ℕ). f k) (instance_dom s' ∙ same_dom s s' w one.elsewhere sized one.accepted ∙ sym (instance_dom s));
           was = number_cost s w h was;
-          becomes = number_cost s' w (kept w h) (λ z. is (sym e ∙ z)) ∙ ap Of e;
+          becomes = number_cost s' w (kept w h) (λ z. is (sym e ∙ z)) ∙ ap Some e;
           others = same_cost;
         }
 

@@ -17,7 +17,6 @@ use Rattle.costs.specs.Laws.Tried.{problem_by}
 use Rattle.costs.specs.Laws.Stream.{sound_of}
 use Rattle.costs.specs.Gather.{sizes_in}
 use Rattle.costs.specs.Gather.Sizes.{accepted-sizes_good}
-use Rattle.message.specs.declared.Parsed.{Parsed}
 use Rattle.message.specs.Message.{Packet}
 use Rattle.message.specs.RoundTrip.{parse_encode}
 use Rattle.rules.specs.declared.Unit.{Unit as UnitState}
@@ -137,7 +136,7 @@ module _ (order : ValueOrder) (s : List ℕ) (ok : Accepted s) (S : Shed) (H : H
     own_cell : is_stray s p.message.receiver (packet_bytes p) c ≡ false
     unfolding is_stray instance_of
     own_cell =
-        ap (λ (q : Parsed). stray_read (units_of s) c q.answer q.message) (parse_encode (units_of s) (sizes_in s) p.kind p.message (accepted-sizes_good s ok) w.address w.form w.arrays)
+        ap (stray_read (units_of s) c) (parse_encode (units_of s) (sizes_in s) p.kind p.message (accepted-sizes_good s ok) w.address w.form w.arrays)
         ∙ ap not (eq-eqb (slot_of (units_of s) p) c found.2.2)
 
     handed_over_lem : deliver_of order S.core s S.pool c ≡ stored S.core S.pool c (units_of s) p.message.receiver (step_on order (instance_of s) H.units p)

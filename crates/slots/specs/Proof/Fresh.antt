@@ -1,7 +1,7 @@
 -- What a message overwrites is not newer than it, as packets and by the call `newer`: the machine's order of stamps and bounds (protocol/specs/Slots), read off the packets' bytes.
 -- In order: two stamps filled alike; two packets of one cell; the call on their bytes; what a step overwrites (`all_fresher`).
 -- Assumes nothing.
-use Rattle.std.specs.Prelude.{◌≡◌, ℕ, zero, suc, pred, ◌+◌, ◌-◌, ◌<◌, ◌≤◌, Bool, true, false, cond, ◌≢◌, ◌⊎◌, List, [], ◌∷◌, ◌==◌, nat_lt, slice_set}
+use Rattle.std.specs.Prelude.{◌≡◌, ℕ, zero, suc, pred, ◌+◌, ◌-◌, ◌<◌, ◌≤◌, Bool, true, false, cond, ◌≢◌, ◌⊎◌, List, [], ◌∷◌, ◌==◌, nat_lt, slice_set, Ok}
 use Rattle.std.specs.Prelude.{refl}
 use Rattle.std.proofs.Common.{sym, ◌∙◌, subst, inl, inr, arith}
 use Rattle.std.proofs.Math.Path.{ap}
@@ -13,13 +13,12 @@ use Rattle.base.specs.Members.Laws.{not-in-nil}
 use Rattle.base.specs.Shape.{shape_good}
 use Rattle.costs.specs.declared.ValueOrder.{ValueOrder}
 use Rattle.costs.specs.Instance.{Instance}
-use Rattle.message.specs.declared.Read.TheVariants.{Good}
-use Rattle.message.specs.declared.Parsed.{Parsed}
 use Rattle.message.specs.Message.{Packet, kind_code}
 use Rattle.message.specs.Decode.{parse_of, parse_for}
 use Rattle.message.specs.RoundTrip.{parse_encode, receiver_of_encode}
-use Rattle.rules.specs.declared.Ordering.{Ordering}
-use Rattle.rules.specs.declared.Ordering.TheVariants.{Less, Equal, Greater}
+use Rattle.std.specs.declared.cmp.Ordering.{Ordering}
+use Rattle.std.specs.declared.cmp.Ordering.TheVariants.{Less, Equal, Greater}
+use Rattle.std.specs.Ordering.{is_lt}
 use Rattle.rules.specs.State.{compare_on}
 use Rattle.rules.specs.Send.{packet_bytes}
 use Rattle.rules.specs.Laws.Packets.{Sendable}
@@ -30,7 +29,7 @@ use Rattle.protocol.specs.Simulation.Relations.{StampIs, Reads, ReadAll}
 use Rattle.protocol.specs.Slots.Slot as P
 use Rattle.protocol.specs.Slots.Slot.{kind_of, Slot, Apart, Allowed, stamp_in, solution_in, NotNewer}
 use Rattle.slots.specs.Slot.{used_slots, slot_of}
-use Rattle.slots.specs.Newer.{is_less, second_newer, choose, choice_of, handed_in, newer_of}
+use Rattle.slots.specs.Newer.{second_newer, choice_of, newer_of}
 use Rattle.slots.specs.Slot.Laws.{slot_apart}
 use Rattle.slots.specs.Run.{at_cell, waiting_in, overwritten_by}
 use Rattle.slots.specs.Demand3.{Fresher}
@@ -47,7 +46,7 @@ ranks_stay f (suc j) a b x y h =
     let e : f + suc j ≡ suc (f + j) = omega arith in
     rw e (omega (arith, ranks_stay f j a b x y h, x.rest (f + j) (omega arith), y.rest (f + j) (omega arith)))
 
-not_later : (f s t : ℕ) (a b : List ℕ) → f ≤ 16 → StampIs f a s → StampIs f b t → s ≤ t → is_less (compare_on places b a) ≡ false
+not_later : (f s t : ℕ) (a b : List ℕ) → f ≤ 16 → StampIs f a s → StampIs f b t → s ≤ t → is_lt (compare_on places b a) ≡ false
 not_later f s t a b most x y le = go (compare_on 16 b a) (order_of_ranks 16 b a y.digits x.digits)
   where
     all : rank 16 a ≤ rank 16 b
@@ -55,7 +54,7 @@ not_later f s t a b most x y le = go (compare_on 16 b a) (order_of_ranks 16 b a 
         let e : f + (16 - f) ≡ 16 = omega (arith, most) in
         subst (λ k. rank k a ≤ rank k b) e (ranks_stay f (16 - f) a b x.filled y.filled (omega (arith, x.is, y.is, le)))
 
-    go : (o : Ordering) → Compared o (rank 16 b) (rank 16 a) → is_less o ≡ false
+    go : (o : Ordering) → Compared o (rank 16 b) (rank 16 a) → is_lt o ≡ false
     go Less h = absurd (omega (arith, h, all))
     go Equal h = refl
     go Greater h = refl
@@ -106,7 +105,7 @@ module _ (order : ValueOrder) (I : Instance) (n16 : I.n ≤ 16) where
       kinds : (y : Msg) → P.slot_of I.n x ≡ P.slot_of I.n y → kind_of x ≡ kind_of y
       kinds y e = ap (λ s. s.kind) e
 
-      by_stamp : (y : Msg) → Reads order I q y → (e : P.slot_of I.n x ≡ P.slot_of I.n y) → stamp_in x ≤ stamp_in y → kind_of y < 4 → is_less (compare_on places q.message.stamp p.message.stamp) ≡ false
+      by_stamp : (y : Msg) → Reads order I q y → (e : P.slot_of I.n x ≡ P.slot_of I.n y) → stamp_in x ≤ stamp_in y → kind_of y < 4 → is_lt (compare_on places q.message.stamp p.message.stamp) ≡ false
       by_stamp y rq e le lt =
           not_later (filled (P.slot_of I.n x)) (stamp_in x) (stamp_in y) p.message.stamp q.message.stamp (few_filled (P.slot_of I.n x) a) (stamped p x rp a (omega (arith, kinds y e, lt)))
           (subst (λ s. StampIs (filled s) q.message.stamp (stamp_in y)) (sym e) (stamped q y rq (subst (Allowed I.n) e a) lt)) le
@@ -123,7 +122,7 @@ module _ (order : ValueOrder) (I : Instance) (n16 : I.n ≤ 16) where
 -- ---- the call on their bytes
 
 module _ (n : ℕ) (sizes : List ℕ) (shape : shape_good n sizes ≡ true) where
-  read_back : (p : Packet) → Sendable n sizes p → parse_of n sizes (packet_bytes p) ≡ record { answer = Good p.kind; message = p.message }
+  read_back : (p : Packet) → Sendable n sizes p → parse_of n sizes (packet_bytes p) ≡ Ok (p.kind, p.message)
   read_back p w = ap (λ r. parse_for n sizes r (packet_bytes p)) (receiver_of_encode p.kind p.message w.arrays) ∙ parse_encode n sizes p.kind p.message shape w.address w.form w.arrays
 
   -- the fresh one is handed back
@@ -131,9 +130,7 @@ module _ (n : ℕ) (sizes : List ℕ) (shape : shape_good n sizes ≡ true) wher
       → second_newer q.kind q.message p.message ≡ false → newer_of n sizes (packet_bytes q) (packet_bytes p) ≡ packet_bytes q
   unfolding choice_of
   fresh_handed q p wq wp k s r stays =
-      ap (λ (a : Parsed). handed_in (choose a.answer a.message (parse_of n sizes (packet_bytes p)).answer (parse_of n sizes (packet_bytes p)).message) (packet_bytes q) (packet_bytes p)) (read_back q wq)
-      ∙ ap (λ (a : Parsed). handed_in (choose (Good q.kind) q.message a.answer a.message) (packet_bytes q) (packet_bytes p)) (read_back p wp)
-      ∙ rw (eq-eqb (kind_code q.kind) (kind_code p.kind) (ap kind_code k), eq-eqb q.message.sender p.message.sender s, eq-eqb q.message.receiver p.message.receiver r, stays)
+      rw (read_back q wq, read_back p wp, eq-eqb (kind_code q.kind) (kind_code p.kind) (ap kind_code k), eq-eqb q.message.sender p.message.sender s, eq-eqb q.message.receiver p.message.receiver r, stays)
 
 -- ---- what a step overwrites, where the message of the cell c was taken out: packets ps, which read as ms, are placed
 

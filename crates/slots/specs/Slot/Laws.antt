@@ -7,7 +7,7 @@
 --     slot_each                             each of those used is a triple's
 --     three_hundred, used_fits, slot_bytes_lem  02: "300 cells for 16 units", "The pool is 19,200 bytes"
 -- Assumes nothing.
-use Rattle.std.specs.Prelude.{◌≡◌, ℕ, zero, suc, ◌+◌, ◌-◌, ◌*◌, ◌/◌, ◌<◌, ◌≤◌, Bool, true, false, cond, ◌&&◌, ◌||◌, ◌≢◌, ◌⊎◌, List, ◌==◌, nat_lt}
+use Rattle.std.specs.Prelude.{◌≡◌, ℕ, zero, suc, ◌+◌, ◌-◌, ◌*◌, ◌/◌, ◌<◌, ◌≤◌, Bool, true, false, cond, ◌&&◌, ◌||◌, ◌≢◌, ◌⊎◌, List, ◌==◌, nat_lt, Ok}
 use Rattle.std.specs.Prelude.{refl}
 use Rattle.std.proofs.Common.{sym, ap, subst, ◌∙◌, inl, inr, arith, mul-suc, suc-mul, mul-add, mul_comm, mul-le-mul, ltb-true, ltb-false, lt-ltb, le-ltb, eqb-true, eq-eqb, ne_eqb}
 use Rattle.std.proofs.lemmas.Bool.{eqb-false, not-true}
@@ -15,13 +15,11 @@ use Rattle.base.specs.Limits.{message_size}
 use Rattle.base.specs.Shape.Laws.{and_left, and_right, value_range, range_value}
 use Rattle.message.specs.declared.Kind.{Kind}
 use Rattle.message.specs.declared.Kind.TheVariants.{Cpa, Request, Estimate, Solution, Stop}
-use Rattle.message.specs.declared.Parsed.{Parsed}
-use Rattle.message.specs.declared.Read.TheVariants.{Good}
 use Rattle.message.specs.declared.Message.{Message}
 use Rattle.message.specs.Message.{kind_code, is_unit, direction_good, address_good, well_formed}
 use Rattle.message.specs.Decode.{parse_for}
 use Rattle.message.specs.Laws.{formed}
-use Rattle.message.specs.RoundTrip.{parsed_good}
+use Rattle.message.specs.RoundTrip.{parsed_good, parsed_message}
 use Rattle.slots.specs.Slot.{slot_cells, slot_pool_size, may_carry, used_slots, triangle, kind_start, place_in_kind, slot_number}
 
 -- ---- the pairs of m units
@@ -119,11 +117,10 @@ unfolding address_good
 fields_allowed n sizes k m a f = rw (a, (formed n sizes k m f).direction)
 
 -- so one that reads is
-pub read_allowed : (n : ℕ) (sizes : List ℕ) (own : ℕ) (l : List ℕ) (k : Kind) → (parse_for n sizes own l).answer ≡ Good k
-    → may_carry n k (parse_for n sizes own l).message.sender (parse_for n sizes own l).message.receiver ≡ true
-read_allowed n sizes own l k e =
-    let p = parsed_good n sizes own l k e in
-    ap (λ (q : Parsed). may_carry n k q.message.sender q.message.receiver) p.whole ∙ fields_allowed n sizes k _ p.address p.formed
+pub read_allowed : (n : ℕ) (sizes : List ℕ) (own : ℕ) (l : List ℕ) (k : Kind) (m : Message) → parse_for n sizes own l ≡ Ok (k, m) → may_carry n k m.sender m.receiver ≡ true
+read_allowed n sizes own l k m e =
+    let p = parsed_good n sizes own l k m e in
+    ap (λ (x : Message). may_carry n k x.sender x.receiver) (parsed_message n sizes own l k m e) ∙ fields_allowed n sizes k _ p.address p.formed
 
 -- ---- each cell lies in its kind's part
 

@@ -1,12 +1,8 @@
--- `read_bytes` meets its contract. The loop's invariant: the whole answer is that of the bytes from i on. Assumes nothing.
-use Prim.Native.Nat.{◌≤◌, ◌-◌}
+-- `read_bytes` meets its contract. The loop's invariant: the whole answer is that of the bytes from there on. Assumes nothing.
 use mathlib.Core.Path.{◌≡◌}
-use lib.ListN.{length, drop}
+use lib.ListN.{drop}
 use Rattle.start.specs.Byte.{after}
 use Rattle.start.proofs.read_bytes.Given as goal
 
-abbrev pub invariant-loop-i : goal.invariant-loop-i
-invariant-loop-i l = (l.i ≤ length l.bytes) × (after l.initial.reader l.bytes ≡ after l.reader (drop l.i l.bytes))
-
-abbrev pub decreases-loop-i : goal.decreases-loop-i
-decreases-loop-i l = length l.bytes - l.i
+abbrev pub invariant-loop-b : goal.invariant-loop-b
+invariant-loop-b l = after l.initial.reader l.bytes ≡ after l.reader (drop l.b-index l.bytes)

@@ -11,7 +11,7 @@ use Rattle.table.proofs.copy_blocks.Goals as goal
 
 pub loop-k-init : goal.loop-k-init
 unfolding joined
-loop-k-init c = (omega arith, refl, refl)
+loop-k-init c = refl
 
 pub payload-requires : goal.payload-requires
 payload-requires c =
@@ -34,11 +34,11 @@ loop-k-preserved c =
     let f = c.args.file.now in
     let r = c.payload in
     let p = payload-taken f (length f / 512) l.k c.requires.0.1 (omega arith) (512 * l.k + 512 - 512 * l.k) r.result.now (omega arith) r.ensures in
-    (omega arith, search rules, c.put.ensures ∙ payload-put f (length f / 512) l.k c.requires.0.1 (omega arith) c.args.out.now r.result.now l.out p l.invariant.2)
+    c.put.ensures ∙ payload-put f (length f / 512) l.k c.requires.0.1 (omega arith) c.args.out.now r.result.now l.out p l.invariant
 
 pub returns : goal.returns
 unfolding stream_of
 returns c =
     let l = c.loop-k in
     let e : l.k ≡ length c.args.file.now / 512 = omega arith in
-    l.invariant.2 ∙ rw e
+    l.invariant ∙ rw e

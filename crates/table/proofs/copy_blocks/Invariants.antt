@@ -1,6 +1,5 @@
 -- `copy_blocks` meets its contract. The loop's invariant: the first k payloads joined, then the buffer as it was.
 -- Assumes nothing.
-use Prim.Native.Nat.{◌≤◌, ◌-◌}
 use mathlib.Core.Path.{◌≡◌}
 use mathlib.Core.List.{◌++◌}
 use lib.ListN.{length, drop}
@@ -8,7 +7,4 @@ use Rattle.table.specs.File.{joined}
 use Rattle.table.proofs.copy_blocks.Given as goal
 
 abbrev pub invariant-loop-k : goal.invariant-loop-k
-invariant-loop-k l = (l.k ≤ l.blocks) × (length l.out ≡ length l.initial.out) × (l.out ≡ joined l.k l.file ++ drop (length (joined l.k l.file)) l.initial.out)
-
-abbrev pub decreases-loop-k : goal.decreases-loop-k
-decreases-loop-k l = l.blocks - l.k
+invariant-loop-k l = l.out ≡ joined l.k l.file ++ drop (length (joined l.k l.file)) l.initial.out

@@ -1,11 +1,10 @@
 -- `fill_block` meets its contract: the parts are written one behind the other, by the law that they make the block.
 -- Assumes nothing.
 use Rattle.table.specs.BlockLaws.{filled, sum_fits}
-use borrow.Author.Rules.{rules}
 use Rattle.table.proofs.fill_block.Goals as goal
 
-pub put_u16-requires-3 : goal.put_u16-requires-3
-put_u16-requires-3 c = (search rules, sum_fits _ _ c.sum-check.ensures)
+pub overflow_cast-check : goal.overflow_cast-check
+overflow_cast-check c = record { fits = sum_fits _ _ c.sum-check.ensures }
 
 pub returns : goal.returns
 returns c =

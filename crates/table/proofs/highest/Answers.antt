@@ -2,22 +2,10 @@
 -- Assumes nothing.
 use Prim.Native.Nat.{◌+◌, ◌*◌, ◌-◌, ◌%◌, max}
 use mathlib.Core.Path.{◌≡◌, refl, ◌∙◌}
-use mathlib.Core.Bool.{true}
 use native.Mathlib.Omega.{arith}
-use native.Mathlib.Nat.{sub-zero}
-use borrow.Author.Rules.{rules}
-use borrow.Author.Tests.{le-leb}
-use lib.Dec.{leb}
-use Rattle.base.specs.Limits.{pair_limit}
 use Rattle.base.specs.Bytes.{u16_at}
 use Rattle.table.specs.StreamLaws.{highest_next, highest_end}
 use Rattle.table.proofs.highest.Goals as goal
-
-pub loop-i-init : goal.loop-i-init
-loop-i-init c =
-    let a = c.args in
-    let z : leb 0 (pair_limit + a.lift) ≡ true = le-leb 0 (pair_limit + a.lift) (omega arith) in
-    (omega arith, search rules, search rules, rw (z, sub-zero))
 
 pub loop-i-preserved : goal.loop-i-preserved
 loop-i-preserved c =
@@ -25,13 +13,13 @@ loop-i-preserved c =
     let s = c.args.costs.now in
     let k : 2 * l.i + 2 ≡ 2 * (l.i + 1) = omega arith in
     let m : c.args.count - l.i - 1 ≡ c.args.count - (l.i + 1) = omega arith in
-    let low = c.wide_u32.ensures in
-    let high = c.wide_u32-in-loop-i.ensures in
-    let cost : c.larger-most.result ≡ max l.most ((u16_at s (2 * l.i) + c.args.lift) % 65536) = c.larger-most.ensures ∙ rw (high.0, low.0) refl in
-    (omega arith, l.invariant.1, l.invariant.2, rw (cost, ← k, ← m) (highest_next c.args.lift s (2 * l.i) (c.args.count - l.i) l.most l.invariant.3 (omega arith)))
+    let low = c.from.ensures in
+    let high = c.from-in-loop-i.ensures in
+    let cost : c.max-most.result ≡ max l.most ((u16_at s (2 * l.i) + c.args.lift) % 65536) = c.max-most.ensures ∙ rw (high, low) refl in
+    rw (cost, ← k, ← m) (highest_next c.args.lift s (2 * l.i) (c.args.count - l.i) l.most l.invariant (omega arith))
 
 pub returns : goal.returns
 returns c =
     let a = c.args in
     let l = c.loop-i in
-    highest_end a.lift a.costs.now (2 * l.i) (a.count - l.i) l.most l.invariant.3 (omega arith)
+    highest_end a.lift a.costs.now (2 * l.i) (a.count - l.i) l.most l.invariant (omega arith)

@@ -4,7 +4,6 @@ use Prim.Native.Nat.{ℕ, ◌-◌, ◌+◌, ◌*◌}
 use mathlib.Core.Path.{◌≡◌, refl, ◌∙◌, ap}
 use mathlib.Core.List.{List}
 use native.Mathlib.Omega.{arith}
-use borrow.Author.Rules.{rules}
 use lib.ListN.{length, take, drop}
 use Rattle.table.specs.Written.{file_from, block_of}
 use Rattle.table.specs.FileLaws.{file_more, carried, block_long}
@@ -13,7 +12,7 @@ use Rattle.table.proofs.write_blocks.Goals as goal
 
 pub loop-k-init : goal.loop-k-init
 unfolding file_from
-loop-k-init c = (omega arith, refl, refl)
+loop-k-init c = refl
 
 pub loop-k-preserved : goal.loop-k-preserved
 loop-k-preserved c =
@@ -21,13 +20,7 @@ loop-k-preserved c =
     let o = c.args.file.now in
     let l = c.loop-k in
     let b = c.fill_block.new.block in
-    let n = c.smaller-to.result - 506 * l.k in
-    let e : b ≡ block_of l.k (take 506 (drop (506 * l.k) s)) = c.fill_block.ensures ∙ ap (λ (p : List ℕ). block_of l.k p) (carried s l.k n (omega (arith, c.smaller-to.ensures))) in
+    let n = c.min-to.result - 506 * l.k in
+    let e : b ≡ block_of l.k (take 506 (drop (506 * l.k) s)) = c.fill_block.ensures ∙ ap (λ (p : List ℕ). block_of l.k p) (carried s l.k n (omega (arith, c.min-to.ensures))) in
     let g : 512 * l.k + 512 - 512 * l.k ≡ length b = omega (arith, ap length e ∙ block_long l.k (drop (506 * l.k) s)) in
-    (omega arith, search rules, put-part l.file b (512 * l.k) (512 * l.k + 512 - 512 * l.k) g ∙ rw (l.invariant.2, e) (file_more l.k s o))
-
-pub returns : goal.returns
-returns c =
-    let l = c.loop-k in
-    let e : l.k ≡ c.args.blocks = omega arith in
-    l.invariant.2 ∙ rw e
+    put-part l.file b (512 * l.k) (512 * l.k + 512 - 512 * l.k) g ∙ rw (l.invariant, e) (file_more l.k s o)

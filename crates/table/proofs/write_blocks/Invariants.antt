@@ -1,14 +1,11 @@
 -- `write_blocks` meets its contract. The loop's invariant: the first k blocks, then the buffer as it was.
 -- Assumes nothing.
-use Prim.Native.Nat.{◌≤◌, ◌-◌, ◌*◌}
+use Prim.Native.Nat.{◌*◌}
 use mathlib.Core.Path.{◌≡◌}
 use mathlib.Core.List.{◌++◌}
-use lib.ListN.{length, drop}
+use lib.ListN.{drop}
 use Rattle.table.specs.Written.{file_from}
 use Rattle.table.proofs.write_blocks.Given as goal
 
 abbrev pub invariant-loop-k : goal.invariant-loop-k
-invariant-loop-k l = (l.k ≤ l.blocks) × (length l.file ≡ length l.initial.file) × (l.file ≡ file_from 0 l.k l.stream ++ drop (512 * l.k) l.initial.file)
-
-abbrev pub decreases-loop-k : goal.decreases-loop-k
-decreases-loop-k l = l.blocks - l.k
+invariant-loop-k l = l.file ≡ file_from 0 l.k l.stream ++ drop (512 * l.k) l.initial.file

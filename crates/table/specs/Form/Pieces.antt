@@ -14,7 +14,7 @@ use Rattle.table.specs.declared.converter.Shape.{Shape}
 use Rattle.table.specs.Stream.{in_form_two, opening, units_of, sizes_of, sum_list, unaries_in, unaries_at, pairs_at, Accepted}
 use Rattle.table.specs.StreamLaws.{opening_one, opening-two, unaries_two, accepted_units, accepted_length, accepted-most}
 use Rattle.table.specs.Block.{all_zero, blocks_for}
-use Rattle.table.specs.File.{stream_of}
+use Rattle.table.specs.File.{stream_of, read_refusal}
 use Rattle.table.specs.FileLaws.{read_size, read_blocks, read_most, stream_viewed}
 use Rattle.table.specs.View.{BlocksAccepted, place_in_file}
 use Rattle.table.specs.RoundTrip.{AcceptedFile}
@@ -54,6 +54,10 @@ pieces_of One s = cond (in_form_two s) (to_one_pieces s) same_form
 pieces_of Two s = cond (in_form_two s) same_form (to_two_pieces s)
 
 -- ---- an accepted file
+
+pub accepted_by : (f : List ℕ) → read_refusal f stream_size ≡ 0 → AcceptedFile f
+unfolding AcceptedFile
+accepted_by f ok = ok
 
 module _ (f : List ℕ) (ok : AcceptedFile f) where
   pub accepted_blocks : BlocksAccepted f

@@ -1,8 +1,7 @@
 -- `put_costs` meets its contract. The loop's invariant: the first k costs stand at their place, and `weight` is the power of the digits that are left.
 -- Assumes nothing.
-use Prim.Native.Nat.{◌-◌, ◌^◌, ◌≤◌}
+use Prim.Native.Nat.{◌-◌, ◌^◌}
 use mathlib.Core.Path.{◌≡◌}
-use lib.ListN.{length}
 use Rattle.base.specs.Bytes.{le16}
 use Rattle.base.specs.Join.{join_to}
 use Rattle.base.specs.Put.{put_at}
@@ -11,7 +10,4 @@ use Rattle.tiny.proofs.put_costs.Given as goal
 
 abbrev pub invariant-loop-k : goal.invariant-loop-k
 invariant-loop-k l =
-    (l.k ≤ l.costs) × (length l.stream ≡ length l.initial.stream) × (l.weight ≡ 2 ^ (l.costs - l.k)) × (l.stream ≡ put_at l.initial.stream l.at (join_to (λ i. le16 (digit l.costs l.number i)) l.k))
-
-abbrev pub decreases-loop-k : goal.decreases-loop-k
-decreases-loop-k l = l.costs - l.k
+    (l.weight ≡ 2 ^ (l.costs - l.k)) × (l.stream ≡ put_at l.initial.stream l.at (join_to (λ i. le16 (digit l.costs l.number i)) l.k))

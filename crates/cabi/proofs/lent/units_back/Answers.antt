@@ -12,14 +12,14 @@ use Rattle.cabi.proofs.lent.units_back.Goals as goal
 
 pub loop-i-init : goal.loop-i-init
 unfolding up_to
-loop-i-init c = (search rules, refl)
+loop-i-init c = refl
 
 pub loop-i-preserved : goal.loop-i-preserved
 loop-i-preserved c =
     let a = c.args in
     let l = c.loop-i in
     let h : length a.ss ≡ 16 = search rules in
-    (omega arith, rw (l.invariant.1, c.unit_back.ensures) (up_to_next (λ (k : ℕ). unit_back (get_or a.ss k empty_lent) (get_or a.us k empty_unit)) a.ss l.i empty_lent (omega arith)))
+    rw (l.invariant, c.unit_back.ensures) (up_to_next (λ (k : ℕ). unit_back (get_or a.ss k empty_lent) (get_or a.us k empty_unit)) a.ss l.i empty_lent (omega arith))
 
 pub returns : goal.returns
 returns c =
@@ -27,4 +27,4 @@ returns c =
     let l = c.loop-i in
     let h : length a.ss ≡ 16 = search rules in
     let e : l.i ≡ 16 = omega arith in
-    l.invariant.1 ∙ rw e (up_to_done (λ (k : ℕ). unit_back (get_or a.ss k empty_lent) (get_or a.us k empty_unit)) a.ss 16 h)
+    l.invariant ∙ rw e (up_to_done (λ (k : ℕ). unit_back (get_or a.ss k empty_lent) (get_or a.us k empty_unit)) a.ss 16 h)

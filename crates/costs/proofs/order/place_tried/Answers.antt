@@ -6,18 +6,18 @@ use Rattle.costs.specs.Order.Laws.{place_of_none, ascending_place}
 use Rattle.costs.specs.Lent.Steps.{order_from, cheapest_place}
 use Rattle.costs.proofs.order.place_tried.Goals as goal
 
-pub returns-then-v-eq0 : goal.returns-then-v-eq0
-returns-then-v-eq0 c =
+pub returns-in_default : goal.returns-in_default
+returns-in_default c =
     let a = c.args in
-    rw (c.if-v-eq0.true, place_of_none (view_knowing a.seat a.costs.now a.ahead.now))
+    rw (← c.from-v.ensures, c.if-v-ne0.false, place_of_none (view_knowing a.seat a.costs.now a.ahead.now))
 
-pub returns-in-Ascending : goal.returns-in-Ascending
-returns-in-Ascending c =
+pub returns-in_default-2 : goal.returns-in_default-2
+returns-in_default-2 c =
     let a = c.args in
-    c.wide.ensures.0 ∙ sym (ascending_place (view_knowing a.seat a.costs.now a.ahead.now) (order_from a.seat a.costs.now a.ahead.now ∙ c.in-Ascending.is) a.v)
+    c.from-v.ensures ∙ sym (ascending_place (view_knowing a.seat a.costs.now a.ahead.now) (order_from a.seat a.costs.now a.ahead.now ∙ c.in_default.is) a.v)
 
-pub returns-else-v-eq0 : goal.returns-else-v-eq0
-returns-else-v-eq0 c =
+pub returns-in-CheapestFirst : goal.returns-in-CheapestFirst
+returns-in-CheapestFirst c =
     let a = c.args in
-    let some : 1 ≤ a.v = omega (arith, c.if-v-eq0.false) in
-    rw (cheapest_place a.seat a.costs.now a.ahead.now a.v c.in-CheapestFirst.is some, c.earlier_values.ensures.0, c.wide-in-CheapestFirst.ensures.0, one-add)
+    let some : 1 ≤ a.v = omega (arith, c.if-v-ne0.true, c.from-v.ensures) in
+    rw (cheapest_place a.seat a.costs.now a.ahead.now a.v c.in-CheapestFirst.is some, c.earlier_values.ensures.0, c.from-v.ensures, one-add)

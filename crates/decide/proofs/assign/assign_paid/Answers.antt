@@ -21,7 +21,7 @@ begun-is : (c : After-begin-s) (e : List ℕ) → let a = c.args in holding c.be
 begun-is c e =
     let a = c.args in
     let w = view_knowing a.seat a.costs.now a.ahead.now in
-    let paid : c.of_value.result ≡ own_cost w (holding a.t e) = own_paid_lent a.seat a.costs.now a.ahead.now (holding a.t zeros) a.paid c.of_value.result c.requires.0 c.requires.1 c.requires.2 c.of_value.ensures in
+    let paid : c.of_value.result ≡ own_cost w (holding a.t e) = own_paid_lent a.seat a.costs.now a.ahead.now (holding a.t zeros) a.paid c.of_value.result c.requires.0 c.requires.1 c.requires.2 (rw c.from.ensures at c.of_value.ensures) in
     c.begin-s.ensures w e (own-lent a.seat a.costs.now a.ahead.now c.requires.0.number.first) paid
 
 sized : (c : Start) → (length c.args.t.stamp ≡ 16) × (length c.args.t.values ≡ 16)
@@ -37,7 +37,7 @@ try_after-requires c =
     let l = sized past.Start in (
       c.requires.0,
       begun_paid a.seat a.costs.now a.ahead.now u t e a.paid c.requires.2,
-      c.requires.1.value,
+      rw c.from.ensures c.requires.1.value,
       record {
         threshold = begun-low a.seat a.costs.now a.ahead.now u t e c.requires.1;
         counter = begun_few a.seat a.costs.now a.ahead.now u t e c.requires.1;
@@ -49,4 +49,4 @@ try_after-requires c =
 pub returns : goal.returns
 returns c =
     λ was e. let a = c.args in
-    c.try_after.ensures was ∙ ap (λ (o : Decision). decided_of was o) (assign-lent a.seat a.costs.now a.ahead.now (holding a.t e) (holding c.begin-s.result zeros) (begun-is (goal.at.returns c).After-begin-s e))
+    (rw c.from.ensures at (c.try_after.ensures was)) ∙ ap (λ (o : Decision). decided_of was o) (assign-lent a.seat a.costs.now a.ahead.now (holding a.t e) (holding c.begin-s.result zeros) (begun-is (goal.at.returns c).After-begin-s e))

@@ -8,12 +8,12 @@ use Rattle.rules.specs.declared.Unit.{Unit}
 use Rattle.rules.specs.State.{zeros, with_counter}
 use Rattle.decide.proofs.assign.begin.Goals as goal
 
-pub returns-then-t-own-eq0 : goal.returns-then-t-own-eq0
-returns-then-t-own-eq0 c =
+pub returns-then-t-from-eq0 : goal.returns-then-t-from-eq0
+returns-then-t-from-eq0 c =
     λ w e o q. let p : w.place ≡ c.args.own - 1 = omega arith in
-    rw (p, eq-eqb _ _ c.if-t-own-eq0.true) (rw p at (ap (λ (u : Unit). with_counter 0 u) (c.take_off-s.ensures w zeros o q)))
+    rw (p, eq-eqb _ _ (rw c.from.ensures at c.if-t-from-eq0.true)) (rw p at (ap (λ (u : Unit). with_counter 0 u) (c.take_off-s.ensures w zeros o q)))
 
-pub returns-else-t-own-eq0 : goal.returns-else-t-own-eq0
-returns-else-t-own-eq0 c =
+pub returns-else-t-from-eq0 : goal.returns-else-t-from-eq0
+returns-else-t-from-eq0 c =
     λ w e o q. let p : w.place ≡ c.args.own - 1 = omega arith in
-    rw (p, ne_eqb _ _ c.if-t-own-eq0.false) (rw p at (c.take_off-s.ensures w zeros o q))
+    rw (p, ne_eqb _ _ (rw c.from.ensures at c.if-t-from-eq0.false)) (rw p at (c.take_off-s.ensures w zeros o q))

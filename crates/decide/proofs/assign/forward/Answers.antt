@@ -9,5 +9,5 @@ use Rattle.decide.proofs.assign.forward.Goals as goal
 pub returns : goal.returns
 returns c =
     λ w o.
-    rw (c.release.ensures, c.carry-message.ensures w zeros o)
+    rw (c.release.ensures, c.carry.ensures w zeros o)
     (ap (λ (u : Unit). sent_on w c.args.records u) (c.put-s.ensures w zeros o))

@@ -15,8 +15,9 @@ pub returns : goal.returns
 returns c =
     let a = c.args in
     let l : length a.t.stamp ≡ 16 = search rules in
-    let i : a.own - 1 < length a.t.stamp = omega arith in (
+    let i : a.own - 1 < length a.t.stamp = omega arith in
+    rw c.from-place.ensures (
       get_or-set_same a.t.stamp (a.own - 1) (a.t.counter + 1) 0 i,
       λ w e o. let p : w.place ≡ a.own - 1 = omega arith in
-          ap (λ (u : Unit). with_threshold (set a.t.stamp (a.own - 1) (a.t.counter + 1)) (with_counter (a.t.counter + 1) u)) (c.with_best-s.ensures e) ∙ rw (p, add-one),
+          ap (λ (u : Unit). with_threshold (set a.t.stamp (a.own - 1) (a.t.counter + 1)) (with_counter (a.t.counter + 1) u)) (rw c.from-place.ensures at (c.with_best.ensures e)) ∙ rw (p, add-one),
     )

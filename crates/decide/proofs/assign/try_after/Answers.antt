@@ -78,14 +78,14 @@ off c =
 
 -- the sum of the cost in hand and what the value costs
 sum_is : (c : After-below_bound)
-    → c.wide_u64.result + c.wide_u64-in-loop-v.result ≡ c.loop-v.t.cost + get_or c.args.paid (c.next-v.result - 1) 0
-sum_is c = omega (arith, c.wide_u64.ensures, c.wide_u64-in-loop-v.ensures)
+    → c.sum-cost.result ≡ c.loop-v.t.cost + get_or c.args.paid (c.next-v.result - 1) 0
+sum_is c = rw c.from.ensures at c.sum-cost.ensures.0
 
 -- it is below a bound of 32 bits
-under : (c : After-below_bound) → c.below_bound.result ≡ true → c.wide_u64.result + c.wide_u64-in-loop-v.result < 4294967296
+under : (c : After-below_bound) → c.below_bound.result ≡ true → c.sum-cost.result < 4294967296
 under c e =
     let a = c.args in
-    let l : c.wide_u64.result + c.wide_u64-in-loop-v.result + as_number (h (view_knowing a.seat a.costs.now a.ahead.now) c.next-v.result) < c.loop-v.t.bound = ltb-true _ _ (sym c.below_bound.ensures.0 ∙ e) in
+    let l : c.sum-cost.result + as_number (h (view_knowing a.seat a.costs.now a.ahead.now) c.next-v.result) < c.loop-v.t.bound = ltb-true _ _ (sym c.below_bound.ensures.0 ∙ e) in
     omega (arith, l, c.below_bound.ensures.1)
 
 pub returns-then-seat : goal.returns-then-seat
@@ -97,7 +97,7 @@ returns-then-seat c =
     let a = c.args in
     let w = view_knowing a.seat a.costs.now a.ahead.now in
     let o : suc w.place ≡ a.seat.own = own-lent a.seat a.costs.now a.ahead.now c.requires.0.number.first in
-    let cost = c.wide_u64.result + c.wide_u64-in-loop-v.result in
+    let cost = c.sum-cost.result in
     c.forward.ensures w o
     ∙ sym (l.invariant.whole was
     ∙ written_on w l.v y l.records was l.improved (holding l.t zeros) (tried past.Else-v-eq0) (omega (arith, c.if-v-eq0.false)) c.below_bound.ensures.1 _ _ (paid-is past.Else-v-eq0) refl
@@ -113,7 +113,7 @@ loop-v-preserved-then-below_bound c =
     let w = view_knowing a.seat a.costs.now a.ahead.now in
     let o : suc w.place ≡ a.seat.own = own-lent a.seat a.costs.now a.ahead.now c.requires.0.number.first in
     let better = c.improve-t.ensures.1 w zeros o in
-    let cost = c.wide_u64.result + c.wide_u64-in-loop-v.result in
+    let cost = c.sum-cost.result in
     let less = fewer past.Else-v-eq0 in
     record {
       within = c.next-v.ensures.1;
@@ -137,7 +137,7 @@ loop-v-preserved c =
     let a = c.args in
     let w = view_knowing a.seat a.costs.now a.ahead.now in
     let less = fewer earlier.Else-v-eq0 in
-    let past : l.t.bound ≤ c.wide_u64.result + c.wide_u64-in-loop-v.result + as_number (h w y) = ltb-false _ _ (sym c.below_bound.ensures.0 ∙ c.if-below_bound.false) in
+    let past : l.t.bound ≤ c.sum-cost.result + as_number (h w y) = ltb-false _ _ (sym c.below_bound.ensures.0 ∙ c.if-below_bound.false) in
     record {
       within = c.next-v.ensures.1;
       written = omega (arith, less, l.invariant.written);
@@ -159,9 +159,6 @@ returns-then-v-eq0 c =
     let o : suc w.place ≡ a.seat.own = own-lent a.seat a.costs.now a.ahead.now c.requires.0.number.first in
     let none : next w l.v ≡ 0 = sym (c.next-v.ensures.0 a.costs.now a.ahead.now c.keys-keys.ensures) ∙ c.if-v-eq0.true in
     c.backtrack.ensures w was zeros o ∙ sym (l.invariant.whole was ∙ none_left w l.v l.records was l.improved (holding l.t zeros) none)
-
-pub below_bound-requires : goal.below_bound-requires
-below_bound-requires c = omega (arith, c.wide_u64.ensures, c.wide_u64-in-loop-v.ensures)
 
 pub overflow_cast-cost : goal.overflow_cast-cost
 overflow_cast-cost c = let l = under (goal.at.overflow_cast-cost c).After-below_bound c.if-below_bound.true in search rules

@@ -8,4 +8,4 @@ use Rattle.decide.proofs.backtrack.backtrack.Goals as goal
 
 pub returns : goal.returns
 unfolding backtrack
-returns c = λ w was e o. let n : c.args.records + 0 ≡ c.args.records = omega arith in rw (c.back_up.ensures w e o, c.carry-message.ensures w e o, n)
+returns c = λ w was e o. let n : c.args.records + 0 ≡ c.args.records = omega arith in rw (c.back_up.ensures w e o, c.carry.ensures w e o, n)

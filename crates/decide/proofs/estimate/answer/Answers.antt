@@ -4,4 +4,4 @@ use Rattle.rules.specs.Laws.Ways.{reply_is}
 use Rattle.decide.proofs.estimate.answer.Goals as goal
 
 pub returns : goal.returns
-returns c = λ was. let a = c.args in rw (c.reply-message.ensures, reply_is a.seat a.costs.now a.ahead.now a.m c.requires.first)
+returns c = λ was. let a = c.args in rw (c.reply.ensures, reply_is a.seat a.costs.now a.ahead.now a.m c.requires.first)

@@ -28,7 +28,7 @@ pub returns-then-not-is_stamp_out : goal.returns-then-not-is_stamp_out
 returns-then-not-is_stamp_out c =
     let a = c.args in
     let w = view_knowing a.seat a.costs.now a.ahead.now in
-    c.refuse.ensures ∙ ap (λ (x : Decision). decided_of a.u x) (estimate_foreign w a.u a.m (sym (out (goal.at.returns-then-not-is_stamp_out c).After-is_stamp_out) ∙ c.if-not-is_stamp_out.true))
+    c.refused.ensures ∙ ap (λ (x : Decision). decided_of a.u x) (estimate_foreign w a.u a.m (sym (out (goal.at.returns-then-not-is_stamp_out c).After-is_stamp_out) ∙ c.if-not-is_stamp_out.true))
 
 pub assign-requires : goal.assign-requires
 assign-requires c =
@@ -38,19 +38,19 @@ assign-requires c =
 -- the estimates added up
 sum_is : (c : After-sum_later)
     → let a = c.args in
-    c.wide_u64-2.result + c.sum_later.result ≡ a.u.cost + sum_later (view_knowing a.seat a.costs.now a.ahead.now) (stored a.m a.u).estimates
+    c.from.result + c.sum_later.result ≡ a.u.cost + sum_later (view_knowing a.seat a.costs.now a.ahead.now) (stored a.m a.u).estimates
 sum_is c =
     let a = c.args in
-    let sum = c.sum_later.ensures.1 (view_knowing a.seat a.costs.now a.ahead.now) (own-lent a.seat a.costs.now a.ahead.now c.requires.0.number.first) (n-lent a.seat a.costs.now a.ahead.now) in
-    omega (arith, sum, c.wide_u64-2.ensures.0)
+    let sum = rw c.with_estimate.ensures at (c.sum_later.ensures.1 (view_knowing a.seat a.costs.now a.ahead.now) (own-lent a.seat a.costs.now a.ahead.now c.requires.0.number.first) (n-lent a.seat a.costs.now a.ahead.now)) in
+    omega (arith, sum, c.from.ensures)
 
-pub returns-then-wide_u64-sum_later : goal.returns-then-wide_u64-sum_later
-returns-then-wide_u64-sum_later c =
-    let past = goal.at.returns-then-wide_u64-sum_later c in
+pub returns-then-from-reached : goal.returns-then-from-reached
+returns-then-from-reached c =
+    let past = goal.at.returns-then-from-reached c in
     let a = c.args in
     let w = view_knowing a.seat a.costs.now a.ahead.now in
     let t = stored a.m a.u in
-    let l : t.bound ≤ t.cost + sum_later w t.estimates = omega (arith, sum_is past.After-sum_later, c.wide_u64.ensures.0, c.if-wide_u64-sum_later.true) in
+    let l : t.bound ≤ t.cost + sum_later w t.estimates = omega (arith, sum_is past.After-sum_later, c.from-2.ensures, c.if-from-reached.true) in
     c.assign.ensures a.u t.estimates ∙ ap (λ (u : Unit). decided_of a.u (assign w u)) (c.hold.ensures t.estimates)
     ∙ ap (λ (o : Decision). decided_of a.u o) (estimate_reached w a.u t a.m (sym (out past.After-is_stamp_out) ∙ c.if-not-is_stamp_out.false) refl l)
 
@@ -60,6 +60,6 @@ returns c =
     let a = c.args in
     let w = view_knowing a.seat a.costs.now a.ahead.now in
     let t = stored a.m a.u in
-    let l : t.cost + sum_later w t.estimates < t.bound = omega (arith, sum_is past.After-sum_later, c.wide_u64.ensures.0, c.if-wide_u64-sum_later.false) in
+    let l : t.cost + sum_later w t.estimates < t.bound = omega (arith, sum_is past.After-sum_later, c.from-2.ensures, c.if-from-reached.false) in
     c.quiet.ensures a.u ∙ ap (λ (u : Unit). decided_of a.u (quiet u)) c.store.ensures
     ∙ ap (λ (o : Decision). decided_of a.u o) (estimate_short w a.u t a.m (sym (out past.After-is_stamp_out) ∙ c.if-not-is_stamp_out.false) refl l)

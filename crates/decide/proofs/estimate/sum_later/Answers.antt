@@ -6,15 +6,12 @@ use lib.ListN.{get_or}
 use Rattle.decide.proofs.Rules.{sum_more, sum_done}
 use Rattle.decide.proofs.estimate.sum_later.Goals as goal
 
-pub loop-j-init : goal.loop-j-init
-loop-j-init c = (omega arith, omega arith, omega arith, omega arith, omega arith)
-
 pub loop-j-preserved : goal.loop-j-preserved
 loop-j-preserved c =
     let a = c.args in
     let l = c.loop-j in
     let m = sum_more (λ (k : ℕ). get_or a.estimates k 0) l.j a.seat.n (omega arith) in
-    (omega arith, omega arith, omega arith, omega arith, omega arith)
+    (omega arith, omega arith, l.invariant.2, omega arith, omega arith)
 
 pub returns : goal.returns
 returns c =

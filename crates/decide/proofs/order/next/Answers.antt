@@ -8,9 +8,9 @@ use Rattle.decide.proofs.order.next.Goals as goal
 pub returns-in-Ascending : goal.returns-in-Ascending
 returns-in-Ascending c =
     let seat = c.args.seat in
-    (λ costs ahead known. c.number_after.ensures.1 (view_knowing seat costs ahead) (order-lent seat costs ahead ∙ c.in-Ascending.is) (dom-lent seat costs ahead c.requires.0.number.first c.requires.0.within), c.number_after.ensures.0)
+    (λ costs ahead known. c.number_after.ensures.1 (view_knowing seat costs ahead) (order-lent seat costs ahead ∙ c.in-Ascending.is) (rw c.from.ensures (dom-lent seat costs ahead c.requires.0.number.first c.requires.0.within)), rw c.from.ensures at c.number_after.ensures.0)
 
 pub returns-in-CheapestFirst : goal.returns-in-CheapestFirst
 returns-in-CheapestFirst c =
     let seat = c.args.seat in
-    (λ costs ahead known. c.cheapest_after.ensures.1 (view_knowing seat costs ahead) (order-lent seat costs ahead ∙ c.in-CheapestFirst.is) (dom-lent seat costs ahead c.requires.0.number.first c.requires.0.within) known, c.cheapest_after.ensures.0)
+    (λ costs ahead known. c.cheapest_after.ensures.1 (view_knowing seat costs ahead) (order-lent seat costs ahead ∙ c.in-CheapestFirst.is) (rw c.from.ensures (dom-lent seat costs ahead c.requires.0.number.first c.requires.0.within)) known, rw c.from.ensures at c.cheapest_after.ensures.0)

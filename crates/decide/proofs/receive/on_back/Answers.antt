@@ -1,28 +1,29 @@
 -- `on_back` meets its contract: each way out decides the tests of `on_back`.
 -- Assumes nothing.
+use Rattle.std.specs.Ordering.{is_lt}
 use mathlib.Core.Path.{◌≡◌, sym, ap, ◌∙◌}
 use mathlib.Core.Bool.{Bool, true, false}
 use Rattle.costs.specs.Instance.{view_knowing}
 use Rattle.rules.specs.declared.Unit.{Unit}
-use Rattle.rules.specs.State.{zeros, not_less}
+use Rattle.rules.specs.State.{zeros}
 use Rattle.rules.specs.Step.{Decision, take_bound, resume, is_cpa_out}
 use Rattle.rules.specs.Tests.{holding, on_own}
 use Rattle.rules.specs.Ready.{decided_of}
 use Rattle.decide.proofs.Lent.{own-lent}
 use Rattle.decide.proofs.Rules.{ready_bound, ready_held, back_stale, back_own}
 use Rattle.decide.proofs.receive.on_back.Goals as goal
-use Rattle.decide.proofs.receive.on_back.Goals.{Else-not-not_less, After-is_cpa_out}
+use Rattle.decide.proofs.receive.on_back.Goals.{Else-is_lt, After-is_cpa_out}
 
-pub returns-then-not-not_less : goal.returns-then-not-not_less
-returns-then-not-not_less c =
+pub returns-then-is_lt : goal.returns-then-is_lt
+returns-then-is_lt c =
     let a = c.args in
     let w = view_knowing a.seat a.costs.now a.ahead.now in
-    let x : not_less a.order ≡ false = sym c.not_less.ensures ∙ c.if-not-not_less.true in
+    let x : is_lt a.order ≡ true = sym c.is_lt.ensures ∙ c.if-is_lt.true in
     c.quiet.ensures a.u ∙ ap (λ (o : Decision). decided_of a.u o) (back_stale w a.order a.u a.m x)
 
 -- not stale
-fresh : (c : Else-not-not_less) → not_less c.args.order ≡ true
-fresh c = sym c.not_less.ensures ∙ c.if-not-not_less.false
+fresh : (c : Else-is_lt) → is_lt c.args.order ≡ false
+fresh c = sym c.is_lt.ensures ∙ c.if-is_lt.false
 
 -- whether the cpa is the one out
 out : (c : After-is_cpa_out)
@@ -39,7 +40,7 @@ returns-then-not-is_cpa_out c =
     let a = c.args in
     let w = view_knowing a.seat a.costs.now a.ahead.now in
     let y : is_cpa_out w a.u a.m ≡ false = sym (out past.After-is_cpa_out) ∙ c.if-not-is_cpa_out.true in
-    c.refuse.ensures ∙ ap (λ (b : Bool). decided_of a.u (on_own w b a.u a.m)) (sym y) ∙ ap (λ (o : Decision). decided_of a.u o) (back_own w a.order a.u a.m (fresh past.Else-not-not_less))
+    c.refused.ensures ∙ ap (λ (b : Bool). decided_of a.u (on_own w b a.u a.m)) (sym y) ∙ ap (λ (o : Decision). decided_of a.u o) (back_own w a.order a.u a.m (fresh past.Else-is_lt))
 
 pub resume-requires : goal.resume-requires
 resume-requires c =
@@ -59,4 +60,4 @@ returns c =
     let y : is_cpa_out w a.u a.m ≡ true = sym (out past.After-is_cpa_out) ∙ c.if-not-is_cpa_out.false in
     c.resume.ensures a.u e
     ∙ ap (λ (t : Unit). decided_of a.u (resume w t)) (c.take_bound.ensures e ∙ ap (λ (t : Unit). take_bound a.m t) (c.hold-t.ensures e))
-    ∙ ap (λ (b : Bool). decided_of a.u (on_own w b a.u a.m)) (sym y) ∙ ap (λ (o : Decision). decided_of a.u o) (back_own w a.order a.u a.m (fresh past.Else-not-not_less))
+    ∙ ap (λ (b : Bool). decided_of a.u (on_own w b a.u a.m)) (sym y) ∙ ap (λ (o : Decision). decided_of a.u o) (back_own w a.order a.u a.m (fresh past.Else-is_lt))

@@ -12,10 +12,10 @@ pub returns-then-m-seat : goal.returns-then-m-seat
 returns-then-m-seat c =
     let a = c.args in
     let w = view_knowing a.seat a.costs.now a.ahead.now in
-    c.on_down.ensures a.u ∙ ap (λ (o : Decision). decided_of a.u o) (cpa_down w a.seat.own a.u a.m c.compare-order.result (own-lent a.seat a.costs.now a.ahead.now c.requires.0.number.first) c.compare-order.ensures c.if-m-seat.true)
+    c.on_down.ensures a.u ∙ ap (λ (o : Decision). decided_of a.u o) (cpa_down w a.seat.own a.u a.m c.compare-order.result (own-lent a.seat a.costs.now a.ahead.now c.requires.0.number.first) (rw c.from.ensures at c.compare-order.ensures) c.if-m-seat.true)
 
-pub returns : goal.returns
-returns c =
+pub returns-else-m-seat : goal.returns-else-m-seat
+returns-else-m-seat c =
     let a = c.args in
     let w = view_knowing a.seat a.costs.now a.ahead.now in
-    c.on_back.ensures ∙ ap (λ (o : Decision). decided_of a.u o) (cpa_back w a.seat.own a.u a.m c.compare-order.result (own-lent a.seat a.costs.now a.ahead.now c.requires.0.number.first) c.compare-order.ensures c.if-m-seat.false)
+    c.on_back.ensures ∙ ap (λ (o : Decision). decided_of a.u o) (cpa_back w a.seat.own a.u a.m c.compare-order.result (own-lent a.seat a.costs.now a.ahead.now c.requires.0.number.first) (rw c.from.ensures at c.compare-order.ensures) c.if-m-seat.false)

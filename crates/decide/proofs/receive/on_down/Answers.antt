@@ -3,7 +3,7 @@
 use mathlib.Core.Path.{sym, ap, ◌∙◌}
 use Rattle.costs.specs.Instance.{view_knowing}
 use Rattle.rules.specs.declared.Unit.{Unit}
-use Rattle.rules.specs.declared.Ordering.{Ordering}
+use Rattle.std.specs.declared.cmp.Ordering.{Ordering}
 use Rattle.rules.specs.State.{with_threshold}
 use Rattle.rules.specs.Step.{received, resume, on_down}
 use Rattle.rules.specs.Ready.{decided_of}

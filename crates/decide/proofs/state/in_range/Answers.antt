@@ -29,5 +29,5 @@ unfolding in_range_at
 returns c =
     let past = goal.at.returns c in
     let a = c.args in
-    let place = c.place_tried-place.ensures ∙ ap (λ (v : ℕ). place_tried (view_knowing a.seat a.costs.now a.ahead.now) v) (sym (value_lent a.seat a.costs.now a.ahead.now a.u)) in
+    let place = c.place_tried-place.ensures ∙ ap (λ (v : ℕ). place_tried (view_knowing a.seat a.costs.now a.ahead.now) v) (rw c.from.ensures (sym (value_lent a.seat a.costs.now a.ahead.now a.u))) in
     rw (unit past.Else-not-is_unit) (c.paid_in_range.ensures ∙ range_lent a.seat a.costs.now a.ahead.now a.u _ _ (own past.Else-not-is_unit).first (c.own_cost-paid.ensures a.ahead.now a.u refl) place)

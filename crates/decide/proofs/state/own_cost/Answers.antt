@@ -6,7 +6,7 @@ use Rattle.decide.proofs.Lent.{own-cost-lent, no_value_no_cost}
 use Rattle.decide.proofs.state.own_cost.Goals as goal
 
 pub returns-then-value-eq0 : goal.returns-then-value-eq0
-returns-then-value-eq0 c = λ ahead u e. let a = c.args in no_value_no_cost a.seat a.costs.now ahead u (rw e c.if-value-eq0.true)
+returns-then-value-eq0 c = λ ahead u e. let a = c.args in no_value_no_cost a.seat a.costs.now ahead u (rw e (rw c.from.ensures at c.if-value-eq0.true))
 
 pub returns : goal.returns
-returns c = λ ahead u e. let a = c.args in c.as_number.ensures ∙ ap as_number c.cost_with.ensures ∙ rw (← e) (own-cost-lent a.seat a.costs.now ahead u)
+returns c = λ ahead u e. let a = c.args in c.as_number.ensures ∙ ap as_number c.cost_with.ensures ∙ rw (c.from.ensures, ← e) (own-cost-lent a.seat a.costs.now ahead u)

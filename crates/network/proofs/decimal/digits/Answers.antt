@@ -15,7 +15,7 @@ less_one : (s : ℕ) → s ≤ 40 → s - 1 ≤ 40
 less_one s h = omega arith
 
 pub loop-start-init : goal.loop-start-init
-loop-start-init c = (search rules, search rules, refl, sym (append-nil (decimal 40 (value_of c.args.c))))
+loop-start-init c = (search rules, refl, sym (append-nil (decimal 40 (value_of c.args.c))))
 
 pub overflow_add-text : goal.overflow_add-text
 overflow_add-text c = record { fits = digit_byte c.tenth-d.result.digit c.tenth-d.ensures.1 }
@@ -25,13 +25,14 @@ returns-then-is_zero c =
     let l = c.loop-start in
     let t = c.tenth-d in
     let some : 0 < l.start = c.loop-start-test.true in
+    let within : l.start ≤ 40 = omega arith in
     let zero : eqb (value_of t.result.quotient) 0 ≡ true = sym c.is_zero.ensures ∙ c.if-is_zero.true in
-    let most : l.start - 1 ≤ 40 = less_one l.start l.invariant.0 in (
+    let most : l.start - 1 ≤ 40 = less_one l.start within in (
       digits_done (set l.text (l.start - 1) (48 + t.result.digit)) (l.start - 1) (value_of c.args.c)
-          (length-set l.text (l.start - 1) (48 + t.result.digit) ∙ l.invariant.1)
+          (length-set l.text (l.start - 1) (48 + t.result.digit) ∙ l.invariant.0)
           most
-          (zeros_before l.text l.start (value_of l.rest) (value_of t.result.quotient) t.result.digit l.invariant.1 some l.invariant.0 t.ensures.0 t.ensures.1 l.invariant.2)
-          (digit-last l.text l.start (value_of l.rest) (value_of t.result.quotient) t.result.digit l.invariant.1 some l.invariant.0 t.ensures.0 t.ensures.1 l.invariant.3 zero),
+          (zeros_before l.text l.start (value_of l.rest) (value_of t.result.quotient) t.result.digit l.invariant.0 some within t.ensures.0 t.ensures.1 l.invariant.1)
+          (digit-last l.text l.start (value_of l.rest) (value_of t.result.quotient) t.result.digit l.invariant.0 some within t.ensures.0 t.ensures.1 l.invariant.2 zero),
       most,
     )
 
@@ -40,11 +41,11 @@ loop-start-preserved c =
     let l = c.loop-start in
     let t = c.tenth-d in
     let some : 0 < l.start = c.loop-start-test.true in
+    let within : l.start ≤ 40 = omega arith in
     let more : eqb (value_of t.result.quotient) 0 ≡ false = sym c.is_zero.ensures ∙ c.if-is_zero.false in (
-      less_one l.start l.invariant.0,
-      length-set l.text (l.start - 1) (48 + t.result.digit) ∙ l.invariant.1,
-      zeros_before l.text l.start (value_of l.rest) (value_of t.result.quotient) t.result.digit l.invariant.1 some l.invariant.0 t.ensures.0 t.ensures.1 l.invariant.2,
-      digit_more l.text l.start (value_of l.rest) (value_of t.result.quotient) t.result.digit l.invariant.1 some l.invariant.0 t.ensures.0 t.ensures.1 l.invariant.3 more,
+      length-set l.text (l.start - 1) (48 + t.result.digit) ∙ l.invariant.0,
+      zeros_before l.text l.start (value_of l.rest) (value_of t.result.quotient) t.result.digit l.invariant.0 some within t.ensures.0 t.ensures.1 l.invariant.1,
+      digit_more l.text l.start (value_of l.rest) (value_of t.result.quotient) t.result.digit l.invariant.0 some within t.ensures.0 t.ensures.1 l.invariant.2 more,
     )
 
 pub returns : goal.returns
@@ -52,7 +53,7 @@ returns c =
     let l = c.loop-start in
     let none : l.start ≡ 0 = omega arith in
     let x = value_of c.args.c in (
-      digits_done l.text l.start x l.invariant.1 l.invariant.0 l.invariant.2
-          (l.invariant.3 ∙ ap (λ (s : ℕ). decimal s (value_of l.rest) ++ drop l.start l.text) none ∙ no_digits_left (value_of l.rest) (drop l.start l.text)),
-      l.invariant.0,
+      digits_done l.text 0 x l.invariant.0 (omega arith) (rw none at l.invariant.1)
+          (l.invariant.2 ∙ ap (λ (s : ℕ). decimal s (value_of l.rest) ++ drop s l.text) none ∙ no_digits_left (value_of l.rest) (drop 0 l.text)),
+      omega arith,
     )

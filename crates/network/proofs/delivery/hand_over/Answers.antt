@@ -1,6 +1,6 @@
 -- `network::delivery::hand_over` meets its contract: the step's refusal, or what it sends stored. Assumes nothing.
 use Rattle.std.specs.Prelude.{◌≡◌, ℕ, ◌+◌, ◌-◌, ◌*◌, ◌≤◌, List, get_or, take, drop, replicate}
-use mathlib.Core.Path.{refl, ◌∙◌}
+use mathlib.Core.Path.{ap, ◌∙◌}
 use native.Mathlib.Omega.{arith}
 use borrow.Author.Rules.{rules}
 use lib.ListN.{length-replicate}
@@ -30,26 +30,26 @@ most c =
     own-most c.args.order c.args.net.core c.args.stream.now c.requires.passed.core n.result c.receiver-own.result (bytes (goal.at.After-receiver-own c).Start) n.ensures c.receiver-own.ensures.0
 
 -- its step
-told : (c : After-step-r) → let w = c.receiver-own in Stepped c.args.order c.args.stream.now w.result (get_or c.args.net.core.units (w.result - 1) empty_unit) (bytes (goal.at.After-step-r c).Start) (replicate 1024 0) c.step-r.result c.step-r.new.out
+told : (c : After-step-r) → let w = c.receiver-own in Stepped c.args.order c.args.stream.now w.result (get_or c.args.net.core.units c.from.result empty_unit) (bytes (goal.at.After-step-r c).Start) (replicate 1024 0) c.step-r.result c.step-r.new.out
 told c =
     let n = c.units_of in
     let w = c.receiver-own in
-    hand-told c.args.order c.args.net.core c.args.stream.now c.requires.passed.core n.result w.result (bytes (goal.at.After-step-r c).Start) n.ensures w.ensures.0 (get_or c.args.net.core.units (w.result - 1) empty_unit) refl (replicate 1024 0) c.step-r.new.out c.step-r.result (omega (arith, length-replicate {A = ℕ} 1024 0)) c.step-r.ensures.0 c.step-r.ensures.1
+    hand-told c.args.order c.args.net.core c.args.stream.now c.requires.passed.core n.result w.result (bytes (goal.at.After-step-r c).Start) n.ensures w.ensures.0 (get_or c.args.net.core.units c.from.result empty_unit) (ap (λ (k : ℕ). get_or c.args.net.core.units k empty_unit) c.from.ensures) (replicate 1024 0) c.step-r.new.out c.step-r.result (omega (arith, length-replicate {A = ℕ} 1024 0)) c.step-r.ensures.0 c.step-r.ensures.1
 
-pub overflow_sub-u : goal.overflow_sub-u
-overflow_sub-u c = first (goal.at.overflow_sub-u c).After-receiver-own
+pub overflow_sub-own : goal.overflow_sub-own
+overflow_sub-own c = first (goal.at.overflow_sub-own c).After-receiver-own
 
-pub bounds-units-own : goal.bounds-units-own
-bounds-units-own c = omega (arith, most (goal.at.bounds-units-own c).After-receiver-own)
+pub bounds-net-from : goal.bounds-net-from
+bounds-net-from c = omega (arith, c.from.ensures, most (goal.at.bounds-net-from c).After-receiver-own)
 
-pub returns-then-refusal-ne0 : goal.returns-then-refusal-ne0
-returns-then-refusal-ne0 c =
-    let past = goal.at.returns-then-refusal-ne0 c in
+pub returns-then-r-ne0 : goal.returns-then-r-ne0
+returns-then-r-ne0 c =
+    let past = goal.at.returns-then-r-ne0 c in
     let a = c.args in
     let n = c.units_of in
     let w = c.receiver-own in
     let s = c.step-r in
-    hand_refuses a.order a.net a.stream.now a.pool.now c.requires.passed n.result w.result (bytes past.Start) n.ensures w.ensures.0 (get_or a.net.core.units (w.result - 1) empty_unit) refl (replicate 1024 0) s.new.out s.result (told past.After-step-r) s.ensures.2 w.ensures.1 a.cell c.requires.here (stands past.Start) c.if-refusal-ne0.true
+    hand_refuses a.order a.net a.stream.now a.pool.now c.requires.passed n.result w.result (bytes past.Start) n.ensures w.ensures.0 (get_or a.net.core.units c.from.result empty_unit) (ap (λ (k : ℕ). get_or a.net.core.units k empty_unit) c.from.ensures) (replicate 1024 0) s.new.out s.result (told past.After-step-r) s.ensures.2 w.ensures.1 a.cell c.requires.here (stands past.Start) c.if-r-ne0.true
 
 pub store-requires : goal.store-requires
 store-requires c =
@@ -63,7 +63,7 @@ store-requires c =
       record {
         few = omega (arith, c.requires.passed.few);
         room = c.requires.passed.room;
-        sent = hand_sent a.order a.net.core a.stream.now c.requires.passed.core n.result w.result (bytes past.Start) n.ensures w.ensures.0 (get_or a.net.core.units (w.result - 1) empty_unit) refl (replicate 1024 0) s.new.out s.result (told past.After-step-r) s.ensures.2 w.ensures.1;
+        sent = hand_sent a.order a.net.core a.stream.now c.requires.passed.core n.result w.result (bytes past.Start) n.ensures w.ensures.0 (get_or a.net.core.units c.from.result empty_unit) (ap (λ (k : ℕ). get_or a.net.core.units k empty_unit) c.from.ensures) (replicate 1024 0) s.new.out s.result (told past.After-step-r) s.ensures.2 w.ensures.1;
         buffer = search rules;
       },
     )
@@ -75,5 +75,5 @@ returns c =
     let n = c.units_of in
     let w = c.receiver-own in
     let s = c.step-r in
-    let e = hand_stores a.order a.net a.stream.now a.pool.now c.requires.passed n.result w.result (bytes past.Start) n.ensures w.ensures.0 (get_or a.net.core.units (w.result - 1) empty_unit) refl (replicate 1024 0) s.new.out s.result (told past.After-step-r) s.ensures.2 w.ensures.1 a.cell c.requires.here (stands past.Start) c.if-refusal-ne0.false in
+    let e = hand_stores a.order a.net a.stream.now a.pool.now c.requires.passed n.result w.result (bytes past.Start) n.ensures w.ensures.0 (get_or a.net.core.units c.from.result empty_unit) (ap (λ (k : ℕ). get_or a.net.core.units k empty_unit) c.from.ensures) (replicate 1024 0) s.new.out s.result (told past.After-step-r) s.ensures.2 w.ensures.1 a.cell c.requires.here (stands past.Start) c.if-r-ne0.false in
     (c.store.ensures.0 ∙ e.0, c.store.ensures.1 ∙ e.1)

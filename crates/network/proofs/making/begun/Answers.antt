@@ -2,4 +2,4 @@
 use Rattle.network.proofs.making.begun.Goals as goal
 
 pub returns : goal.returns
-returns c = rw c.begun.ensures
+returns c = rw (c.begun.ensures, c.from.ensures)

@@ -9,10 +9,10 @@ use Rattle.runs.specs.Demand3.{most}
 use Rattle.runs.specs.Settle.Laws.{After}
 use Rattle.network.proofs.settling.run.Given as goal
 
-abbrev pub invariant-loop-lent : goal.invariant-loop-lent
-invariant-loop-lent l =
+abbrev pub invariant-loop-core : goal.invariant-loop-core
+invariant-loop-core l =
     (length l.pool ≡ length l.initial.pool) × Words l.core.records
     × After l.first.order l.stream (record { network = record { core = l.initial.core; used = l.initial.used }; pool = l.initial.pool }) (record { network = record { core = l.core; used = l.used }; pool = l.pool })
 
-abbrev pub decreases-loop-lent : goal.decreases-loop-lent
-decreases-loop-lent l = most (instance_of l.stream) - value_of l.core.deliveries
+abbrev pub decreases-loop-core : goal.decreases-loop-core
+decreases-loop-core l = most (instance_of l.stream) - value_of l.core.deliveries

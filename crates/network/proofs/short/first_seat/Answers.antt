@@ -3,4 +3,4 @@
 use Rattle.network.proofs.short.first_seat.Goals as goal
 
 pub returns : goal.returns
-returns c = rw (c.sizes_of-sizes.ensures, c.units_of.ensures)
+returns c = rw (c.sizes_of.ensures, c.units_of.ensures)

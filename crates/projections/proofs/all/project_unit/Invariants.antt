@@ -1,15 +1,10 @@
 -- `project_unit` meets its contract. The loop's invariant: the first k values are projected.
 -- Assumes nothing.
-use Prim.Native.Nat.{◌-◌, ◌≤◌}
 use mathlib.Core.Path.{◌≡◌}
-use lib.ListN.{length}
 use Rattle.projections.specs.Moves.{in_order}
 use Rattle.projections.specs.Steps.{outcome_in}
 use Rattle.projections.specs.All.Steps.{each_value}
 use Rattle.projections.proofs.all.project_unit.Given as goal
 
 abbrev pub invariant-loop-k : goal.invariant-loop-k
-invariant-loop-k l = (l.k ≤ l.count) × (length l.costs ≡ length l.initial.costs) × (outcome_in l.moved l.costs ≡ in_order (each_value l.n l.sizes l.i) l.k (outcome_in l.initial.moved l.initial.costs))
-
-abbrev pub decreases-loop-k : goal.decreases-loop-k
-decreases-loop-k l = l.count - l.k
+invariant-loop-k l = outcome_in l.moved l.costs ≡ in_order (each_value l.n l.sizes l.i) l.k (outcome_in l.initial.moved l.initial.costs)

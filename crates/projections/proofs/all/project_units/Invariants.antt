@@ -1,15 +1,10 @@
 -- `project_units` meets its contract. The loop's invariant: the first i units are projected.
 -- Assumes nothing.
-use Prim.Native.Nat.{◌-◌, ◌≤◌}
 use mathlib.Core.Path.{◌≡◌}
-use lib.ListN.{length}
 use Rattle.projections.specs.Moves.{in_order}
 use Rattle.projections.specs.Steps.{outcome_in}
 use Rattle.projections.specs.All.Steps.{each_unit}
 use Rattle.projections.proofs.all.project_units.Given as goal
 
 abbrev pub invariant-loop-i : goal.invariant-loop-i
-invariant-loop-i l = (l.i ≤ l.count) × (length l.costs ≡ length l.initial.costs) × (outcome_in l.moved l.costs ≡ in_order (each_unit l.n l.sizes) l.i (outcome_in l.initial.moved l.initial.costs))
-
-abbrev pub decreases-loop-i : goal.decreases-loop-i
-decreases-loop-i l = l.count - l.i
+invariant-loop-i l = outcome_in l.moved l.costs ≡ in_order (each_unit l.n l.sizes) l.i (outcome_in l.initial.moved l.initial.costs)

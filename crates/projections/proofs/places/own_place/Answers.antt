@@ -10,5 +10,5 @@ use Rattle.projections.proofs.places.own_place.Goals as goal
 pub returns : goal.returns
 returns c =
     let a = c.args in
-    let e = sum_upto (dom_in a.n a.sizes) c.sum_sizes.result (c.wide.result - 1) (pred a.unit) c.sum_sizes.ensures.0 (rw c.wide.ensures.0 (before_one a.unit)) in
-    (omega (arith, e, c.wide-2.ensures.0), omega (arith, c.sum_sizes.ensures.1, c.wide-2.ensures.1, c.wide.ensures.0, c.requires.1))
+    let e = sum_upto (dom_in a.n a.sizes) c.sum_sizes.result (c.from.result - 1) (pred a.unit) c.sum_sizes.ensures.0 (rw c.from.ensures (before_one a.unit)) in
+    (omega (arith, e, c.from-2.ensures), omega (arith, c.sum_sizes.ensures.1, c.from.ensures, c.requires.1))

@@ -8,10 +8,10 @@ use Rattle.projections.proofs.places.sum_sizes.Goals as goal
 pub loop-i-preserved : goal.loop-i-preserved
 loop-i-preserved c =
     let l = c.loop-i in
-    (omega arith, rw (l.invariant.1, c.size_of-sum.ensures.0, sum_more), omega arith)
+    (rw (l.invariant.0, c.size_of-sum.ensures.0, sum_more), omega arith)
 
 pub returns : goal.returns
 returns c =
     let l = c.loop-i in
     let e : l.i ≡ c.args.m = omega arith in
-    (rw (← e) l.invariant.1, omega arith)
+    (rw (← e) l.invariant.0, omega arith)

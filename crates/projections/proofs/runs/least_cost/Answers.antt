@@ -1,14 +1,14 @@
 -- `least_cost` meets its contract. The loop's invariant: `best` is the least of the first k, as a number.
 -- Assumes nothing.
 use Prim.Native.Nat.{◌≤◌}
-use mathlib.Core.Path.{◌≡◌, refl, ◌∙◌}
+use mathlib.Core.Path.{◌≡◌, refl}
 use native.Mathlib.Omega.{arith}
 use native.Mathlib.Nat.{mul-le-mul}
 use Rattle.projections.specs.Steps.{least-next}
 use Rattle.projections.proofs.runs.least_cost.Goals as goal
 
 pub loop-k-init : goal.loop-k-init
-loop-k-init c = (omega arith, refl, omega arith)
+loop-k-init c = refl
 
 pub overflow_mul-run : goal.overflow_mul-run
 overflow_mul-run c =
@@ -27,17 +27,17 @@ offset_bounds-costs-run c =
 
 pub bounds-costs-run : goal.bounds-costs-run
 bounds-costs-run c =
-    omega (arith, c.requires.there c.loop-k.k c.loop-k-test.true)
+    omega (arith, c.requires.there c.loop-k.k (omega arith))
 
 pub loop-k-preserved : goal.loop-k-preserved
 loop-k-preserved c =
     let a = c.args in
     let l = c.loop-k in
-    (omega arith, c.lesser-best.ensures.0 ∙ least-next a.run l.k l.best a.costs.now l.invariant.1 l.invariant.2 c.lesser-best.ensures.1, omega (arith, c.lesser-best.ensures.0, l.invariant.2))
+    rw (c.lesser-best.ensures, c.held_cost.ensures, l.invariant) (least-next a.run l.k a.costs.now)
 
 pub returns : goal.returns
 returns c =
     let a = c.args in
     let l = c.loop-k in
     let e : l.k ≡ a.run.count = omega arith in
-    rw (← e) l.invariant.1
+    rw (← e) l.invariant

@@ -14,7 +14,7 @@ use Rattle.projections.specs.Steps.{run_place}
 use Rattle.projections.proofs.runs.raise_fits.Goals as goal
 
 pub loop-k-init : goal.loop-k-init
-loop-k-init c = (omega arith, refl)
+loop-k-init c = refl
 
 pub overflow_mul-run : goal.overflow_mul-run
 overflow_mul-run c =
@@ -33,7 +33,7 @@ offset_bounds-costs-run c =
 
 pub bounds-costs-run : goal.bounds-costs-run
 bounds-costs-run c =
-    omega (arith, c.requires.there c.loop-k.k c.loop-k-test.true)
+    omega (arith, c.requires.there c.loop-k.k (omega arith))
 
 pub returns-then-not-cost_fits : goal.returns-then-not-cost_fits
 returns-then-not-cost_fits c =
@@ -41,7 +41,7 @@ returns-then-not-cost_fits c =
     let l = c.loop-k in
     let z : suc l.k - 1 ≡ l.k = omega arith in
     let e : raise_fits a.by (get_or a.costs.now (run_place a.run (suc l.k)) 0) ≡ false = rw z (sym c.cost_fits.ensures ∙ c.if-not-cost_fits.true) in
-    sym (every_not (λ i. raise_fits a.by (get_or a.costs.now (run_place a.run (suc i)) 0)) a.run.count l.k c.loop-k-test.true e)
+    sym (every_not (λ i. raise_fits a.by (get_or a.costs.now (run_place a.run (suc i)) 0)) a.run.count l.k (omega arith) e)
 
 pub loop-k-preserved : goal.loop-k-preserved
 loop-k-preserved c =
@@ -49,11 +49,11 @@ loop-k-preserved c =
     let l = c.loop-k in
     let z : suc l.k - 1 ≡ l.k = omega arith in
     let e : raise_fits a.by (get_or a.costs.now (run_place a.run (suc l.k)) 0) ≡ true = rw z (sym c.cost_fits.ensures ∙ c.if-not-cost_fits.false) in
-    (omega arith, every_more (λ i. raise_fits a.by (get_or a.costs.now (run_place a.run (suc i)) 0)) l.k l.invariant.1 e)
+    every_more (λ i. raise_fits a.by (get_or a.costs.now (run_place a.run (suc i)) 0)) l.k l.invariant e
 
 pub returns : goal.returns
 returns c =
     let a = c.args in
     let l = c.loop-k in
     let e : l.k ≡ a.run.count = omega arith in
-    sym (ap (λ m. every (λ i. raise_fits a.by (get_or a.costs.now (run_place a.run (suc i)) 0)) m) (sym e) ∙ l.invariant.1)
+    sym (ap (λ m. every (λ i. raise_fits a.by (get_or a.costs.now (run_place a.run (suc i)) 0)) m) (sym e) ∙ l.invariant)

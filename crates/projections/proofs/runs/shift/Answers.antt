@@ -1,15 +1,14 @@
 -- `shift` meets its contract. The loop's invariant: the first k costs of the run are raised or lowered.
 -- Assumes nothing.
-use Prim.Native.Nat.{◌+◌, ◌*◌, ◌≤◌}
-use mathlib.Core.Path.{◌≡◌, refl, ◌∙◌}
+use Prim.Native.Nat.{◌≤◌}
+use mathlib.Core.Path.{◌≡◌, refl}
 use native.Mathlib.Omega.{arith}
 use native.Mathlib.Nat.{mul-le-mul}
-use lib.ListN.{length-set}
 use Rattle.projections.specs.Steps.{shifted, each_turn, shift_turn}
 use Rattle.projections.proofs.runs.shift.Goals as goal
 
 pub loop-k-init : goal.loop-k-init
-loop-k-init c = (omega arith, refl, refl)
+loop-k-init c = refl
 
 pub overflow_mul-at : goal.overflow_mul-at
 overflow_mul-at c =
@@ -28,11 +27,11 @@ offset_bounds-costs-at c =
 
 pub bounds-costs-at : goal.bounds-costs-at
 bounds-costs-at c =
-    omega (arith, c.requires.0.there c.loop-k.k c.loop-k-test.true, c.loop-k.invariant.1)
+    omega (arith, c.requires.0.there c.loop-k.k (omega arith))
 
 pub shifted-requires : goal.shifted-requires
 shifted-requires c =
-    shift_turn c.args.run c.args.by c.args.up c.loop-k.k c.args.costs.now c.loop-k.costs c.requires.1 c.loop-k-test.true c.loop-k.invariant.2
+    shift_turn c.args.run c.args.by c.args.up c.loop-k.k c.args.costs.now c.loop-k.costs c.requires.1 (omega arith) c.loop-k.invariant
 
 pub offset_bounds-costs-at-in-loop-k : goal.offset_bounds-costs-at-in-loop-k
 offset_bounds-costs-at-in-loop-k c =
@@ -41,16 +40,16 @@ offset_bounds-costs-at-in-loop-k c =
 
 pub bounds-costs-at-in-loop-k : goal.bounds-costs-at-in-loop-k
 bounds-costs-at-in-loop-k c =
-    omega (arith, c.requires.0.there c.loop-k.k c.loop-k-test.true, c.loop-k.invariant.1)
+    omega (arith, c.requires.0.there c.loop-k.k (omega arith))
 
 pub loop-k-preserved : goal.loop-k-preserved
 loop-k-preserved c =
     let a = c.args in
     let l = c.loop-k in
-    (omega arith, length-set l.costs (a.run.start + a.run.step * l.k) _ ∙ l.invariant.1, each_turn (shifted a.up a.by) a.run l.k a.costs.now l.costs c.shifted.result l.invariant.2 c.shifted.ensures)
+    each_turn (shifted a.up a.by) a.run l.k a.costs.now l.costs c.shifted.result l.invariant c.shifted.ensures
 
 pub returns : goal.returns
 returns c =
     let l = c.loop-k in
     let e : l.k ≡ c.args.run.count = omega arith in
-    rw (← e) l.invariant.2
+    rw (← e) l.invariant

@@ -8,7 +8,7 @@ use Rattle.rows.proofs.reading.parse.Goals as goal
 
 pub returns-then-names-text : goal.returns-then-names-text
 unfolding sheet_of names_of
-returns-then-names-text c = let a = c.args in let t = lt-ltb _ _ c.if-names-text.true in (simp (t, c.refused.ensures, c.blank_sheet-blank.ensures, c.fresh.ensures), simp t)
+returns-then-names-text c = let a = c.args in let t = lt-ltb _ _ c.if-names-text.true in (simp (t, c.refused.ensures, c.blank_sheet.ensures, c.fresh.ensures), simp t)
 
 pub returns : goal.returns
 unfolding sheet_of names_of

@@ -5,7 +5,7 @@ use Rattle.rows.specs.Lines.Laws.{put_few, put_many}
 use Rattle.rows.proofs.text.put_tail.Goals as goal
 
 pub returns-then-lots-lt10 : goal.returns-then-lots-lt10
-returns-then-lots-lt10 c = let a = c.args in put_few a.out.now a.at a.reading a.lots (omega arith) c.glyph-a.ensures c.glyph-b.ensures c.glyph-c.ensures c.glyph.ensures c.if-lots-lt10.true c.put.ensures
+returns-then-lots-lt10 c = let a = c.args in put_few a.out.now a.at a.reading a.lots (omega arith) c.glyph-a.ensures c.glyph-b.ensures c.glyph-c.ensures c.glyph-d.ensures c.if-lots-lt10.true c.put.ensures
 
 pub returns : goal.returns
-returns c = let a = c.args in put_many a.out.now a.at a.reading a.lots (omega arith) c.glyph-a.ensures c.glyph-b.ensures c.glyph-c.ensures c.glyph-3.ensures c.glyph-2.ensures c.if-lots-lt10.false c.put-2.ensures
+returns c = let a = c.args in put_many a.out.now a.at a.reading a.lots (omega arith) c.glyph-a.ensures c.glyph-b.ensures c.glyph-c.ensures c.glyph-d.ensures c.glyph-e.ensures c.if-lots-lt10.false c.put-2.ensures

@@ -10,24 +10,24 @@ use Rattle.base.specs.Sums.{sum_from}
 use Rattle.table.specs.Stream.{units_of, stream_refusal}
 use Rattle.costs.specs.Instance.{dom_of, pair_start}
 use Rattle.sensitivity.specs.Changes.{Pair}
-use Rattle.sensitivity.specs.Steps.{size_in, sizes_are, units_few, place-refused, not_later, no_second, no_first_value, no_second_value, pair_found}
+use Rattle.sensitivity.specs.Steps.{told_ok, told_err, size_in, sizes_are, units_few, place-refused, not_later, no_second, no_first_value, no_second_value, pair_found}
 use Rattle.sensitivity.proofs.place.pair_at.Goals as goal
-use Rattle.sensitivity.proofs.place.pair_at.Goals.{Else-stream_refusal-ne0, After-wide-n, After-sizes_of-sizes, After-is_value, After-size-e, After-is_value-2, After-sum_sizes, Else-not-is_value-2}
+use Rattle.sensitivity.proofs.place.pair_at.Goals.{Else-is_err, After-from-n, After-sizes_of-sizes, After-is_value, After-size-e, After-is_value-2, After-sum_sizes, Else-not-is_value-2}
 
 -- what is known on the way
-accepted : (c : Else-stream_refusal-ne0) → stream_refusal c.args.stream.now ≡ 0
-accepted c = sym c.stream_refusal.ensures ∙ c.if-stream_refusal-ne0.false
+accepted : (c : Else-is_err) → stream_refusal c.args.stream.now ≡ 0
+accepted c = sym c.check_stream.ensures ∙ told_ok c.check_stream.result (sym c.is_err.ensures.value ∙ c.if-is_err.false)
 
-units : (c : After-wide-n) → c.wide-n.result ≡ units_of c.args.stream.now
-units c = c.wide-n.ensures.0 ∙ c.units_of.ensures
+units : (c : After-from-n) → c.from-n.result ≡ units_of c.args.stream.now
+units c = c.from-n.ensures ∙ c.units_of.ensures
 
-few : (c : After-wide-n) → c.wide-n.result ≤ 16
-few c = omega (arith, units c, units_few c.args.stream.now (accepted (goal.at.After-wide-n c).Else-stream_refusal-ne0))
+few : (c : After-from-n) → c.from-n.result ≤ 16
+few c = omega (arith, units c, units_few c.args.stream.now (accepted (goal.at.After-from-n c).Else-is_err))
 
 sizes : (c : After-sizes_of-sizes) → size_in c.sizes_of-sizes.result ≡ dom_of c.args.stream.now
 sizes c =
     let s = c.args.stream.now in
-    ap size_in c.sizes_of-sizes.ensures ∙ sizes_are s (units_few s (accepted (goal.at.After-sizes_of-sizes c).Else-stream_refusal-ne0))
+    ap size_in c.sizes_of-sizes.ensures ∙ sizes_are s (units_few s (accepted (goal.at.After-sizes_of-sizes c).Else-is_err))
 
 first-value : (c : After-is_value) → let a = c.args in is_value (dom_of a.stream.now a.i) a.u ≡ c.is_value.result
 first-value c =
@@ -46,7 +46,7 @@ second-value c =
 
 -- the numbers are small
 sum-small : (c : After-sum_sizes) → c.sum_sizes.result ≤ 4080
-sum-small c = omega (arith, c.sum_sizes.ensures.1, few (goal.at.After-sum_sizes c).After-wide-n)
+sum-small c = omega (arith, c.sum_sizes.ensures.1, few (goal.at.After-sum_sizes c).After-from-n)
 
 unaries-small : (c : After-sum_sizes) → c.opening-before.result * c.sum_sizes.result ≤ 1 * 4080
 unaries-small c = mul-le-mul c.opening-before.ensures.1 (sum-small c)
@@ -67,10 +67,10 @@ in-pair-small c =
     let u : a.u - 1 ≤ 255 = omega (arith, (value-small c).1) in
     mul-le-mul u c.size-e.ensures.1
 
-pub returns-then-stream_refusal-ne0 : goal.returns-then-stream_refusal-ne0
-returns-then-stream_refusal-ne0 c =
+pub returns-then-is_err : goal.returns-then-is_err
+returns-then-is_err c =
     let a = c.args in
-    place-refused a.stream.now (Pair a.i a.u a.j a.v) (λ z. c.if-stream_refusal-ne0.true (c.stream_refusal.ensures ∙ z))
+    place-refused a.stream.now (Pair a.i a.u a.j a.v) (λ z. told_err c.check_stream.result (sym c.is_err.ensures.value ∙ c.if-is_err.true) (c.check_stream.ensures ∙ z))
 
 pub returns-then-j-i : goal.returns-then-j-i
 returns-then-j-i c = let a = c.args in not_later a.stream.now a.i a.u a.j a.v c.if-j-i.true
@@ -78,7 +78,7 @@ returns-then-j-i c = let a = c.args in not_later a.stream.now a.i a.u a.j a.v c.
 pub returns-then-n-j : goal.returns-then-n-j
 returns-then-n-j c =
     let a = c.args in
-    no_second a.stream.now a.i a.u a.j a.v (omega (arith, units (goal.at.returns-then-n-j c).After-wide-n, c.if-n-j.true))
+    no_second a.stream.now a.i a.u a.j a.v (omega (arith, units (goal.at.returns-then-n-j c).After-from-n, c.if-n-j.true))
 
 pub returns-then-not-is_value : goal.returns-then-not-is_value
 returns-then-not-is_value c =
@@ -91,23 +91,23 @@ returns-then-not-is_value-2 c =
     no_second_value a.stream.now a.i a.u a.j a.v (second-value (goal.at.returns-then-not-is_value-2 c).After-is_value-2 ∙ c.if-not-is_value-2.true)
 
 pub sum_sizes-requires : goal.sum_sizes-requires
-sum_sizes-requires c = (omega arith, few (goal.at.sum_sizes-requires c).After-wide-n)
+sum_sizes-requires c = (omega arith, few (goal.at.sum_sizes-requires c).After-from-n)
 
 pub pair_start-requires : goal.pair_start-requires
 pair_start-requires c =
-    (omega (arith, c.if-j-i.false), omega (arith, c.if-n-j.false), few (goal.at.pair_start-requires c).After-wide-n)
+    (omega (arith, c.if-j-i.false), omega (arith, c.if-n-j.false), few (goal.at.pair_start-requires c).After-from-n)
 
 pub returns : goal.returns
 returns c =
     let past = goal.at.returns c in
     let a = c.args in
     let f = sizes past.After-sizes_of-sizes in
-    let n : ℕ = c.wide-n.result in
+    let n : ℕ = c.from-n.result in
     let start = c.pair_start.ensures.0 ∙ ap (λ (g : ℕ → ℕ). pair_start g n a.i a.j) f in
     let sum = c.sum_sizes.ensures.0 ∙ ap (λ (g : ℕ → ℕ). sum_from g 0 n) f in
     rw (second-size past.After-size-e)
-    (pair_found a.stream.now a.i a.u a.j a.v c.opening-before.result n c.sum_sizes.result c.pair_start.result c.opening-before.ensures.0 (units past.After-wide-n) sum start
-    (accepted past.Else-stream_refusal-ne0) (omega (arith, c.if-j-i.false)) (omega (arith, c.if-n-j.false))
+    (pair_found a.stream.now a.i a.u a.j a.v c.opening-before.result n c.sum_sizes.result c.pair_start.result c.opening-before.ensures.0 (units past.After-from-n) sum start
+    (accepted past.Else-is_err) (omega (arith, c.if-j-i.false)) (omega (arith, c.if-n-j.false))
     (first-value past.After-is_value ∙ c.if-not-is_value.false) (second-value past.After-is_value-2 ∙ c.if-not-is_value-2.false))
 
 pub overflow_mul-unaries : goal.overflow_mul-unaries

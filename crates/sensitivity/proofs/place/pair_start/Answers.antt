@@ -22,15 +22,15 @@ few-between c =
 pub loop-a-preserved : goal.loop-a-preserved
 loop-a-preserved c =
     let l = c.loop-a in
-    (omega arith, rw (l.invariant.1, c.size.ensures.0, c.sum_sizes.ensures.0, add-one), omega (arith, few (goal.at.loop-a-preserved c).After-sum_sizes, l.invariant.2))
+    (rw (l.invariant.0, c.size.ensures.0, c.sum_sizes.ensures.0, add-one), omega (arith, few (goal.at.loop-a-preserved c).After-sum_sizes, l.invariant.1))
 
 pub returns : goal.returns
 returns c =
     let l = c.loop-a in
     let a = c.args in
-    let e : l.a ≡ a.i = omega (arith, l.invariant.0, c.loop-a-test.false) in
-    let few : l.a ≤ 16 = omega (arith, l.invariant.0, c.requires.0, c.requires.1, c.requires.2) in
-    (rw (l.invariant.1, e, c.size-2.ensures.0, c.sum_sizes-2.ensures.0, add-one), omega (arith, few-between (goal.at.returns c).After-sum_sizes-2, l.invariant.2))
+    let e : l.a ≡ a.i = omega arith in
+    let few : l.a ≤ 16 = omega arith in
+    (rw (l.invariant.0, e, c.size-2.ensures.0, c.sum_sizes-2.ensures.0, add-one), omega (arith, few-between (goal.at.returns c).After-sum_sizes-2, l.invariant.1))
 
 pub overflow_mul-rows : goal.overflow_mul-rows
 overflow_mul-rows c = omega (arith, few (goal.at.overflow_mul-rows c).After-sum_sizes)

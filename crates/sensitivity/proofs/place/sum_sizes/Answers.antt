@@ -11,11 +11,11 @@ pub loop-i-preserved : goal.loop-i-preserved
 loop-i-preserved c =
     let a = c.args in
     let l = c.loop-i in
-    (omega arith, rw (l.invariant.1, c.size-sum.ensures.0, add-one, sum_from-last (size_in a.sizes) a.lo l.i), omega arith)
+    (rw (l.invariant.0, c.size-sum.ensures.0, add-one, sum_from-last (size_in a.sizes) a.lo l.i), omega arith)
 
 pub returns : goal.returns
 returns c =
     let a = c.args in
     let l = c.loop-i in
     let e : l.i ≡ a.m = omega arith in
-    (rw (← e) l.invariant.1, omega arith)
+    (rw (← e) l.invariant.0, omega arith)

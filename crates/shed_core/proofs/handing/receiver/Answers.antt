@@ -10,8 +10,8 @@ returns-then-is_unit c =
     let t : is_unit a.n (get_or a.packet.now 2 0) ≡ true = rw b at (sym c.is_unit.ensures ∙ c.if-is_unit.true) in
     (rw t b, λ j. omega (arith, c.type_inv.packet j))
 
-pub returns : goal.returns
-returns c =
+pub returns-else-is_unit : goal.returns-else-is_unit
+returns-else-is_unit c =
     let a = c.args in
     let b = c.byte_at-named.ensures in
     let t : is_unit a.n (get_or a.packet.now 2 0) ≡ false = rw b at (sym c.is_unit.ensures ∙ c.if-is_unit.false) in

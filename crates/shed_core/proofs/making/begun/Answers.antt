@@ -2,4 +2,4 @@
 use Rattle.shed_core.proofs.making.begun.Goals as goal
 
 pub returns : goal.returns
-returns c = rw (c.plus-records.ensures, c.no_count-none.ensures, c.fresh-new.ensures)
+returns c = rw (c.plus.ensures, c.from.ensures, c.fresh-units.ensures)

@@ -2,4 +2,4 @@
 use Rattle.shed_core.proofs.making.no_core.Goals as goal
 
 pub returns : goal.returns
-returns c = rw (c.no_unit-blank.ensures, c.no_count-none.ensures)
+returns c = rw c.no_unit.ensures

@@ -1,5 +1,6 @@
 -- `shed_core::states::unit_in_range` meets its contract: what the own value pays is read from the stream, and so is its place. Assumes nothing.
-use Rattle.std.proofs.Common.{◌≡◌, ℕ, suc, pred, ◌+◌, ◌<◌, leb, List, get_or, ◌∙◌, arith, rules}
+use Rattle.std.proofs.Common.{◌≡◌, ℕ, suc, pred, ◌+◌, ◌<◌, leb, List, get_or, ◌∙◌, arith}
+use Rattle.table.specs.Stream.{Accepted}
 use Rattle.table.specs.StreamLaws.{accepted_units}
 use Rattle.rules.specs.Laws.Range.{range_numbered}
 use Rattle.costs.specs.Instance.{View, view_by, instance_of}
@@ -16,11 +17,12 @@ place-16 c = omega (arith, c.requires.1, (accepted_units c.args.stream.now c.req
 pub overflow_add-own : goal.overflow_add-own
 overflow_add-own c = record { fits = omega (arith, place-16 (goal.at.overflow_add-own c).Start) }
 
-pub bounds-values-k : goal.bounds-values-k
-bounds-values-k c = let l = place-16 (goal.at.bounds-values-k c).Start in search rules
+pub bounds-u-from : goal.bounds-u-from
+bounds-u-from c = omega (arith, c.from.ensures, place-16 (goal.at.bounds-u-from c).Start)
 
-pub place_asked-place-requires : goal.place_asked-place-requires
-place_asked-place-requires c = (c.requires.0, omega arith, omega (arith, c.requires.1))
+pub invariant_of-member : goal.invariant_of-member
+unfolding Accepted
+invariant_of-member c = record { accepted = c.requires.0; first = omega arith; last = omega (arith, c.requires.1) }
 
 -- a place matters only for whether the counter is within it
 same_place : (n : ℕ) (sizes : List ℕ) (i paid p q : ℕ) (u : Unit) → leb u.counter p ≡ leb u.counter q → paid_in_range n sizes i paid p u ≡ paid_in_range n sizes i paid q u
@@ -34,5 +36,5 @@ returns c =
     let w : View = view_by a.order (instance_of a.stream.now) (pred (a.k + 1)) in
     c.in_range_paid.ensures
     ∙ range_numbered a.n a.sizes a.k _ _ a.u (place-16 (goal.at.returns c).Start)
-    ∙ same_place a.n a.sizes (suc a.k) _ _ (place_tried w (get_or a.u.values a.k 0)) a.u c.place_asked-place.ensures
-    ∙ rw (c.as_number.ensures, c.stream_cost_with-paid.ensures, p)
+    ∙ same_place a.n a.sizes (suc a.k) _ _ (place_tried w (get_or a.u.values a.k 0)) a.u (rw c.from.ensures at c.place_asked-place.ensures)
+    ∙ rw (c.as_number.ensures, c.stream_cost_with-paid.ensures, c.from.ensures, p)

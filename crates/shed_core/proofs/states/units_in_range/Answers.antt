@@ -10,11 +10,8 @@ use Rattle.runs.proofs.CodeLaws.{range_of_paid}
 use Rattle.shed_core.proofs.states.units_in_range.Goals as goal
 use Rattle.shed_core.proofs.states.units_in_range.Goals.{After-unit_in_range}
 
-pub loop-k-init : goal.loop-k-init
-loop-k-init c =
-    let s = c.args.stream.now in
-    let n : c.units_of-n.result ≡ units_of s = c.units_of-n.ensures in
-    (omega arith, n, omega (arith, (accepted_units s c.requires).1), c.sizes_of-sizes.ensures, refl)
+pub bounds-units-from : goal.bounds-units-from
+bounds-units-from c = omega (arith, c.units_of-n.ensures, (accepted_units c.args.stream.now c.requires).1, c.from.ensures)
 
 -- what the unit's own function said
 found : (c : After-unit_in_range) → let a = c.args in c.unit_in_range.result ≡ unit_in_range a.order a.stream.now a.units c.loop-k.k
@@ -22,23 +19,23 @@ found c =
     let a = c.args in
     let l = c.loop-k in
     c.unit_in_range.ensures
-    ∙ rw (l.invariant.1, l.invariant.3) (range_of_paid a.order a.stream.now a.units l.k (unit_at a.units l.k) _ _ _ refl refl refl refl)
+    ∙ rw (c.units_of-n.ensures, c.sizes_of-sizes.ensures, c.from.ensures) (range_of_paid a.order a.stream.now a.units l.k (unit_at a.units l.k) _ _ _ refl refl refl refl)
 
 pub returns-then-not-unit_in_range : goal.returns-then-not-unit_in_range
 returns-then-not-unit_in_range c =
     let a = c.args in
     let l = c.loop-k in
-    sym (every_not (unit_in_range a.order a.stream.now a.units) (units_of a.stream.now) l.k (omega arith) (sym (found (goal.at.returns-then-not-unit_in_range c).After-unit_in_range) ∙ c.if-not-unit_in_range.true))
+    sym (every_not (unit_in_range a.order a.stream.now a.units) (units_of a.stream.now) l.k (omega (arith, c.units_of-n.ensures)) (sym (found (goal.at.returns-then-not-unit_in_range c).After-unit_in_range) ∙ c.if-not-unit_in_range.true))
 
 pub loop-k-preserved : goal.loop-k-preserved
 loop-k-preserved c =
     let a = c.args in
     let l = c.loop-k in
-    (omega arith, l.invariant.1, l.invariant.2, l.invariant.3, every_more (unit_in_range a.order a.stream.now a.units) l.k l.invariant.4 (sym (found (goal.at.loop-k-preserved c).After-unit_in_range) ∙ c.if-not-unit_in_range.false))
+    every_more (unit_in_range a.order a.stream.now a.units) l.k l.invariant (sym (found (goal.at.loop-k-preserved c).After-unit_in_range) ∙ c.if-not-unit_in_range.false)
 
 pub returns : goal.returns
 returns c =
     let a = c.args in
     let l = c.loop-k in
-    let e : l.k ≡ units_of a.stream.now = omega arith in
-    sym (ap (λ (m : ℕ). every (unit_in_range a.order a.stream.now a.units) m) (sym e) ∙ l.invariant.4)
+    let e : l.k ≡ units_of a.stream.now = omega (arith, c.units_of-n.ensures) in
+    sym (ap (λ (m : ℕ). every (unit_in_range a.order a.stream.now a.units) m) (sym e) ∙ l.invariant)

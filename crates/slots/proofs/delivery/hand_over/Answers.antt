@@ -1,6 +1,6 @@
 -- `slots::delivery::hand_over` meets its contract: 9 in a cell not its own, the step's refusal, or what it sends placed. Assumes nothing.
 use Rattle.std.specs.Prelude.{◌≡◌, ℕ, ◌+◌, ◌-◌, ◌*◌, ◌<◌, ◌≤◌, false, List, length, get_or, take, drop, replicate}
-use mathlib.Core.Path.{refl, sym, ap, ◌∙◌}
+use mathlib.Core.Path.{sym, ap, ◌∙◌}
 use native.Mathlib.Omega.{arith}
 use lib.ListN.{length-replicate}
 use Rattle.table.specs.StreamLaws.{accepted_units}
@@ -56,7 +56,7 @@ module _ (c : After-step-r) where
       let n = c.units_of-n in
       let w = c.receiver-own in
       let t = c.step-r in
-      hand_refuses a.order a.core a.stream.now a.pool.now a.cell c.requires n.result w.result (lent (goal.at.After-step-r c).Start) n.ensures w.ensures.0 (stands (goal.at.After-step-r c).Start) home (get_or a.core.units (w.result - 1) empty_unit) refl (replicate 1024 0) t.new.out t.result (omega (arith, length-replicate {A = ℕ} 1024 0)) t.ensures.0 t.ensures.1 ne
+      hand_refuses a.order a.core a.stream.now a.pool.now a.cell c.requires n.result w.result (lent (goal.at.After-step-r c).Start) n.ensures w.ensures.0 (stands (goal.at.After-step-r c).Start) home (get_or a.core.units c.from.result empty_unit) (ap (λ (k : ℕ). get_or a.core.units k empty_unit) c.from.ensures) (replicate 1024 0) t.new.out t.result (omega (arith, length-replicate {A = ℕ} 1024 0)) t.ensures.0 t.ensures.1 ne
 
   few : c.step-r.result.sent ≤ 16
   few =
@@ -64,7 +64,7 @@ module _ (c : After-step-r) where
       let n = c.units_of-n in
       let w = c.receiver-own in
       let t = c.step-r in
-      hand_few a.order a.core a.stream.now a.pool.now a.cell c.requires n.result w.result (lent (goal.at.After-step-r c).Start) n.ensures w.ensures.0 (stands (goal.at.After-step-r c).Start) home (get_or a.core.units (w.result - 1) empty_unit) refl (replicate 1024 0) t.new.out t.result (omega (arith, length-replicate {A = ℕ} 1024 0)) t.ensures.0 t.ensures.1 t.ensures.2 w.ensures.1
+      hand_few a.order a.core a.stream.now a.pool.now a.cell c.requires n.result w.result (lent (goal.at.After-step-r c).Start) n.ensures w.ensures.0 (stands (goal.at.After-step-r c).Start) home (get_or a.core.units c.from.result empty_unit) (ap (λ (k : ℕ). get_or a.core.units k empty_unit) c.from.ensures) (replicate 1024 0) t.new.out t.result (omega (arith, length-replicate {A = ℕ} 1024 0)) t.ensures.0 t.ensures.1 t.ensures.2 w.ensures.1
 
   stores : c.step-r.result.refusal ≡ 0 → (record { refusal = 0; core = core_after c.args.core c.receiver-own.result c.step-r.result.unit c.step-r.result.records } ≡ (deliver_by c.args.order 0 c.args.core c.args.stream.now c.args.pool.now c.args.cell).answer)
       × (place_sent (units_of c.args.stream.now) (take_out c.args.pool.now c.args.cell) c.step-r.new.out 0 c.step-r.result.sent ≡ (deliver_by c.args.order 0 c.args.core c.args.stream.now c.args.pool.now c.args.cell).pool)
@@ -73,7 +73,7 @@ module _ (c : After-step-r) where
       let n = c.units_of-n in
       let w = c.receiver-own in
       let t = c.step-r in
-      hand_stores a.order a.core a.stream.now a.pool.now a.cell c.requires n.result w.result (lent (goal.at.After-step-r c).Start) n.ensures w.ensures.0 (stands (goal.at.After-step-r c).Start) home (get_or a.core.units (w.result - 1) empty_unit) refl (replicate 1024 0) t.new.out t.result (omega (arith, length-replicate {A = ℕ} 1024 0)) t.ensures.0 t.ensures.1 t.ensures.2 w.ensures.1 e
+      hand_stores a.order a.core a.stream.now a.pool.now a.cell c.requires n.result w.result (lent (goal.at.After-step-r c).Start) n.ensures w.ensures.0 (stands (goal.at.After-step-r c).Start) home (get_or a.core.units c.from.result empty_unit) (ap (λ (k : ℕ). get_or a.core.units k empty_unit) c.from.ensures) (replicate 1024 0) t.new.out t.result (omega (arith, length-replicate {A = ℕ} 1024 0)) t.ensures.0 t.ensures.1 t.ensures.2 w.ensures.1 e
 
   passes : c.step-r.result.refusal ≡ 0 → (left : List ℕ) → length left ≡ length c.args.pool.now
       → lent_refusal c.args.order (core_after c.args.core c.receiver-own.result c.step-r.result.unit c.step-r.result.records) c.args.stream.now left ≡ 0
@@ -82,7 +82,7 @@ module _ (c : After-step-r) where
       let n = c.units_of-n in
       let w = c.receiver-own in
       let t = c.step-r in
-      hand_passes a.order a.core a.stream.now a.pool.now a.cell c.requires n.result w.result (lent (goal.at.After-step-r c).Start) n.ensures w.ensures.0 (stands (goal.at.After-step-r c).Start) home (get_or a.core.units (w.result - 1) empty_unit) refl (replicate 1024 0) t.new.out t.result (omega (arith, length-replicate {A = ℕ} 1024 0)) t.ensures.0 t.ensures.1 t.ensures.2 w.ensures.1 e left same
+      hand_passes a.order a.core a.stream.now a.pool.now a.cell c.requires n.result w.result (lent (goal.at.After-step-r c).Start) n.ensures w.ensures.0 (stands (goal.at.After-step-r c).Start) home (get_or a.core.units c.from.result empty_unit) (ap (λ (k : ℕ). get_or a.core.units k empty_unit) c.from.ensures) (replicate 1024 0) t.new.out t.result (omega (arith, length-replicate {A = ℕ} 1024 0)) t.ensures.0 t.ensures.1 t.ensures.2 w.ensures.1 e left same
 
 pub overflow_mul-at : goal.overflow_mul-at
 overflow_mul-at c = let l = inside (goal.at.overflow_mul-at c).Start in search rules
@@ -103,21 +103,21 @@ returns-then-is_stray c =
     let n = c.units_of-n in
     let w = c.receiver-own in
     let e = hand_stray a.order a.core a.stream.now a.pool.now a.cell c.requires n.result w.result (lent past.Start) n.ensures w.ensures.0 (stands past.Start) (sym c.is_stray.ensures ∙ c.if-is_stray.true) in
-    (e.0, e.1, open_passes a.order a.core a.stream.now a.pool.now a.cell c.requires)
+    (c.refused.ensures ∙ e.0, e.1, rw c.refused.ensures (open_passes a.order a.core a.stream.now a.pool.now a.cell c.requires))
 
-pub overflow_sub-u : goal.overflow_sub-u
-overflow_sub-u c = first (goal.at.overflow_sub-u c).After-is_stray
+pub overflow_sub-own : goal.overflow_sub-own
+overflow_sub-own c = first (goal.at.overflow_sub-own c).After-is_stray
 
-pub bounds-units-own : goal.bounds-units-own
-bounds-units-own c = let l = most (goal.at.bounds-units-own c).After-is_stray in omega arith
+pub bounds-core-from : goal.bounds-core-from
+bounds-core-from c = let l = most (goal.at.bounds-core-from c).After-is_stray in omega (arith, c.from.ensures)
 
 pub slice_bounds-step-end : goal.slice_bounds-step-end
 slice_bounds-step-end c = let l = inside (goal.at.slice_bounds-step-end c).Start in let r = c.requires.room in search rules
 
-pub returns-then-refusal-ne0 : goal.returns-then-refusal-ne0
-returns-then-refusal-ne0 c =
+pub returns-then-r-ne0 : goal.returns-then-r-ne0
+returns-then-r-ne0 c =
     let a = c.args in
-    let e = refuses (goal.at.returns-then-refusal-ne0 c).After-step-r c.if-refusal-ne0.true in
+    let e = refuses (goal.at.returns-then-r-ne0 c).After-step-r c.if-r-ne0.true in
     (e.0, e.1, open_passes a.order a.core a.stream.now a.pool.now a.cell c.requires)
 
 pub zero_cell-requires : goal.zero_cell-requires
@@ -127,15 +127,15 @@ pub place_all-requires : goal.place_all-requires
 place_all-requires c =
     let f = few (goal.at.place_all-requires c).After-step-r in
     let l : length c.step-r.new.out ≡ 1024 = search rules in
-    omega (arith, f, l)
+    omega (arith, c.from-2.ensures, f, l)
 
 pub returns : goal.returns
 returns c =
     let past = goal.at.returns c in
     let t = c.step-r in
     let n = c.units_of-n in
-    let e = stores past.After-step-r c.if-refusal-ne0.false in (
+    let e = stores past.After-step-r c.if-r-ne0.false in (
       ap (λ (x : Core). record { refusal = 0; core = x }) c.advance.ensures ∙ e.0,
-      c.place_all.ensures ∙ ap (λ (x : List ℕ). place_sent n.result x t.new.out 0 t.result.sent) c.zero_cell.ensures ∙ rw n.ensures e.1,
-      rw c.advance.ensures (passes past.After-step-r c.if-refusal-ne0.false _ (search rules)),
+      (rw c.from-2.ensures at c.place_all.ensures) ∙ ap (λ (x : List ℕ). place_sent n.result x t.new.out 0 t.result.sent) c.zero_cell.ensures ∙ rw n.ensures e.1,
+      rw c.advance.ensures (passes past.After-step-r c.if-r-ne0.false _ (search rules)),
     )

@@ -21,8 +21,8 @@ returns-in-Nothing c = let a = c.args in (count_by a.seat.n (a.seat.own - 1) a.s
 pub returns-in-Forward : goal.returns-in-Forward
 returns-in-Forward c =
     let a = c.args in (
-      count_by a.seat.n (a.seat.own - 1) a.s Forward _ c.in-Forward.is (omega (arith, c.wide.ensures.0, forward_count a.seat.n a.seat.own a.s.message [] c.requires.first (sized (goal.at.returns-in-Forward c).Start) a.s.improved 1 refl)),
-      omega (arith, c.wide.ensures.0, c.requires.units),
+      count_by a.seat.n (a.seat.own - 1) a.s Forward _ c.in-Forward.is (omega (arith, c.from.ensures, forward_count a.seat.n a.seat.own a.s.message [] c.requires.first (sized (goal.at.returns-in-Forward c).Start) a.s.improved 1 refl)),
+      omega (arith, c.from.ensures, c.requires.units),
     )
 
 pub returns-in-Back : goal.returns-in-Back

@@ -20,5 +20,5 @@ returns c =
     let all = c.spread.ensures in
     λ b. (
       all.0 ∙ forward_count a.seat.n a.seat.own a.m a.out.now (omega arith) z b _ one.0,
-      all.1 ∙ forward_laid a.seat.n a.seat.own a.m a.out.now (omega arith) z b _ _ _ one.1 c.no_bound-bare.ensures one.0 (omega arith),
+      all.1 ∙ forward_laid a.seat.n a.seat.own a.m a.out.now (omega arith) z b _ _ _ one.1 c.no_bound.ensures one.0 (omega arith),
     )

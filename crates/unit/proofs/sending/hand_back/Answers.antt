@@ -17,10 +17,10 @@ spread-requires c =
     let a = c.args in
     (omega arith, omega arith, omega (arith, c.requires.1, stops_count a.seat.n a.seat.own a.m a.out.now c.requires.0.first (sized (goal.at.spread-requires c).Start) c.if-seat-eq1.true))
 
-pub spread-requires-2 : goal.spread-requires-2
-spread-requires-2 c =
+pub spread-requires-else-seat-eq1 : goal.spread-requires-else-seat-eq1
+spread-requires-else-seat-eq1 c =
     let a = c.args in
-    (omega arith, omega arith, omega (arith, c.requires.1, back_one_count a.seat.n a.seat.own a.m a.out.now c.requires.0.first (sized (goal.at.spread-requires-2 c).Start) c.if-seat-eq1.false))
+    (omega arith, omega arith, omega (arith, c.requires.1, back_one_count a.seat.n a.seat.own a.m a.out.now c.requires.0.first (sized (goal.at.spread-requires-else-seat-eq1 c).Start) c.if-seat-eq1.false))
 
 pub returns-then-seat-eq1 : goal.returns-then-seat-eq1
 returns-then-seat-eq1 c =
@@ -28,12 +28,12 @@ returns-then-seat-eq1 c =
     let z = sized (goal.at.returns-then-seat-eq1 c).Start in
     let e = c.if-seat-eq1.true in
     let all = c.spread.ensures in
-    (all.0 ∙ stops_count a.seat.n a.seat.own a.m a.out.now (omega arith) z e, all.1 ∙ stops_laid a.seat.n a.seat.own a.m a.out.now (omega arith) z e _ c.bound_only-stop.ensures)
+    (all.0 ∙ stops_count a.seat.n a.seat.own a.m a.out.now (omega arith) z e, all.1 ∙ stops_laid a.seat.n a.seat.own a.m a.out.now (omega arith) z e _ c.bound_only.ensures)
 
-pub returns : goal.returns
-returns c =
+pub returns-else-seat-eq1 : goal.returns-else-seat-eq1
+returns-else-seat-eq1 c =
     let a = c.args in
-    let z = sized (goal.at.returns c).Start in
+    let z = sized (goal.at.returns-else-seat-eq1 c).Start in
     let e = c.if-seat-eq1.false in
-    let all = c.spread-2.ensures in
+    let all = c.spread-else-seat-eq1.ensures in
     (all.0 ∙ back_one_count a.seat.n a.seat.own a.m a.out.now (omega arith) z e, all.1 ∙ back_one_laid a.seat.n a.seat.own a.m a.out.now (omega arith) z e)

@@ -1,5 +1,0 @@
--- `network::making::refused` meets its contract: each part is zero. Assumes nothing.
-use Rattle.network.proofs.making.refused.Goals as goal
-
-pub returns : goal.returns
-returns c = rw c.no_core.ensures

@@ -1,9 +1,0 @@
--- `list` meets its contract. The loop's invariant: k is at most 16.
-use Rattle.std.proofs.Common.{◌-◌, ◌≤◌}
-use Rattle.report.proofs.list.Given as goal
-
-abbrev pub invariant-loop-k : goal.invariant-loop-k
-invariant-loop-k l = l.k ≤ 16
-
-abbrev pub decreases-loop-k : goal.decreases-loop-k
-decreases-loop-k l = 16 - l.k
