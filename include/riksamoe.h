@@ -64,26 +64,26 @@
  *   riksamoe_message_write              768
  *   riksamoe_unit_make                2,816
  *   riksamoe_unit_make_by             2,816
- *   riksamoe_unit_in_range            1,792
- *   riksamoe_unit_in_range_by         1,792
- *   riksamoe_unit_step                6,400
- *   riksamoe_unit_step_by             6,144
- *   riksamoe_unit_step_in_place       6,400
- *   riksamoe_unit_step_in_place_by    6,400
- *   riksamoe_network_make            15,360
- *   riksamoe_network_make_by         15,360
+ *   riksamoe_unit_in_range            1,280
+ *   riksamoe_unit_in_range_by         1,280
+ *   riksamoe_unit_step                5,888
+ *   riksamoe_unit_step_by             5,632
+ *   riksamoe_unit_step_in_place       6,144
+ *   riksamoe_unit_step_in_place_by    5,888
+ *   riksamoe_network_make            13,312
+ *   riksamoe_network_make_by         13,312
  *   riksamoe_network_deliver         40,704
  *   riksamoe_network_deliver_by      38,400
  *   riksamoe_network_echo            40,704
  *   riksamoe_network_echo_by         38,400
- *   riksamoe_network_settle         163,584
- *   riksamoe_network_settle_by      163,584
- *   riksamoe_slots_make              16,640
- *   riksamoe_slots_make_by           16,640
+ *   riksamoe_network_settle         161,280
+ *   riksamoe_network_settle_by      161,280
+ *   riksamoe_slots_make              14,336
+ *   riksamoe_slots_make_by           14,336
  *   riksamoe_slots_deliver           47,616
  *   riksamoe_slots_deliver_by        45,312
- *   riksamoe_slots_replay            47,872
- *   riksamoe_slots_replay_by         45,568
+ *   riksamoe_slots_replay            47,616
+ *   riksamoe_slots_replay_by         45,312
  *   riksamoe_slots_settle            40,960
  *   riksamoe_slots_settle_by         40,960
  *   riksamoe_slot_of                    256
@@ -109,7 +109,7 @@
 extern "C" {
 #endif
 
-#define RIKSAMOE_VERSION 13        /* raised where a call, a struct or a promise below changes */
+#define RIKSAMOE_VERSION 14        /* raised where a call, a struct or a promise below changes */
 
 #define RIKSAMOE_UNITS 16          /* places in every array: unit k's is k - 1 */
 #define RIKSAMOE_NONE 4294967295u  /* the bound *none*; the estimate of a unit that has no value left */

@@ -18,16 +18,16 @@ fn main(rt: HostRuntime) {
 }
 
 // What the word asks for of the table on standard input: every assignment if it is empty.
-fn run(rt: &(impl Print + Eprint), word: &[u8]) {
+fn run(rt: &impl Eprint, word: &[u8]) {
     let mut file = [0; FILE_ROOM];
     match word {
         b"" => {
             let n = io::read_full(STDIN_FILENO, &mut file);
-            report::print_search(rt, &file[..n]);
+            report::print_search(&file[..n]);
         }
         b"bound" => {
             let n = io::read_full(STDIN_FILENO, &mut file);
-            report::print_branch_and_bound(rt, &file[..n]);
+            report::print_branch_and_bound(&file[..n]);
         }
         _ => usage(rt),
     }

@@ -52,11 +52,11 @@ const BOUND: [&str; 13] = [
 
 fn main(rt: HostRuntime) {
     for name in SAMPLES {
-        show(&rt, name, |file| report::print_search(&rt, file));
+        show(&rt, name, report::print_search);
     }
     let _ = println!(rt; "branch and bound");
     for name in BOUND {
-        show(&rt, name, |file| report::print_branch_and_bound(&rt, file));
+        show(&rt, name, report::print_branch_and_bound);
     }
 }
 

@@ -33,13 +33,11 @@ fn back_up(own: u8, t: Held) -> Unit
     requires { Own own × (get_or t.threshold (own - 1) 0 ≤ 254) }
     ensures { (w : View) (e : List ℕ) → suc w.place ≡ own → result ≡ backed_up w (holding t e) }
 {
-    let mut s = Held {
-        stamp: [0; 16],
-        values: [0; 16],
-        cost: 0,
-        stopped: own == 1 || t.stopped,
-        ..t
-    };
+    let mut s = t;
+    s.stamp = [0; 16];
+    s.values = [0; 16];
+    s.cost = 0;
+    s.stopped = own == 1 || t.stopped;
     s.threshold[usize::from(own - 1)] += 1;
     release([0; 16], s)
 }
@@ -50,10 +48,8 @@ pub(crate) fn take_off(own: u8, paid: u32, t: Held) -> Held
     ensures { (w : View) (e : List ℕ) → suc w.place ≡ own → paid ≡ own_cost w (holding t e) → holding result e ≡ take_off w (holding t e) }
 {
     let place = usize::from(own - 1);
-    let mut s = Held {
-        cost: t.cost.saturating_sub(paid),
-        ..t
-    };
+    let mut s = t;
+    s.cost = t.cost.saturating_sub(paid);
     s.stamp[place] = 0;
     s.values[place] = 0;
     s

@@ -23,10 +23,8 @@ pub(crate) fn on_solution(u: Unit, m: Message) -> Decided
 pub(crate) fn on_stop(u: Unit, m: Message) -> Decided
     ensures { (w : View) (was : Unit) → result ≡ decided_of was (on_stop w u m) }
 {
-    let t = Held {
-        stopped: true,
-        ..take_bound(m, hold(u))
-    };
+    let mut t = take_bound(m, hold(u));
+    t.stopped = true;
     quiet(release(u.estimates, t))
 }
 

@@ -52,13 +52,11 @@ fn receive(m: Message, threshold: [u8; 16], u: Unit) -> Held
         cost,
         ..
     } = m;
-    let t = Held {
-        threshold,
-        stamp,
-        values,
-        cost,
-        ..hold(u)
-    };
+    let mut t = hold(u);
+    t.threshold = threshold;
+    t.stamp = stamp;
+    t.values = values;
+    t.cost = cost;
     take_bound(m, t)
 }
 

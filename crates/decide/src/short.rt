@@ -8,15 +8,14 @@ ghost use Rattle.rules.specs.Ready.{Own};
 
 use crate::estimate::{store, sum_later, with_estimate};
 use crate::state::{compare, same, with_threshold};
-use base::Refusal;
 use costs::Seat;
 use message::{Kind, Message};
 use rules::{Unit, Way};
 use std::cmp::Ordering;
 
-// Which way a message goes that was read so.
+// Which way a message goes that was read so; what was refused, by any number, goes none of its own.
 #[tactic(auto, unfolding(rules::specs::Way::way_of))]
-pub fn way(seat: Seat, read: Result<(Kind, Message), Refusal>, u: Unit) -> Way
+pub fn way(seat: Seat, read: Result<(Kind, Message), u8>, u: Unit) -> Way
     ensures { result ≡ way_of seat read u }
 {
     let Ok((kind, m)) = read else {

@@ -34,7 +34,7 @@ pub fn in_range(seat: Seat, costs: &[u8], ahead: &[u32], u: Unit) -> bool
     }
     let paid = own_cost(seat, costs, u.values);
     let place = costs::place_tried(seat, costs, ahead, u.values[usize::from(seat.own - 1)]);
-    paid_in_range(seat.own, seat.n, seat.sizes, paid, place, u)
+    paid_in_range(seat.own, seat.n, seat.sizes, paid, place, &u)
 }
 
 // The own value's costs, NONE where they are forbidden; without one there are none to add up.
@@ -56,45 +56,45 @@ fn own_cost(seat: Seat, costs: &[u8], values: [u8; 16]) -> u32
 pub fn in_range_paid(own: u8, n: u8, sizes: [u8; 16], paid: u32, place: usize, u: Unit) -> bool
     ensures { result ≡ in_range_paid n sizes own paid place u }
 {
-    message::is_unit(16, own) && paid_in_range(own, n, sizes, paid, place, u)
+    message::is_unit(16, own) && paid_in_range(own, n, sizes, paid, place, &u)
 }
 
 // The same of a unit.
 #[tactic(auto, using(rules::specs::Laws::Readiness::pred_sub), unfolding(rules::specs::State::paid_in_range))]
-fn paid_in_range(own: u8, n: u8, sizes: [u8; 16], paid: u32, place: usize, u: Unit) -> bool
+fn paid_in_range(own: u8, n: u8, sizes: [u8; 16], paid: u32, place: usize, u: &Unit) -> bool
     requires { Own own }
-    ensures { result ≡ paid_in_range n sizes own paid place u }
+    ensures { result ≡ paid_in_range n sizes own paid place u.now }
 {
-    limits_kept(u.threshold, u.estimates)
+    limits_kept(&u.threshold, &u.estimates)
         && message::none_or_bound(n, sizes, u.bound, u.best)
         && cpa_in_range(own, sizes, paid, place, u)
 }
 
 // Whether each of the 16 places keeps its limit.
-fn limits_kept(threshold: [u8; 16], estimates: [u32; 16]) -> bool
-    ensures { result ≡ (all_at_most 17 threshold && all_at_most estimate_limit estimates) }
+fn limits_kept(threshold: &[u8; 16], estimates: &[u32; 16]) -> bool
+    ensures { result ≡ (all_at_most 17 threshold.now && all_at_most estimate_limit estimates.now) }
 {
     thresholds_kept(threshold) && estimates_kept(estimates)
 }
 
 // Whether each threshold keeps its limit.
-fn thresholds_kept(threshold: [u8; 16]) -> bool
-    ensures { result ≡ list_all (λ t. leb t 17) threshold }
+fn thresholds_kept(threshold: &[u8; 16]) -> bool
+    ensures { result ≡ list_all (λ t. leb t 17) threshold.now }
 {
     threshold.iter().all(|t| *t <= 17)
 }
 
 // Whether each estimate keeps its limit.
-fn estimates_kept(estimates: [u32; 16]) -> bool
-    ensures { result ≡ list_all (λ e. leb e estimate_limit) estimates }
+fn estimates_kept(estimates: &[u32; 16]) -> bool
+    ensures { result ≡ list_all (λ e. leb e estimate_limit) estimates.now }
 {
     estimates.iter().all(|e| *e <= base::ESTIMATE_LIMIT)
 }
 
 // Whether a cpa keeps its limits: all zero where none is out.
-fn cpa_in_range(own: u8, sizes: [u8; 16], paid: u32, place: usize, u: Unit) -> bool
+fn cpa_in_range(own: u8, sizes: [u8; 16], paid: u32, place: usize, u: &Unit) -> bool
     requires { Own own }
-    ensures { result ≡ cond (eqb (get_or u.values (own - 1) 0) 0) (cpa_zero sizes u) (cpa_out_in_range sizes own paid place u) }
+    ensures { result ≡ cond (eqb (get_or u.now.values (own - 1) 0) 0) (cpa_zero sizes u.now) (cpa_out_in_range sizes own paid place u.now) }
 {
     if u.values[usize::from(own - 1)] == 0 {
         cpa_zero(sizes, u)
@@ -105,17 +105,17 @@ fn cpa_in_range(own: u8, sizes: [u8; 16], paid: u32, place: usize, u: Unit) -> b
 
 // Whether the cpa is all zero.
 #[tactic(auto, unfolding(rules::specs::State::cpa_zero))]
-fn cpa_zero(sizes: [u8; 16], u: Unit) -> bool
-    ensures { result ≡ cpa_zero sizes u }
+fn cpa_zero(sizes: [u8; 16], u: &Unit) -> bool
+    ensures { result ≡ cpa_zero sizes u.now }
 {
     message::filled_to(0, sizes, u.stamp) && message::filled_to(0, sizes, u.values) && u.cost == 0
 }
 
 // Whether a cpa that is out keeps its limits.
 #[tactic(auto, unfolding(rules::specs::State::cpa_out_in_range))]
-fn cpa_out_in_range(own: u8, sizes: [u8; 16], paid: u32, place: usize, u: Unit) -> bool
+fn cpa_out_in_range(own: u8, sizes: [u8; 16], paid: u32, place: usize, u: &Unit) -> bool
     requires { Own own }
-    ensures { result ≡ cpa_out_in_range sizes own paid place u }
+    ensures { result ≡ cpa_out_in_range sizes own paid place u.now }
 {
     message::filled_to(own, sizes, u.stamp)
         && message::filled_to(own, sizes, u.values)
@@ -134,35 +134,47 @@ pub fn compare_stamps(a: [u8; 16], b: [u8; 16]) -> Ordering
     compare(base::PLACES, a, b)
 }
 
-// How a compares with b on the first k units.
-#[tactic(auto, using(crate::proofs::Orders::parts_compared))]
+// How a compares with b on the first k units. Place by place: the slices' own `cmp` takes stack at each call, and the calls for C then need more than
+// their header says.
 pub(crate) fn compare(k: usize, a: [u8; 16], b: [u8; 16]) -> Ordering
     requires { k ≤ 16 }
     ensures { result ≡ compare_on k a b }
 {
-    a[..k].cmp(&b[..k])
+    for i in 0..k {
+        if a[i] < b[i] {
+            return Ordering::Less;
+        }
+        if b[i] < a[i] {
+            return Ordering::Greater;
+        }
+    }
+    Ordering::Equal
 }
 
 // Whether the first k places are equal.
-#[tactic(auto, using(crate::proofs::Orders::parts_equal))]
 pub(crate) fn same(k: usize, a: [u8; 16], b: [u8; 16]) -> bool
     requires { k ≤ 16 }
     ensures { result ≡ same_on k a b }
 {
-    a[..k] == b[..k]
+    compare(k, a, b).is_eq()
 }
 
 pub(crate) fn with_threshold(threshold: [u8; 16], u: Unit) -> Unit
     ensures { result ≡ with_threshold threshold u }
 {
-    Unit { threshold, ..u }
+    let mut v = u;
+    v.threshold = threshold;
+    v
 }
 
 // A bound and the assignment that has it, always together.
 pub(crate) fn with_best(bound: u32, best: [u8; 16], t: Held) -> Held
     ensures { (e : List ℕ) → holding result e ≡ with_best bound best (holding t e) }
 {
-    Held { bound, best, ..t }
+    let mut s = t;
+    s.bound = bound;
+    s.best = best;
+    s
 }
 
 // What is held of a unit.

@@ -72,7 +72,7 @@ fn main(rt: HostRuntime) {
     }
     let _ = match ask.what {
         What::Listing(form) => {
-            print(&rt, form, ask.finder);
+            print(form, ask.finder);
             Ok(())
         }
         What::Help => print!(rt; "{USAGE}"),
@@ -80,8 +80,8 @@ fn main(rt: HostRuntime) {
     };
 }
 
-fn print(rt: &(impl Print + Eprint), form: Form, finder: Finder) {
+fn print(form: Form, finder: Finder) {
     let mut text = [0u8; 65536];
     let n = io::read_full(STDIN_FILENO, &mut text);
-    let _ = listing::print(rt, &text[..n], form, finder);
+    let _ = listing::print(&text[..n], form, finder);
 }

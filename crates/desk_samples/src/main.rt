@@ -27,7 +27,7 @@ fn show(rt: &(impl Files<File = File> + Env + Print + Eprint), i: usize)
 }
 
 fn show_file(rt: &(impl Files<File = File> + Print + Eprint), word: &[u8], file: &[u8]) {
-    let _ = tell(rt, word, file);
+    tell(rt, word, file);
     let Some(input) = inputs::open_named(rt, file) else {
         return;
     };
@@ -35,7 +35,7 @@ fn show_file(rt: &(impl Files<File = File> + Print + Eprint), word: &[u8], file:
     let n = io::read_full(input.as_raw_fd(), &mut text);
     match asked(word) {
         Some((form, finder)) => {
-            let _ = listing::print(rt, &text[..n], form, finder);
+            let _ = listing::print(&text[..n], form, finder);
         }
         None => {
             let _ = eprintln!(rt; "desk_samples: say rows, shed, table or page");
@@ -44,12 +44,10 @@ fn show_file(rt: &(impl Files<File = File> + Print + Eprint), word: &[u8], file:
 }
 
 // What is asked for, and of which file.
-fn tell(rt: &impl Print, word: &[u8], file: &[u8]) -> std::io::Result<()> {
-    rt.write_all(b"== ")?;
-    rt.write_all(word)?;
-    rt.write_all(b" ")?;
-    rt.write_all(file)?;
-    rt.write_all(b"\n")
+fn tell(rt: &impl Print, word: &[u8], file: &[u8]) {
+    for piece in [b"== ", word, b" ", file, b"\n"] {
+        let _ = rt.write_all(piece);
+    }
 }
 
 // What a word asks for.

@@ -35,7 +35,7 @@ struct Run<'a> {
     order: ValueOrder,
     stream: &'a [u8],
     net: Network,
-    pool: [u8; POOL_SIZE],
+    pool: &'a mut [u8; POOL_SIZE],
     kept: [u8; KEPT * MESSAGE_SIZE],
 }
 
@@ -85,20 +85,25 @@ fn show_by(rt: &impl Print, order: ValueOrder, name: &str, stream: &[u8]) {
 
 // The listing of a run, once unit 1 has stopped, or after the most turns.
 fn list(rt: &impl Print, order: ValueOrder, stream: &[u8], next: Next, echoed: Echoed) {
-    let mut run = Run::begin(rt, order, stream);
+    let mut pool = [0; POOL_SIZE];
+    let mut run = Run::begin(rt, order, stream, &mut pool);
     for k in 0..TURNS {
         if stopped(run.net) {
             break;
         }
         run.turn(rt, next, echoed, k);
     }
-    report::print_network(rt, table::units_of(stream), run.net);
+    report::print_network(table::units_of(stream), run.net);
 }
 
 impl<'a> Run<'a> {
-    fn begin(rt: &impl Print, order: ValueOrder, stream: &'a [u8]) -> Run<'a> {
-        let mut pool = [0; POOL_SIZE];
-        let made = network::make_by(order, stream, &mut pool);
+    fn begin(
+        rt: &impl Print,
+        order: ValueOrder,
+        stream: &'a [u8],
+        pool: &'a mut [u8; POOL_SIZE],
+    ) -> Run<'a> {
+        let made = network::make_by(order, stream, pool);
         Run {
             order,
             stream,
@@ -130,21 +135,21 @@ impl<'a> Run<'a> {
     fn keep(&mut self, cell: u64, k: usize)
         requires { cell < 1024 }
     {
-        let packet = packet_at(&self.pool, cell as usize);
+        let packet = packet_at(self.pool, cell as usize);
         let at = MESSAGE_SIZE * (k % KEPT);
         let end = at + MESSAGE_SIZE;
         self.kept[at..end].copy_from_slice(&packet);
     }
 
     fn deliver(&mut self, rt: &impl Print, cell: u64) {
-        let a = network::deliver_by(self.order, self.net, self.stream, &mut self.pool, cell);
+        let a = network::deliver_by(self.order, self.net, self.stream, self.pool, cell);
         self.net = told(rt, a);
     }
 
     // The packet of turn k is heard again.
     fn echo(&mut self, rt: &impl Print, k: usize) {
         let packet = packet_at(&self.kept, k % KEPT);
-        let a = network::echo_by(self.order, self.net, self.stream, &mut self.pool, &packet);
+        let a = network::echo_by(self.order, self.net, self.stream, self.pool, &packet);
         self.net = told(rt, a);
     }
 }

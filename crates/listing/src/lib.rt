@@ -13,10 +13,16 @@ ghost use Rattle.rows.specs.Sheet.{sheet_of};
 use base::{FILE_SIZE, STREAM_SIZE};
 use lines::{Lots, front};
 use network::ValueOrder;
-use rows::{Entry, Fault, Sheet};
+use print::Out;
+use rows::{Fault, Sheet};
 use search::Found;
-use std::io;
+use std::fmt;
+use std::fmt::Write;
 use words::BadRow;
+
+pub(crate) const STDOUT_FILENO: i32 = 1;
+
+const STDERR_FILENO: i32 = 2;
 
 // The longest text, which is the room for names too.
 pub const TEXT_SIZE: usize = 65535;
@@ -45,56 +51,46 @@ impl Finder {
     }
 }
 
-// Prints what is asked for of the text; or what is wrong with its first bad row, whose fault it gives too. What can't be written is lost.
-pub fn print(
-    rt: &(impl Print + Eprint),
-    text: &[u8],
-    form: Form,
-    finder: Finder,
-) -> Result<(), Fault>
+// Prints what is asked for of the text; or what is wrong with its first bad row, whose fault it gives too. What can't be written is lost, and what comes
+// behind it is tried all the same.
+pub fn print(text: &[u8], form: Form, finder: Finder) -> Result<(), Fault>
     ensures { result_err result ≡ (sheet_of 65535 text.now).fault }
 {
     let mut names = [0u8; TEXT_SIZE];
     let sheet = rows::parse(text, &mut names);
     if let Some(fault) = sheet.fault {
-        tell(rt, form, sheet, fault);
+        tell(form, sheet, fault);
         return Err(fault);
     }
-    let _ = print_sheet(rt, sheet, &names, form, finder);
+    let _ = print_sheet(sheet, &names, form, finder);
     Ok(())
 }
 
 // A bad row is told in place of the rows, and beside a file.
-fn tell(rt: &(impl Print + Eprint), form: Form, sheet: Sheet, fault: Fault) {
+fn tell(form: Form, sheet: Sheet, fault: Fault) {
     let bad = BadRow {
         number: sheet.number,
         row: sheet.row,
         fault,
     };
     let _ = match form {
-        Form::Rows => println!(rt; "{bad}"),
-        Form::Table | Form::Page => eprintln!(rt; "{bad}"),
+        Form::Rows => writeln!(Out(STDOUT_FILENO), "{bad}"),
+        Form::Table | Form::Page => writeln!(Out(STDERR_FILENO), "{bad}"),
     };
 }
 
-fn print_sheet(
-    rt: &impl Print,
-    sheet: Sheet,
-    names: &[u8],
-    form: Form,
-    finder: Finder,
-) -> io::Result<()> {
+fn print_sheet(sheet: Sheet, names: &[u8], form: Form, finder: Finder) -> fmt::Result {
     let mut stream = [0u8; STREAM_SIZE];
     let n = u8::try_from(sheet.count).unwrap_or(0);
     let made = readings::write_stream(
         n,
-        sheet.entries.map(|e| e.lots),
-        front(&readings_of(sheet.entries), 2 * usize::from(n)),
+        sheet.lots(),
+        front(&sheet.readings(), 2 * usize::from(n)),
         &mut stream,
     );
     let table = front(&stream, made.unwrap_or(0));
     if form == Form::Table {
-        return print_table(rt, table);
+        return print_table(table);
     }
     let found = finder.find(table);
     let values = found.values;
@@ -104,24 +100,21 @@ fn print_sheet(
         values,
     };
     match form {
-        Form::Page => page::print(rt, lots, found.total),
-        _ => lots::print(rt, lots, found.total),
+        Form::Page => page::print(lots, found.total),
+        _ => lots::print(lots, found.total),
     }
 }
 
-// The readings of a sheet, two bytes each.
-fn readings_of(entries: [Entry; 16]) -> [u8; 32] {
-    let mut readings = [0u8; 32];
-    for (k, entry) in entries.iter().enumerate() {
-        base::put(&mut readings, 2 * k, &entry.reading.to_le_bytes());
-    }
-    readings
-}
-
-fn print_table(rt: &impl Print, stream: &[u8]) -> io::Result<()> {
+fn print_table(stream: &[u8]) -> fmt::Result {
     let mut file = [0u8; FILE_SIZE];
     let written = table::write(stream, &mut file);
-    rt.write_all(front(&file, written.unwrap_or(0)))
+    put(front(&file, written.unwrap_or(0)))
+}
+
+// Bytes to standard output, as `Out` writes what is no text.
+pub(crate) fn put(bytes: &[u8]) -> fmt::Result {
+    io::write_all(STDOUT_FILENO, bytes);
+    Ok(())
 }
 
 // What box 1 reports.

@@ -3,54 +3,57 @@
 ghost use Rattle.std.specs.Prelude.{◌<◌};
 
 use crate::lines::{Lots, Tally, front};
-use std::{fmt, io};
+use crate::{STDOUT_FILENO, put};
+use print::Out;
+use std::fmt;
+use std::fmt::Write;
 
 // Room for the text of a line with the longest name.
 const LINE_ROOM: usize = 131081;
 
-pub(crate) fn print(rt: &impl Print, lots: Lots, total: u32) -> io::Result<()> {
-    println!(rt; "name,micron,lot")?;
+pub(crate) fn print(lots: Lots, total: u32) -> fmt::Result {
+    writeln!(Out(STDOUT_FILENO), "name,micron,lot")?;
     for k in 0..lots.count() {
-        print_row(rt, lots, k)?;
+        print_row(lots, k)?;
     }
-    println!(rt; ",lot,mean,spread,lines")?;
+    writeln!(Out(STDOUT_FILENO), ",lot,mean,spread,lines")?;
     for lot in 1..=16 {
         let t = lots.tally(lot);
         if t.lines > 0 {
-            print_lot(rt, lots, lot, t)?;
+            print_lot(lots, lot, t)?;
         }
     }
-    println!(rt; ",total cost,{total}")
+    writeln!(Out(STDOUT_FILENO), ",total cost,{total}")
 }
 
 // Line k, with its lot.
-fn print_row(rt: &impl Print, lots: Lots, k: usize) -> io::Result<()>
+fn print_row(lots: Lots, k: usize) -> fmt::Result
     requires { k < 16 }
 {
     let mut text = [0u8; LINE_ROOM];
     let lot = u32::from(lots.values[k]);
     let written = rows::write_line(lots.name(k), lots.reading(k), lot, &mut text);
-    rt.write_all(front(&text, written.unwrap_or(0)))
+    put(front(&text, written.unwrap_or(0)))
 }
 
-fn print_lot(rt: &impl Print, lots: Lots, lot: u8, t: Tally) -> io::Result<()> {
+fn print_lot(lots: Lots, lot: u8, t: Tally) -> fmt::Result {
     let mean = Hundredths(t.mean());
     let spread = Tenths(t.spread());
-    print!(rt; ",{lot},{mean},{spread}")?;
+    write!(Out(STDOUT_FILENO), ",{lot},{mean},{spread}")?;
     for k in 0..16 {
         if lots.is_in(lot, k) {
-            print_name(rt, lots.name(k))?;
+            print_name(lots.name(k))?;
         }
     }
-    println!(rt)
+    writeln!(Out(STDOUT_FILENO))
 }
 
 // A name behind a comma.
-fn print_name(rt: &impl Print, name: &[u8]) -> io::Result<()> {
+fn print_name(name: &[u8]) -> fmt::Result {
     let mut text = [0u8; LINE_ROOM];
     let written = rows::write_name(name, &mut text);
-    rt.write_all(b",")?;
-    rt.write_all(front(&text, written.unwrap_or(0)))
+    put(b",")?;
+    put(front(&text, written.unwrap_or(0)))
 }
 
 // ---- numbers

@@ -3,7 +3,10 @@ ghost use Rattle.std.specs.Prelude.{◌+◌, ◌≤◌, ◌<◌};
 
 use crate::lines::{Lots, Tally};
 use crate::lots::{Hundredths, Tenths};
-use std::io;
+use crate::{STDOUT_FILENO, put};
+use print::Out;
+use std::fmt;
+use std::fmt::Write;
 
 // The page as far as its axis.
 const HEAD: &str = "<!DOCTYPE html>
@@ -37,20 +40,29 @@ const LEFT: u64 = 40;
 
 const HALF: u64 = 340;
 
-pub(crate) fn print(rt: &impl Print, lots: Lots, total: u32) -> io::Result<()> {
+pub(crate) fn print(lots: Lots, total: u32) -> fmt::Result {
     let axis = Axis::of(lots);
-    print!(rt; "{HEAD}<tr><th>lot</th><th class=\"lines\">")?;
-    print_axis(rt, axis)?;
-    println!(rt; "</svg></th><th>mean</th><th>spread</th></tr>")?;
+    write!(
+        Out(STDOUT_FILENO),
+        "{HEAD}<tr><th>lot</th><th class=\"lines\">"
+    )?;
+    print_axis(axis)?;
+    writeln!(
+        Out(STDOUT_FILENO),
+        "</svg></th><th>mean</th><th>spread</th></tr>"
+    )?;
     for lot in 1..=16 {
         let t = lots.tally(lot);
         if t.lines > 0 {
-            print_lot(rt, lots, lot, t, axis)?;
+            print_lot(lots, lot, t, axis)?;
         }
     }
-    println!(rt; "</table>")?;
-    println!(rt; "<p>mean and spread in microns; total cost <b>{total}</b></p>")?;
-    println!(rt; "</body>\n</html>")
+    writeln!(Out(STDOUT_FILENO), "</table>")?;
+    writeln!(
+        Out(STDOUT_FILENO),
+        "<p>mean and spread in microns; total cost <b>{total}</b></p>"
+    )?;
+    writeln!(Out(STDOUT_FILENO), "</body>\n</html>")
 }
 
 // ---- the axis
@@ -95,47 +107,62 @@ impl Axis {
 }
 
 // The microns of the axis, each with its number.
-fn print_axis(rt: &impl Print, axis: Axis) -> io::Result<()> {
-    print!(rt; "<svg width=\"680\" height=\"26\">")?;
+fn print_axis(axis: Axis) -> fmt::Result {
+    write!(Out(STDOUT_FILENO), "<svg width=\"680\" height=\"26\">")?;
     for micron in axis.from / 10..=axis.to / 10 {
         let x = axis.place(100 * u64::from(micron));
-        print!(rt; "<text x=\"{x}\" y=\"18\" text-anchor=\"middle\">{micron}</text>")?;
+        write!(
+            Out(STDOUT_FILENO),
+            "<text x=\"{x}\" y=\"18\" text-anchor=\"middle\">{micron}</text>"
+        )?;
     }
     Ok(())
 }
 
 // ---- lots
 
-fn print_lot(rt: &impl Print, lots: Lots, lot: u8, t: Tally, axis: Axis) -> io::Result<()> {
+fn print_lot(lots: Lots, lot: u8, t: Tally, axis: Axis) -> fmt::Result {
     let height = 20 * u64::from(t.lines) + 16;
-    print!(rt; "<tr><td>{lot}</td><td class=\"lines\"><svg width=\"680\" height=\"{height}\">")?;
-    print_bar(rt, "tick", LEFT, height)?;
-    print_bar(rt, "tick", LEFT + WIDTH, height)?;
-    print_spread(rt, axis, t)?;
-    print_bar(rt, "mean", axis.place(t.mean()), height)?;
-    print_marks(rt, lots, lot, axis)?;
+    write!(
+        Out(STDOUT_FILENO),
+        "<tr><td>{lot}</td><td class=\"lines\"><svg width=\"680\" height=\"{height}\">"
+    )?;
+    print_bar("tick", LEFT, height)?;
+    print_bar("tick", LEFT + WIDTH, height)?;
+    print_spread(axis, t)?;
+    print_bar("mean", axis.place(t.mean()), height)?;
+    print_marks(lots, lot, axis)?;
     let mean = Hundredths(t.mean());
     let spread = Tenths(t.spread());
-    println!(rt; "</svg></td><td>{mean}</td><td>{spread}</td></tr>")
+    writeln!(
+        Out(STDOUT_FILENO),
+        "</svg></td><td>{mean}</td><td>{spread}</td></tr>"
+    )
 }
 
 // From the least reading of a lot to its most.
-fn print_spread(rt: &impl Print, axis: Axis, t: Tally) -> io::Result<()> {
+fn print_spread(axis: Axis, t: Tally) -> fmt::Result {
     let from = axis.place(10 * u64::from(t.least));
     let to = axis.place(10 * u64::from(t.most));
-    print!(rt; "<line class=\"spread\" y1=\"6\" y2=\"6\" x1=\"{from}\" x2=\"{to}\"/>")
+    write!(
+        Out(STDOUT_FILENO),
+        "<line class=\"spread\" y1=\"6\" y2=\"6\" x1=\"{from}\" x2=\"{to}\"/>"
+    )
 }
 
-fn print_bar(rt: &impl Print, class: &str, x: u64, height: u64) -> io::Result<()> {
-    print!(rt; "<line class=\"{class}\" x1=\"{x}\" x2=\"{x}\" y1=\"0\" y2=\"{height}\"/>")
+fn print_bar(class: &str, x: u64, height: u64) -> fmt::Result {
+    write!(
+        Out(STDOUT_FILENO),
+        "<line class=\"{class}\" x1=\"{x}\" x2=\"{x}\" y1=\"0\" y2=\"{height}\"/>"
+    )
 }
 
 // A mark for each line of a lot, one below the other.
-fn print_marks(rt: &impl Print, lots: Lots, lot: u8, axis: Axis) -> io::Result<()> {
+fn print_marks(lots: Lots, lot: u8, axis: Axis) -> fmt::Result {
     let mut y = 22;
     for k in 0..16 {
         if lots.is_in(lot, k) {
-            print_mark(rt, lots, k, axis, y)?;
+            print_mark(lots, k, axis, y)?;
             y += 20;
         }
     }
@@ -143,32 +170,35 @@ fn print_marks(rt: &impl Print, lots: Lots, lot: u8, axis: Axis) -> io::Result<(
 }
 
 // The mark of line k, and beside it the name, towards the middle of the axis.
-fn print_mark(rt: &impl Print, lots: Lots, k: usize, axis: Axis, y: u64) -> io::Result<()>
+fn print_mark(lots: Lots, k: usize, axis: Axis, y: u64) -> fmt::Result
     requires { (k < 16) × (y < 65536) }
 {
     let x = axis.place(10 * u64::from(lots.reading(k)));
     let below = y + 5;
-    print!(rt; "<circle r=\"5\" cx=\"{x}\" cy=\"{y}\"/><text y=\"{below}\" x=\"")?;
+    write!(
+        Out(STDOUT_FILENO),
+        "<circle r=\"5\" cx=\"{x}\" cy=\"{y}\"/><text y=\"{below}\" x=\""
+    )?;
     if x < HALF {
-        print!(rt; "{}\">", x + 10)?;
+        write!(Out(STDOUT_FILENO), "{}\">", x + 10)?;
     } else {
-        print!(rt; "{}\" text-anchor=\"end\">", x - 10)?;
+        write!(Out(STDOUT_FILENO), "{}\" text-anchor=\"end\">", x - 10)?;
     }
-    print_escaped(rt, lots.name(k))?;
-    print!(rt; " {}</text>", Tenths(lots.reading(k)))
+    print_escaped(lots.name(k))?;
+    write!(Out(STDOUT_FILENO), " {}</text>", Tenths(lots.reading(k)))
 }
 
 // A name, with what would be markup written as text.
-fn print_escaped(rt: &impl Print, name: &[u8]) -> io::Result<()> {
+fn print_escaped(name: &[u8]) -> fmt::Result {
     for b in name {
         match *b {
-            b'&' => rt.write_all(b"&amp;")?,
-            b'<' => rt.write_all(b"&lt;")?,
-            b'>' => rt.write_all(b"&gt;")?,
-            b'"' => rt.write_all(b"&quot;")?,
-            b'\'' => rt.write_all(b"&#39;")?,
-            0..=31 | 127 => rt.write_all(b" ")?,
-            c => rt.write_all(&[c])?,
+            b'&' => put(b"&amp;")?,
+            b'<' => put(b"&lt;")?,
+            b'>' => put(b"&gt;")?,
+            b'"' => put(b"&quot;")?,
+            b'\'' => put(b"&#39;")?,
+            0..=31 | 127 => put(b" ")?,
+            c => put(&[c])?,
         }
     }
     Ok(())

@@ -1,11 +1,12 @@
 // Making a network of a stream: unit 1 assigns, the others wait.
 
 ghost use Rattle.std.specs.Prelude.{◌≡◌};
+ghost use Rattle.base.specs.Refusal.{number_of};
 ghost use Rattle.costs.specs.Order.{default_order};
 ghost use Rattle.runs.specs.Calls.{no_network, make_of};
 ghost use Rattle.runs.specs.Code.{begun_answer};
 
-use crate::delivery::refused;
+use base::Refusal;
 use costs::ValueOrder;
 use runs::{Answer, Network};
 use unit::Outcome;
@@ -21,10 +22,10 @@ pub fn make(stream: &[u8], pool: &mut [u8]) -> Answer
 pub fn make_by(order: ValueOrder, stream: &[u8], pool: &mut [u8]) -> Answer
     ensures { (result ≡ (make_of order stream.now pool.old).answer) × (pool.new ≡ (make_of order stream.now pool.old).pool) }
 {
-    match shed_core::check_making(stream, pool.len(), base::POOL_SIZE) {
-        Ok(()) => begun(shed_core::first_step(order, stream, pool)),
-        Err(refusal) => refused(refusal, no_network()),
+    if let Err(refusal) = shed_core::check_making(stream, pool.len(), base::POOL_SIZE) {
+        return not_made(refusal);
     }
+    begun(shed_core::first_step(order, stream, pool))
 }
 
 // The network after unit 1's making: what it sent waits in the pool.
@@ -40,12 +41,15 @@ fn begun(r: Outcome) -> Answer
     }
 }
 
-// What stands beside a refusal of making: all zero.
-fn no_network() -> Network
-    ensures { result ≡ no_network }
+// A refusal of making: all zero beside it. Written at once, as a network handed on takes 2,280 bytes of stack more.
+fn not_made(refusal: Refusal) -> Answer
+    ensures { result ≡ record { refusal = number_of refusal; network = no_network } }
 {
-    Network {
-        core: shed_core::no_core(),
-        used: 0,
+    Answer {
+        refusal: refusal.number(),
+        network: Network {
+            core: shed_core::no_core(),
+            used: 0,
+        },
     }
 }

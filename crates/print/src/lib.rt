@@ -10,17 +10,14 @@ use std::fmt::Write;
 
 const STDOUT_FILENO: i32 = 1;
 
-// Standard output.
-#[derive(Clone, Copy)]
-struct Out;
+// What is written to the file of this number. A piece that can't be written is lost, and those behind it are tried all the same.
+#[derive(Clone, Copy, Debug, PartialEq, Eq)]
+pub struct Out(pub i32);
 
 impl fmt::Write for Out {
     fn write_str(&mut self, s: &str) -> fmt::Result {
-        if io::write_all(STDOUT_FILENO, s.as_bytes()) {
-            Ok(())
-        } else {
-            Err(fmt::Error)
-        }
+        io::write_all(self.0, s.as_bytes());
+        Ok(())
     }
 }
 
@@ -41,7 +38,7 @@ impl<'a, T: fmt::Display> fmt::Display for Places<'a, T> {
 pub fn print_message(kind: Kind, m: Message) -> Message
     ensures { result ≡ m }
 {
-    let _ = write!(Out, "{kind} {} to {}", m.sender, m.receiver);
+    let _ = write!(Out(STDOUT_FILENO), "{kind} {} to {}", m.sender, m.receiver);
     print_fields(m)
 }
 
@@ -50,7 +47,7 @@ pub fn print_fields(m: Message) -> Message
     ensures { result ≡ m }
 {
     let _ = writeln!(
-        Out,
+        Out(STDOUT_FILENO),
         " stamp{} values{} cost {} bound {} best{}",
         Places(&m.stamp),
         Places(&m.values),
@@ -65,7 +62,7 @@ pub fn print_fields(m: Message) -> Message
 pub fn print_refusal(number: u8) -> u8
     ensures { result ≡ number }
 {
-    let _ = writeln!(Out, " refused {number}");
+    let _ = writeln!(Out(STDOUT_FILENO), " refused {number}");
     number
 }
 
@@ -74,7 +71,7 @@ pub fn print_places<T: fmt::Display + Copy>(name: &[u8], l: [T; 16]) -> [T; 16]
     ensures { result ≡ l }
 {
     io::write_all(STDOUT_FILENO, name);
-    let _ = write!(Out, "{}", Places(&l));
+    let _ = write!(Out(STDOUT_FILENO), "{}", Places(&l));
     l
 }
 
@@ -83,6 +80,6 @@ pub fn print_number(name: &[u8], x: u32) -> u32
     ensures { result ≡ x }
 {
     io::write_all(STDOUT_FILENO, name);
-    let _ = write!(Out, "{x}");
+    let _ = write!(Out(STDOUT_FILENO), "{x}");
     x
 }

@@ -1,7 +1,7 @@
 -- What the code goes by: runs of costs at even steps, which stand where specs/Held says; that the laws of these places carry over; and the moves as
 -- the code makes them. Assumes nothing.
 use Rattle.std.specs.Prelude.{ℕ, zero, suc, pred, ◌+◌, ◌*◌, ◌-◌, ◌≤◌, ◌<◌, ◌≡◌, refl, Bool, true, false, cond, ◌&&◌, List, ltb, length, get_or, set}
-use Rattle.std.proofs.Common.{sym, ap, ◌∙◌, subst, arith, mul_comm, add-one, lt-ltb, le-ltb, eq-eqb, ne_eqb}
+use Rattle.std.proofs.Common.{sym, ap, ◌∙◌, subst, arith, mul_comm, add-one, ltb-true, ltb-false, lt-ltb, le-ltb, eq-eqb, ne_eqb}
 use Rattle.std.specs.Prelude.{take}
 use Rattle.std.specs.List.{list_all}
 use Rattle.std.proofs.lemmas.List.Folds.{list_all_more}
@@ -135,7 +135,18 @@ shift_turn run by up k l m r h e t =
     let g : raise_fits by (get_or (change_each (shifted up by) (run_place run) k l) (run_place run (suc k)) 0) ≡ true = rw (each_next (shifted up by) (run_place run) l k a) f in
     rw e (subst (λ (i : ℕ). raise_fits by (get_or (change_each (shifted up by) (run_place run) k l) (run.start + run.step * i) 0) ≡ true) z g)
 
+pub raise_room : (by x : ℕ) → x < barred → raise_fits by x ≡ true → x + by < barred
+raise_room by x h e = ltb-true (x + by) barred (subst (λ (t : Bool). cond t (ltb (x + by) barred) true ≡ true) (lt-ltb x barred h) e)
+
 -- ---- tests as the code makes them
+
+-- a sum stays below a limit where what is added is below what is left
+pub fits-left : (limit x more : ℕ) → x ≤ limit → ltb more (limit - x) ≡ ltb (x + more) limit
+fits-left limit x more h = go (ltb more (limit - x)) refl
+  where
+    go : (t : Bool) → ltb more (limit - x) ≡ t → ltb more (limit - x) ≡ ltb (x + more) limit
+    go true e = let m = ltb-true more (limit - x) e in e ∙ sym (lt-ltb (x + more) limit (omega arith))
+    go false e = let m = ltb-false more (limit - x) e in e ∙ sym (le-ltb (x + more) limit (omega arith))
 
 pub before_one : (x : ℕ) → x - 1 ≡ pred x
 before_one zero = refl

@@ -131,7 +131,7 @@ fn show_stream(
         return;
     };
     let ended = replay_parts(order, made.core, stream, &mut pool, input.as_raw_fd());
-    report::print_core(rt, table::units_of(stream), ended.core);
+    report::print_core(table::units_of(stream), ended.core);
     print_end(rt, ended, list.cells);
 }
 

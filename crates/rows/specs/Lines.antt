@@ -1,6 +1,6 @@
 -- Lines of wool: those that a sheet holds, and their text. Assumes nothing.
 use Rattle.std.specs.Prelude.{ℕ, ◌+◌, ◌-◌, ◌*◌, ◌/◌, ◌%◌, Bool, false, cond, ◌&&◌, ◌||◌, List, [], ◌∷◌, ◌++◌, ltb, eqb, length, take, drop, slice_get, Option, Some, None, is_none}
-use Rattle.base.specs.{Put.put_at}
+use Rattle.base.specs.{Bytes.le16, Put.put_at}
 use Rattle.rows.specs.declared.Entry.{Entry}
 use Rattle.rows.specs.declared.Sheet.{Sheet}
 use Rattle.rows.specs.Row.{sort_of, is_solid}
@@ -22,6 +22,15 @@ cut (e ∷ entries) names = record { name = take e.length names; reading = e.rea
 
 unfoldable pub lines_in : Sheet → List ℕ → List Line
 lines_in s names = cut (take s.count s.entries) names
+
+-- what a table is made of: the readings of these entries, two bytes each, one behind the other; and for how many lots each
+abbrev pub readings_in : List Entry → List ℕ
+readings_in [] = []
+readings_in (e ∷ entries) = le16 e.reading ++ readings_in entries
+
+abbrev pub lots_in : List Entry → List ℕ
+lots_in [] = []
+lots_in (e ∷ entries) = e.lots ∷ lots_in entries
 
 -- what a text is read as, its names in this buffer
 unfoldable pub lines_of : List ℕ → List ℕ → List Line

@@ -2,6 +2,9 @@
 // most one decimal, and the number of lots that the line may go to.
 #![tactic(auto)]
 
+ghost use Rattle.std.specs.Prelude.{◌≡◌};
+ghost use Rattle.rows.specs.Lines.{readings_in, lots_in};
+
 mod reading;
 mod scan;
 mod text;
@@ -98,4 +101,24 @@ pub struct Sheet {
     pub number: usize,
     pub count: usize,
     pub entries: [Entry; 16],
+}
+
+impl Sheet {
+    // The readings of its entries as a table is made of them: two bytes each, one behind the other.
+    pub fn readings(self) -> [u8; 32]
+        ensures { result ≡ readings_in self.entries }
+    {
+        let mut readings = [0u8; 32];
+        for (k, entry) in self.entries.iter().enumerate() {
+            base::put(&mut readings, 2 * k, &entry.reading.to_le_bytes());
+        }
+        readings
+    }
+
+    // For how many lots each of its entries.
+    pub fn lots(self) -> [u8; 16]
+        ensures { result ≡ lots_in self.entries }
+    {
+        self.entries.map(|entry| entry.lots)
+    }
 }

@@ -31,13 +31,19 @@ start_to seat costs ahead = cond (can_step seat.own seat.n seat.sizes fresh) (st
 unfoldable pub in_range_at : Seat → List ℕ → List ℕ → Unit → Bool
 in_range_at seat costs ahead u = is_unit 16 seat.own && in_range seat.sizes (view_knowing seat costs ahead) u
 
-abbrev pub on_known : Seat → List ℕ → List ℕ → Unit → Result (Kind × Message) Refusal → Decision
+-- what was read, its refusal by number
+abbrev pub read_by_number : Result (Kind × Message) Refusal → Result (Kind × Message) ℕ
+read_by_number (Ok p) = Ok p
+read_by_number (Err r) = Err (number_of r)
+
+-- a message that was read, or the number of a refusal, any
+abbrev pub on_known : Seat → List ℕ → List ℕ → Unit → Result (Kind × Message) ℕ → Decision
 on_known seat costs ahead u (Ok (k, m)) = respond_to seat costs ahead k u m
-on_known seat costs ahead u (Err r) = refused (number_of r)
+on_known seat costs ahead u (Err r) = refused r
 
 -- 13; then 8 and 9 of the packet; then 5 and 9, and what a step gives
 unfoldable pub trusted_out : Seat → Unit → List ℕ → List ℕ → List ℕ → ℕ → Decision
-trusted_out seat u costs ahead bytes room = cond (ltb room sending_size) (refused 13) (on_known seat costs ahead u (unpack_of bytes))
+trusted_out seat u costs ahead bytes room = cond (ltb room sending_size) (refused 13) (on_known seat costs ahead u (read_by_number (unpack_of bytes)))
 
 -- What was decided is sent: by one of at most 16 units, and where all of it fits into the bytes that there are; else nothing.
 abbrev pub can_send : Seat → Sending → ℕ → Bool

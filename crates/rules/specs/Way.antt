@@ -1,7 +1,6 @@
 -- The way of a message: whether it changes so little that a run need not carry the whole state through a step. Nobody has to believe it: a unit
 -- decides what the way says, `way_decides` of Laws/Ways. Assumes nothing.
 use Rattle.std.specs.Prelude.{ℕ, ◌+◌, ◌-◌, Bool, cond, ◌&&◌, List, [], ltb, leb, get_or, set, Result, Ok, Err}
-use Rattle.base.specs.declared.Refusal.{Refusal}
 use Rattle.base.specs.Sums.{sum_from}
 use Rattle.costs.specs.declared.Seat.{Seat}
 use Rattle.costs.specs.{Cost.as_number, Instance.View, Instance.view_knowing, Bounds.estimate}
@@ -40,8 +39,8 @@ way_by own n Estimate u m = estimate_way (compare_on own m.stamp u.threshold) (s
 way_by own n Solution u m = cond (ltb m.bound u.bound) Lower Quiet
 way_by own n Stop u m = Whole
 
--- read, by one of at most 16 units, and from one of 16
-unfoldable pub way_of : Seat → Result (Kind × Message) Refusal → Unit → Way
+-- read, by one of at most 16 units, and from one of 16; or the number of a refusal, any
+unfoldable pub way_of : Seat → Result (Kind × Message) ℕ → Unit → Way
 way_of seat (Ok (k, m)) u = cond (is_unit seat.n seat.own && leb seat.n 16 && is_unit 16 m.sender) (way_by seat.own seat.n k u m) Whole
 way_of seat (Err r) u = Whole
 

@@ -22,7 +22,7 @@ fn main(rt: HostRuntime) {
 }
 
 // What the two words ask for, either empty where it isn't there. A word alone may name the pool.
-fn run(rt: &(impl Print + Eprint), first: &[u8], second: &[u8]) {
+fn run(rt: &impl Eprint, first: &[u8], second: &[u8]) {
     match first {
         b"cheapest" => list(rt, ValueOrder::CheapestFirst, second),
         b"ascending" => list(rt, ValueOrder::Ascending, second),
@@ -32,16 +32,16 @@ fn run(rt: &(impl Print + Eprint), first: &[u8], second: &[u8]) {
 }
 
 // The listing of the table on standard input, values tried in this order, over the pool that the word names: 01's if it is empty.
-fn list(rt: &(impl Print + Eprint), order: ValueOrder, pool: &[u8]) {
+fn list(rt: &impl Eprint, order: ValueOrder, pool: &[u8]) {
     let mut file = [0; FILE_ROOM];
     match pool {
         b"" => {
             let n = io::read_full(STDIN_FILENO, &mut file);
-            report::print_settled_by(rt, order, &file[..n]);
+            report::print_settled_by(order, &file[..n]);
         }
         b"slots" => {
             let n = io::read_full(STDIN_FILENO, &mut file);
-            report::print_slots_by(rt, order, &file[..n]);
+            report::print_slots_by(order, &file[..n]);
         }
         _ => usage(rt),
     }

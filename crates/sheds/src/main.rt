@@ -61,9 +61,9 @@ fn main(rt: HostRuntime) {
     // 01's case 9: 5 records, 10 deliveries, the most allowed
     let net = newest_first();
     let _ = println!(rt; "T, newest first");
-    report::print_network(&rt, 2, net);
+    report::print_network(2, net);
     let _ = println!(rt; "the same, counted past one word");
-    report::print_network(&rt, 2, recounted(net));
+    report::print_network(2, recounted(net));
     let _ = println!(rt; "cheapest first");
     over_messages(&rt, ValueOrder::CheapestFirst, &CHEAPEST);
     let _ = println!(rt; "over slots");
@@ -78,14 +78,14 @@ fn over_messages(
     names: &[&str],
 ) {
     for name in names {
-        show(rt, name, |file| report::print_settled_by(rt, order, file));
+        show(rt, name, |file| report::print_settled_by(order, file));
     }
 }
 
 // 02, job 4: the lowest cell in use is delivered each time.
 fn over_slots(rt: &(impl Files<File = File> + Print + Eprint), order: ValueOrder, names: &[&str]) {
     for name in names {
-        show(rt, name, |file| report::print_slots_by(rt, order, file));
+        show(rt, name, |file| report::print_slots_by(order, file));
     }
 }
 

@@ -21,10 +21,13 @@ pub fn make(stream: &[u8], pool: &mut [u8]) -> Answer
 pub fn make_by(order: ValueOrder, stream: &[u8], pool: &mut [u8]) -> Answer
     ensures { (result ≡ (make_of order stream.now pool.old).answer) × (pool.new ≡ (make_of order stream.now pool.old).pool) }
 {
-    match shed_core::check_making(stream, pool.len(), SLOT_POOL_SIZE) {
-        Ok(()) => place_first(order, stream, pool),
-        Err(refusal) => Answer::refused(refusal, shed_core::no_core()),
+    if let Err(refusal) = shed_core::check_making(stream, pool.len(), SLOT_POOL_SIZE) {
+        return Answer {
+            refusal: refusal.number(),
+            core: shed_core::no_core(),
+        };
     }
+    place_first(order, stream, pool)
 }
 
 // Unit 1 is made, and what it sends is placed among empty cells.

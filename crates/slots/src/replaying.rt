@@ -35,10 +35,10 @@ pub fn replay_by(
     if list.is_empty() {
         return Answer { refusal: 0, core };
     }
-    match check_lent(order, core, stream, pool) {
-        Ok(()) => deliver_all(order, core, stream, pool, list),
-        Err(refusal) => Answer::refused(refusal, core),
+    if let Err(refusal) = check_lent(order, core, stream, pool) {
+        return Answer::refused(refusal, core);
     }
+    deliver_all(order, core, stream, pool, list)
 }
 
 // The deliveries, to a network that was checked.

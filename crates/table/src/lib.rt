@@ -4,14 +4,14 @@
 mod converter; // one form of a stored table turned into the other
 mod view; // the checks of a stream, plain or in blocks
 
-ghost use Rattle.std.specs.Prelude.{◌≡◌, true, ◌++◌, ◌&&◌, ◌+◌, ◌*◌, ◌/◌, ◌≤◌, length, drop, replicate, leb, IfOk, IfErr};
+ghost use Rattle.std.specs.Prelude.{◌≡◌, true, ◌++◌, ◌&&◌, ◌+◌, ◌*◌, ◌/◌, ◌≤◌, [], length, drop, replicate, leb, IfOk, IfErr};
 ghost use Rattle.base.specs.Limits.{block_size, checked_size, pair_limit, payload_size, stream_size};
 ghost use Rattle.base.specs.Bytes.{le16};
 ghost use Rattle.base.specs.Put.{put_at};
 ghost use Rattle.base.specs.Refusal.{number_of, told, answered};
 ghost use Rattle.table.specs.Stream.{opening, units_of, pair_good, unary_good, costs_good, stream_refusal};
 ghost use Rattle.table.specs.StreamLaws.{lift_of, within, test_of};
-ghost use Rattle.table.specs.Block.{payload_count, payload_of, count_good, all_zero, block_refusal};
+ghost use Rattle.table.specs.Block.{payload_count, payload_of, read_block_of, count_good, all_zero, block_refusal};
 ghost use Rattle.table.specs.Written.{block_of};
 ghost use Rattle.table.specs.File.{size_good, blocks_refusal, stream_of, read_refusal, read_of, read_into, store_of, store_into};
 ghost use Rattle.table.specs.Block.{blocks_for};
@@ -47,9 +47,10 @@ impl Costs {
 // ---- public calls
 
 // The payload of a block, as the part of it that holds it.
+#[tactic(auto, unfolding(crate::specs::Block::read_block_of))]
 pub fn read_block(block: &[u8], number: u16, last: bool) -> Result<&[u8], Refusal>
-    ensures ok { IfOk result (λ part. (block_refusal number last block.now ≡ 0) × (part.now ≡ payload_of block.now)) }
-    ensures err { IfErr result (λ refusal. number_of refusal ≡ block_refusal number last block.now) }
+    ensures ok { IfOk result (λ part. (block_refusal number last block.now ≡ 0) × (part.now ≡ payload_of block.now) × (part.now ≡ read_block_of number last block.now)) }
+    ensures err { IfErr result (λ refusal. (number_of refusal ≡ block_refusal number last block.now) × (read_block_of number last block.now ≡ [])) }
 {
     check_block(block, number, last)?;
     Ok(payload(block))

@@ -27,6 +27,14 @@ use Rattle.tiny.specs.Once.{two_or_three, given_length, none_of_another}
 -- ---- refusals
 
 module _ (n x room : ℕ) where
+  pub refused_21 : tables_of n ≤ x → 21 ≡ tiny_refusal n x room
+  unfolding tiny_refusal
+  refused_21 h = simp (le-ltb x (tables_of n) h)
+
+  pub refused_13 : x < tables_of n → room < stream_size → 13 ≡ tiny_refusal n x room
+  unfolding tiny_refusal
+  refused_13 h r = simp (lt-ltb x (tables_of n) h, lt-ltb room stream_size r)
+
   pub refused_none : x < tables_of n → stream_size ≤ room → 0 ≡ tiny_refusal n x room
   unfolding tiny_refusal
   refused_none h r = simp (lt-ltb x (tables_of n) h, le-ltb room stream_size r)

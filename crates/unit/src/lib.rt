@@ -100,10 +100,11 @@ pub fn step_by(
     if let Err(refusal) = check_step(seat, costs, u, out.len()) {
         return refused(refusal.number(), u);
     }
-    match message::parse_for(n, sizes, own, packet) {
-        Ok((kind, m)) => carry_out(seat, decide::respond(seat, costs, &[], kind, u, m), out),
-        Err(refusal) => refused(refusal.number(), u),
-    }
+    let (kind, m) = match message::parse_for(n, sizes, own, packet) {
+        Ok(read) => read,
+        Err(refusal) => return refused(refusal.number(), u),
+    };
+    carry_out(seat, decide::respond(seat, costs, &[], kind, u, m), out)
 }
 
 // What a message makes a unit do that is known to be good, as in a run that checked its table once and knows h; as it was read. It asks only what
@@ -113,14 +114,14 @@ pub fn respond(
     seat: Seat,
     costs: &[u8],
     ahead: &[u32],
-    read: Result<(Kind, Message), Refusal>,
+    read: Result<(Kind, Message), u8>,
     u: Unit,
 ) -> Decided
     ensures { result ≡ decided_of u (on_known seat costs.now ahead.now u read) }
 {
     match read {
         Ok((kind, m)) => decide::respond(seat, costs, ahead, kind, u, m),
-        Err(refusal) => decide::refuse(refusal.number(), u),
+        Err(refusal) => decide::refuse(refusal, u),
     }
 }
 

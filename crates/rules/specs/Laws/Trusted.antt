@@ -22,7 +22,7 @@ use Rattle.rules.specs.Step.{refused, respond}
 use Rattle.rules.specs.Send.{packets}
 use Rattle.rules.specs.State.{fresh, in_range}
 use Rattle.rules.specs.Calls.{start, step_out}
-use Rattle.rules.specs.Trusted.{can_step, can_hear, respond_to, start_to, in_range_at, on_known, trusted_out, can_send, send_to}
+use Rattle.rules.specs.Trusted.{can_step, can_hear, respond_to, start_to, in_range_at, on_known, read_by_number, trusted_out, can_send, send_to}
 use Rattle.rules.specs.Laying.{Placed}
 use Rattle.rules.specs.Ready.{Own, Shaped, Ready, Heard}
 use Rattle.rules.specs.Laws.Views.{unit_range}
@@ -102,7 +102,7 @@ module _ (seat : Seat) (costs ahead : List ℕ) where
   start_on e = rw e
 
 module _ (seat : Seat) (u : State) (costs ahead bytes : List ℕ) (room : ℕ) (fits : sending_size ≤ room) (p : Result (Kind × Message) Refusal) (read : p ≡ unpack_of bytes) where
-  pub trusted_known : trusted_out seat u costs ahead bytes room ≡ on_known seat costs ahead u p
+  pub trusted_known : trusted_out seat u costs ahead bytes room ≡ on_known seat costs ahead u (read_by_number p)
   unfolding trusted_out
   trusted_known = rw (le-ltb room sending_size fits, ← read)
 

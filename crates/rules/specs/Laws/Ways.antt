@@ -6,7 +6,6 @@ use Rattle.std.proofs.Math.Path.{refl, sym, ap}
 use Rattle.std.proofs.Math.Bool.{true, false}
 use Rattle.std.proofs.Math.Dec.{leb}
 use Rattle.std.proofs.lemmas.Bool.{lt-leb}
-use Rattle.base.specs.declared.Refusal.{Refusal}
 use Rattle.base.specs.Shape.Laws.{and_left, and_right}
 use Rattle.costs.specs.declared.Seat.{Seat}
 use Rattle.costs.specs.Instance.{View, lent_view, knowing, view_knowing}
@@ -102,7 +101,7 @@ module _ (seat : Seat) (costs ahead : List ℕ) (k : Kind) (u : State) (m : Mess
       go true true false e f g = respond_on seat costs ahead k u m e f ∙ ap (λ (b : Bool). unless_stopped b seen k u m) g
 
 -- no way is told of what was not read
-pub way_unread : (seat : Seat) (r : Refusal) (u : State) → way_of seat (Err r) u ≡ Whole
+pub way_unread : (seat : Seat) (r : ℕ) (u : State) → way_of seat (Err r) u ≡ Whole
 unfolding way_of
 way_unread seat r u = refl
 

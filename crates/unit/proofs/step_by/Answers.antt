@@ -51,11 +51,11 @@ carry_out-requires c =
           (step_decides a.order a.u a.own a.n a.sizes a.costs.now a.out.now t l a.packet.now r.result r.ensures _ _ good _ c.respond.ensures),
     )
 
-pub returns-in-Ok : goal.returns-in-Ok
-returns-in-Ok c =
+pub returns : goal.returns
+returns c =
     let a = c.args in
     let t = passed a.own a.n a.sizes a.costs.now (length a.out.now) a.order a.u (sym c.in_default.ensures) in
-    let l = long (goal.at.returns-in-Ok c).Start t in
+    let l = long (goal.at.returns c).Start t in
     let r = c.parse_for in
     let good = c.in-Ok.is in
     told_by a.n (pred a.own) a.u a.out.now _ _ _ _

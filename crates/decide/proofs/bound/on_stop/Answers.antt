@@ -14,4 +14,4 @@ returns c =
     λ w was. let a = c.args in
     c.quiet.ensures was
     ∙ ap (λ (u : Unit). decided_of was (quiet u)) c.release.ensures
-    ∙ ap (λ (u : Unit). decided_of was (quiet (with_stopped true u))) (c.take_bound.ensures a.u.estimates ∙ ap (λ (u : Unit). take_bound a.m u) (c.hold.ensures a.u.estimates))
+    ∙ ap (λ (u : Unit). decided_of was (quiet (with_stopped true u))) (c.take_bound-t.ensures a.u.estimates ∙ ap (λ (u : Unit). take_bound a.m u) (c.hold.ensures a.u.estimates))

@@ -10,4 +10,4 @@ pub returns : goal.returns
 returns c =
     let a = c.args in
     c.take_bound.ensures a.u.estimates
-    ∙ ap (λ (u : Unit). received a.m (with_threshold a.threshold u)) (c.hold.ensures a.u.estimates)
+    ∙ ap (λ (u : Unit). received a.m (with_threshold a.threshold u)) (c.hold-t.ensures a.u.estimates)

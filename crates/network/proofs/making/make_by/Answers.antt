@@ -11,13 +11,13 @@ returns-in-Err c =
     let a = c.args in
     let r = c.in-Err.refusal in
     let e = make_refuses a.order a.stream.now a.pool.now (number_of r) c.in-Err.ensures (number_some r) in
-    (c.refused.ensures ∙ rw c.no_network.ensures e.0, e.1)
+    (c.not_made.ensures ∙ e.0, e.1)
 
-pub returns-in-Ok : goal.returns-in-Ok
-returns-in-Ok c =
+pub returns : goal.returns
+returns c =
     let a = c.args in
     let f = c.first_step in
-    let none : making_refusal 65536 a.stream.now (length a.pool.now) ≡ 0 = sym c.in-Ok.ensures in
+    let none : making_refusal 65536 a.stream.now (length a.pool.now) ≡ 0 = sym c.in_default.ensures in
     let good = makeable 65536 a.stream.now (length a.pool.now) none in
     let o = first_step a.order a.stream.now a.pool.now good.0 (length a.pool.now) (omega (arith, good.1)) in
     let e = make_begins a.order a.stream.now a.pool.now f.result f.new.out (rw o at f.ensures.0) (rw o at f.ensures.1) none in

@@ -6,11 +6,11 @@ use Rattle.slots.specs.Code.{make_refuses}
 use Rattle.slots.proofs.making.make_by.Goals as goal
 
 pub place_first-requires : goal.place_first-requires
-place_first-requires c = sym c.in-Ok.ensures
+place_first-requires c = sym c.in_default.ensures
 
 pub returns-in-Err : goal.returns-in-Err
 returns-in-Err c =
     let a = c.args in
     let r = c.in-Err.refusal in
     let e = make_refuses a.order a.stream.now a.pool.now (number_of r) c.in-Err.ensures (number_some r) in
-    (c.refused.ensures ∙ rw c.no_core.ensures e.0, e.1)
+    (rw (c.number.ensures, c.no_core.ensures) e.0, e.1)

@@ -14,10 +14,10 @@ pub returns-then-is_empty : goal.returns-then-is_empty
 returns-then-is_empty c = let a = c.args in rw (replay_none a.order a.core a.stream.now a.pool.now a.list.now (eqb-true _ _ (sym c.is_empty.ensures ∙ c.if-is_empty.true))) (refl, refl)
 
 pub deliver_all-requires : goal.deliver_all-requires
-deliver_all-requires c = sym c.in-Ok.ensures
+deliver_all-requires c = sym c.in_default.ensures
 
-pub returns-in-Ok : goal.returns-in-Ok
-returns-in-Ok c =
+pub returns : goal.returns
+returns c =
     let a = c.args in
     let d = c.deliver_all in
     let e = sym (replay_paired a.order a.core a.stream.now a.pool.now a.list.now c.if-list-ne0.false) in
