@@ -93,7 +93,7 @@
  *   riksamoe_branch_and_bound         7,424
  *   riksamoe_ends                       256
  *   riksamoe_hold_costs                 768
- *   riksamoe_project                    768
+ *   riksamoe_project                    512
  *   riksamoe_project_unary              512
  *   riksamoe_extend                     512
  *   riksamoe_project_all                768
@@ -109,7 +109,7 @@
 extern "C" {
 #endif
 
-#define RIKSAMOE_VERSION 14        /* raised where a call, a struct or a promise below changes */
+#define RIKSAMOE_VERSION 13        /* raised where a call, a struct or a promise below changes */
 
 #define RIKSAMOE_UNITS 16          /* places in every array: unit k's is k - 1 */
 #define RIKSAMOE_NONE 4294967295u  /* the bound *none*; the estimate of a unit that has no value left */

@@ -1,6 +1,6 @@
 -- What the code goes by: runs of costs at even steps, which stand where specs/Held says; that the laws of these places carry over; and the moves as
 -- the code makes them. Assumes nothing.
-use Rattle.std.specs.Prelude.{ℕ, zero, suc, pred, ◌+◌, ◌*◌, ◌-◌, ◌≤◌, ◌<◌, ◌≡◌, refl, Bool, true, false, cond, ◌&&◌, List, ltb, length, get_or, set}
+use Rattle.std.specs.Prelude.{ℕ, zero, suc, pred, ◌+◌, ◌*◌, ◌-◌, ◌≤◌, ◌<◌, min, ◌≡◌, refl, Bool, true, false, cond, ◌&&◌, List, ltb, length, get_or, set}
 use Rattle.std.proofs.Common.{sym, ap, ◌∙◌, subst, arith, mul_comm, add-one, ltb-true, ltb-false, lt-ltb, le-ltb, eq-eqb, ne_eqb}
 use Rattle.std.specs.Prelude.{take}
 use Rattle.std.specs.List.{list_all}
@@ -109,6 +109,16 @@ pub least-next : (run : Run) (k : ℕ) (l : List ℕ) → lesser (least_at (run_
 least-next run k l =
     let q : suc k - 1 ≡ k = omega arith in
     rw (add-one k, q)
+
+-- the least of two is that of their numbers, of which a barred one is the largest
+pub held_min : (a b : ℕ) → held_cost (min a b) ≡ lesser (held_cost a) (held_cost b)
+held_min a b = go (ltb a barred) refl (ltb b barred) refl
+  where
+    go : (s : Bool) → ltb a barred ≡ s → (t : Bool) → ltb b barred ≡ t → held_cost (min a b) ≡ lesser (held_cost a) (held_cost b)
+    go true p true q = rw (p, q, lt-ltb (min a b) barred (omega (arith, ltb-true a barred p, ltb-true b barred q)))
+    go true p false q = let e : min a b ≡ a = omega (arith, ltb-true a barred p, ltb-false b barred q) in rw (e, p, q)
+    go false p true q = let e : min a b ≡ b = omega (arith, ltb-false a barred p, ltb-true b barred q) in rw (e, p, q)
+    go false p false q = rw (p, q, le-ltb (min a b) barred (omega (arith, ltb-false a barred p, ltb-false b barred q)))
 
 -- ---- a test of the first of some costs
 

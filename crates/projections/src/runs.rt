@@ -3,7 +3,6 @@
 ghost use Rattle.std.specs.Prelude.{◌≡◌, true, suc, ltb, get_or};
 ghost use Rattle.std.specs.List.{list_all};
 ghost use Rattle.base.specs.Every.{every};
-ghost use Rattle.costs.specs.Cost.{lesser};
 ghost use Rattle.projections.specs.Held.{barred, held_cost};
 ghost use Rattle.projections.specs.Moves.{least_at, lowered, raised, raise_fits, change_each};
 ghost use Rattle.projections.specs.Steps.{run_place, Inside, Raisable, shifted};
@@ -11,16 +10,17 @@ ghost use Rattle.projections.specs.Steps.{run_place, Inside, Raisable, shifted};
 use crate::{BARRED, Run};
 use costs::Cost;
 
-// The least cost of the run that is permitted, where one is.
+// The least cost of the run that is permitted, where one is. As numbers, of which a barred one is the largest: an Option from turn to turn takes
+// more stack than the call for C says.
 pub(crate) fn least_cost(costs: &[u32], run: Run) -> Cost
     requires { Inside run costs.now }
     ensures { result ≡ least_at (run_place run) run.count costs.now }
 {
-    let mut best = None;
+    let mut best = BARRED;
     for k in 0..run.count {
-        best = lesser(best, held_cost(costs[run.start + run.step * k]));
+        best = best.min(costs[run.start + run.step * k]);
     }
-    best
+    held_cost(best)
 }
 
 // The costs of the run, each raised by so much if `up`, else lowered; barred ones stay.
@@ -96,15 +96,4 @@ fn held_cost(number: u32) -> Cost
     ensures { result ≡ held_cost number }
 {
     if number < BARRED { Some(number) } else { None }
-}
-
-// The lesser of two, where both are permitted.
-fn lesser(a: Cost, b: Cost) -> Cost
-    ensures { result ≡ lesser a b }
-{
-    match (a, b) {
-        (Some(m), Some(n)) => Some(m.min(n)),
-        (Some(m), None) => Some(m),
-        (None, cost) => cost,
-    }
 }

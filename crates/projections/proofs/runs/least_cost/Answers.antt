@@ -1,10 +1,13 @@
 -- `least_cost` meets its contract. The loop's invariant: `best` is the least of the first k, as a number.
 -- Assumes nothing.
-use Prim.Native.Nat.{◌≤◌}
-use mathlib.Core.Path.{◌≡◌, refl}
+use Prim.Native.Nat.{ℕ, ◌≤◌, ◌+◌, ◌*◌}
+use mathlib.Core.Path.{◌≡◌, refl, ap, ◌∙◌}
+use lib.ListN.{get_or}
 use native.Mathlib.Omega.{arith}
 use native.Mathlib.Nat.{mul-le-mul}
-use Rattle.projections.specs.Steps.{least-next}
+use Rattle.costs.specs.Cost.{Cost, lesser}
+use Rattle.projections.specs.Held.{held_cost}
+use Rattle.projections.specs.Steps.{held_min, least-next}
 use Rattle.projections.proofs.runs.least_cost.Goals as goal
 
 pub loop-k-init : goal.loop-k-init
@@ -33,11 +36,12 @@ pub loop-k-preserved : goal.loop-k-preserved
 loop-k-preserved c =
     let a = c.args in
     let l = c.loop-k in
-    rw (c.lesser-best.ensures, c.held_cost.ensures, l.invariant) (least-next a.run l.k a.costs.now)
+    let x : ℕ = get_or a.costs.now (a.run.start + a.run.step * l.k) 0 in
+    ap held_cost c.min-best.ensures ∙ held_min l.best x ∙ ap (λ (b : Cost). lesser b (held_cost x)) l.invariant ∙ least-next a.run l.k a.costs.now
 
 pub returns : goal.returns
 returns c =
     let a = c.args in
     let l = c.loop-k in
     let e : l.k ≡ a.run.count = omega arith in
-    rw (← e) l.invariant
+    c.held_cost.ensures ∙ rw (← e) l.invariant
